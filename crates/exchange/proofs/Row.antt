@@ -10,6 +10,11 @@ use Rattle.sums.proofs.Sum.{is-eq, is-ne, is-cases, sum-cong, sum-add, sum-scal
 use Rattle.exchange.specs.Row.{zoneCount, cover, Valid, swap}
 use Rattle.exchange.specs.Swap.{fits}
 
+-- A constant factor goes behind the sum.
+pub sum-scale-right : (n c : ℕ) (f : ℕ → ℕ) → sumTo n (λ i. f i * c) ≡ sumTo n f * c
+sum-scale-right n c f =
+    sum-cong n (λ i. f i * c) (λ i. c * f i) (λ i l. mul-comm (f i) c) ∙ (sum-scale n c f ∙ mul-comm c (sumTo n f))
+
 -- ---- zones of a row
 
 -- A node of the row is counted in its zone.
@@ -31,17 +36,12 @@ unfolding zoneCount
 sum-zones N zone S h zl =
     sum-cong N (λ x. S x * h (zone x)) (λ x. sumTo N (λ z. S x * is (zone x) z * h z)) (λ x l. sym (node x l))
     ∙ (sum-swap N N (λ x z. S x * is (zone x) z * h z)
-    ∙ sum-cong N (λ z. sumTo N (λ x. S x * is (zone x) z * h z)) (λ z. sumTo N (λ x. S x * is (zone x) z) * h z) (λ z l. place z))
+    ∙ sum-cong N (λ z. sumTo N (λ x. S x * is (zone x) z * h z)) (λ z. sumTo N (λ x. S x * is (zone x) z) * h z) (λ z l. sum-scale-right N (h z) (λ x. S x * is (zone x) z)))
   where
     node : (x : ℕ) → x < N → sumTo N (λ z. S x * is (zone x) z * h z) ≡ S x * h (zone x)
     node x l =
         sum-cong N (λ z. S x * is (zone x) z * h z) (λ z. S x * (is (zone x) z * h z)) (λ z k. mul-assoc (S x) (is (zone x) z) (h z))
         ∙ (sum-scale N (S x) (λ z. is (zone x) z * h z) ∙ ap (λ (t : ℕ). S x * t) (sum-is N (zone x) h (zl x l)))
-
-    place : (z : ℕ) → sumTo N (λ x. S x * is (zone x) z * h z) ≡ sumTo N (λ x. S x * is (zone x) z) * h z
-    place z =
-        sum-cong N (λ x. S x * is (zone x) z * h z) (λ x. h z * (S x * is (zone x) z)) (λ x k. mul-comm (S x * is (zone x) z) (h z))
-        ∙ (sum-scale N (h z) (λ x. S x * is (zone x) z) ∙ mul-comm (h z) (sumTo N (λ x. S x * is (zone x) z)))
 
 -- ---- one exchange
 
