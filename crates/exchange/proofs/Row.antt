@@ -36,7 +36,8 @@ unfolding zoneCount
 sum-zones N zone S h zl =
     sum-cong N (λ x. S x * h (zone x)) (λ x. sumTo N (λ z. S x * is (zone x) z * h z)) (λ x l. sym (node x l))
     ∙ (sum-swap N N (λ x z. S x * is (zone x) z * h z)
-    ∙ sum-cong N (λ z. sumTo N (λ x. S x * is (zone x) z * h z)) (λ z. sumTo N (λ x. S x * is (zone x) z) * h z) (λ z l. sum-scale-right N (h z) (λ x. S x * is (zone x) z)))
+    ∙ sum-cong N (λ z. sumTo N (λ x. S x * is (zone x) z * h z)) (λ z. sumTo N (λ x. S x * is (zone x) z) * h z)
+    (λ z l. sum-scale-right N (h z) (λ x. S x * is (zone x) z)))
   where
     node : (x : ℕ) → x < N → sumTo N (λ z. S x * is (zone x) z * h z) ≡ S x * h (zone x)
     node x l =
@@ -143,7 +144,7 @@ fits-valid N R Z zone S a b za zb v la lb h o f =
       wide = omega (arith, swap-cover N zone S a b la lb za zb h);
     }
 
--- And only there.
+-- Where the exchange of a for b leaves the row valid, b fits in the place of a node of a's zone.
 pub valid-fits : (N R Z : ℕ) (zone S : ℕ → ℕ) (a b : ℕ) → zone a < N → zone b < N → Valid N R Z zone S → a < N → b < N → S a ≡ 1
     → Valid N R Z zone (swap S a b) → 1 ≤ fits N Z zone S (zone a) b
 unfolding fits
