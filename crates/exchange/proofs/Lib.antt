@@ -1,0 +1,5 @@
+pub mod Row
+pub mod RowOptimum
+pub mod Prices
+pub mod Picked
+pub mod Several

@@ -1,2 +1,4 @@
 pub mod Row
 pub mod Circuit
+pub mod Swap
+pub mod Prices
