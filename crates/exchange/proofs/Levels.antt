@@ -7,7 +7,7 @@ use mathlib.Core.Logic.{_⊎_, inl, inr, ⊎-elim}
 use native.Mathlib.Nat.{mul-le-mul-right}
 use native.Mathlib.Omega.{arith}
 use lib.Dec.{ltb, eqb}
-use borrow.Author.Tests.{ltb-true, ltb-false, lt-ltb, eqb-true, eqb-false}
+use borrow.Author.Tests.{ltb-true, ltb-false, eqb-true, eqb-false}
 use Rattle.sums.proofs.Sum.{lt-or-ge}
 use Rattle.exchange.specs.Levels.{Graph, Fall, relax, scan, level, dist, from, fell}
 
@@ -18,20 +18,19 @@ pub true-or-false : (b : Bool) → (b ≡ true) ⊎ (b ≡ false)
 true-or-false true = inl refl
 true-or-false false = inr refl
 
--- A look at one arc: it passes, offers less, and is taken; or all stays, and if it passes, it offers no less.
-pub relax-cases : (G : Graph) (d : ℕ → ℕ) (v u : ℕ) (on : Bool) (f : Fall)
-    → ((on ≡ true) × (G .arc u v ≡ 1) × (d u + G .W u v < f .dist + G .C)
-    × (relax G d v u on f ≡ record { dist = d u + G .W u v - G .C; from = u }))
-    ⊎ ((relax G d v u on f ≡ f) × (on ≡ true → G .arc u v ≡ 1 → f .dist + G .C ≤ d u + G .W u v))
+-- A look at the arc from u, from f to r: the arc passes, offers less, and is taken; or all stays, and if it passes, it offers no less.
+abbrev pub Looked : Graph → (ℕ → ℕ) → ℕ → ℕ → Bool → Fall → Fall → Type 0
+Looked G d v u on f r =
+    ((on ≡ true) × (G .arc u v ≡ 1) × (d u + G .W u v < f .dist + G .C) × (r ≡ record { dist = d u + G .W u v - G .C; from = u }))
+    ⊎ ((r ≡ f) × (on ≡ true → G .arc u v ≡ 1 → f .dist + G .C ≤ d u + G .W u v))
+
+-- A look at an arc goes one of these two ways.
+pub relax-cases : (G : Graph) (d : ℕ → ℕ) (v u : ℕ) (on : Bool) (f : Fall) → Looked G d v u on f (relax G d v u on f)
 unfolding relax
 relax-cases G d v u on f = go on (eqb (G .arc u v) 1) (ltb (d u + G .W u v) (f .dist + G .C)) refl refl
   where
-    new : Fall
-    new = record { dist = d u + G .W u v - G .C; from = u }
-
     go : (o a l : Bool) → eqb (G .arc u v) 1 ≡ a → ltb (d u + G .W u v) (f .dist + G .C) ≡ l
-        → ((o ≡ true) × (G .arc u v ≡ 1) × (d u + G .W u v < f .dist + G .C) × (cond (o && (a && l)) new f ≡ new))
-        ⊎ ((cond (o && (a && l)) new f ≡ f) × (o ≡ true → G .arc u v ≡ 1 → f .dist + G .C ≤ d u + G .W u v))
+        → Looked G d v u o f (cond (o && (a && l)) (record { dist = d u + G .W u v - G .C; from = u }) f)
     go false a l p q = inr (refl, λ h e. absurd (false≢true h))
     go true false l p q = inr (refl, λ h e. absurd (eqb-false (G .arc u v) 1 p e))
     go true true false p q = inr (refl, λ h e. ltb-false (d u + G .W u v) (f .dist + G .C) q)
@@ -77,16 +76,12 @@ module _ (G : Graph) (on : ℕ → Bool) (d : ℕ → ℕ) (v : ℕ) where
   scan-cases zero c = inl refl
   scan-cases (suc u) c = go (scan-cases u (λ i l. c i (omega arith))) (relax-cases G d v u (on u) (scan G on d v u))
     where
-      start : Fall
-      start = record { dist = d v; from = v }
+      f : Fall
+      f = scan G on d v u
 
-      go : (scan G on d v u ≡ start) ⊎ Took G d v u (scan G on d v u)
-          → ((on u ≡ true) × (G .arc u v ≡ 1) × (d u + G .W u v < scan G on d v u .dist + G .C)
-          × (scan G on d v (suc u) ≡ record { dist = d u + G .W u v - G .C; from = u }))
-          ⊎ ((scan G on d v (suc u) ≡ scan G on d v u)
-          × (on u ≡ true → G .arc u v ≡ 1 → scan G on d v u .dist + G .C ≤ d u + G .W u v))
-          → (scan G on d v (suc u) ≡ start) ⊎ Took G d v (suc u) (scan G on d v (suc u))
-      go r (inl s) =
+      go : {r : Fall} → (f ≡ record { dist = d v; from = v }) ⊎ Took G d v u f → Looked G d v u (on u) f r
+          → (r ≡ record { dist = d v; from = v }) ⊎ Took G d v (suc u) r
+      go h (inl s) =
           inr
           (subst (λ (f : Fall). Took G d v (suc u) f) (sym (s .3))
           (record { below = omega (arith, s .2, scan-le u, c u (omega arith)); node = omega arith; arc = s .1; exact = omega (arith, c u (omega arith)) }))
@@ -129,6 +124,7 @@ module _ (G : Graph) where
       ⊎-elim (λ a. omega (arith, dist-falls k v, dist-mono j k v (omega arith)))
       (λ b. let e : j ≡ suc k = omega arith in subst (λ (i : ℕ). dist G (suc k) v ≤ dist G i v) (sym e) (omega arith)) (lt-or-ge j (suc k))
 
+  -- No distance is above that of level 0.
   pub dist-le : (k v : ℕ) → dist G k v ≤ G .N * G .C
   unfolding level
   dist-le k v = dist-mono 0 k v (omega arith)
@@ -169,10 +165,12 @@ module _ (G : Graph) where
 
   -- ---- who fell
 
+  -- A node that fell stands lower.
   pub fell-lt : (k v : ℕ) → fell G (suc k) v ≡ true → dist G (suc k) v < dist G k v
   unfolding fell
   fell-lt k v e = ltb-true (dist G (suc k) v) (dist G k v) e
 
+  -- A node that did not fall stands where it stood.
   pub stayed-eq : (k v : ℕ) → fell G (suc k) v ≡ false → dist G (suc k) v ≡ dist G k v
   unfolding fell
   stayed-eq k v e = omega (arith, ltb-false (dist G (suc k) v) (dist G k v) e, dist-falls k v)

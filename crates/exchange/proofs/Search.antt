@@ -12,42 +12,59 @@ use Rattle.sums.specs.Sum.{sumTo, is}
 use Rattle.sums.proofs.Sum.{lt-or-ge, is-eq, is-one, is-le}
 use Rattle.sums.proofs.Count.{pigeonhole}
 use Rattle.exchange.specs.Levels.{Graph, Outcome, Potential, Cycle, level, dist, from, fell, back, way, closes, firstFrom, search-from, outcome, cycleLength, IsPotential, IsCycle}
-use Rattle.exchange.proofs.Levels.{Parent, parent, true-or-false, relaxed, from-node, fell-lt, stayed-eq, stayed-from, dist-mono}
+use Rattle.exchange.proofs.Levels.{Parent, parent, relaxed, from-node, fell-lt, stayed-eq, stayed-from, dist-mono}
 
 -- ---- the first index that passes a test
 
--- Of n indices from i on, one is the first that passes, or none passes.
-pub first-cases : (t : ℕ → Bool) (n i : ℕ)
-    → ((i ≤ firstFrom t n i) × (firstFrom t n i < i + n) × (t (firstFrom t n i) ≡ true) × ((j : ℕ) → i ≤ j → j < firstFrom t n i → t j ≡ false))
-    ⊎ ((firstFrom t n i ≡ i + n) × ((j : ℕ) → i ≤ j → j < i + n → t j ≡ false))
+-- Of n indices from i on, r is the first that passes; or none passes, and r comes after them.
+abbrev pub First : (ℕ → Bool) → ℕ → ℕ → ℕ → Type 0
+First t n i r =
+    ((i ≤ r) × (r < i + n) × (t r ≡ true) × ((j : ℕ) → i ≤ j → j < r → t j ≡ false))
+    ⊎ ((r ≡ i + n) × ((j : ℕ) → i ≤ j → j < i + n → t j ≡ false))
+
+-- What is found is that.
+pub first-cases : (t : ℕ → Bool) (n i : ℕ) → First t n i (firstFrom t n i)
 unfolding firstFrom
 first-cases t zero i = inr (omega arith, λ j a b. absurd (omega arith))
 first-cases t (suc n) i = go (first-cases t n (suc i)) (t i) refl
   where
-    r : ℕ
-    r = firstFrom t n (suc i)
-
     more : {m : ℕ} → t i ≡ false → ((j : ℕ) → suc i ≤ j → j < m → t j ≡ false) → (j : ℕ) → i ≤ j → j < m → t j ≡ false
     more e h j a b = ⊎-elim (λ l. h j l b) (λ g. let q : i ≡ j = omega arith in subst (λ (k : ℕ). t k ≡ false) q e) (lt-or-ge i j)
 
-    go : ((suc i ≤ r) × (r < suc i + n) × (t r ≡ true) × ((j : ℕ) → suc i ≤ j → j < r → t j ≡ false))
-        ⊎ ((r ≡ suc i + n) × ((j : ℕ) → suc i ≤ j → j < suc i + n → t j ≡ false))
-        → (b : Bool) → t i ≡ b
-        → ((i ≤ cond b i r) × (cond b i r < i + suc n) × (t (cond b i r) ≡ true) × ((j : ℕ) → i ≤ j → j < cond b i r → t j ≡ false))
-        ⊎ ((cond b i r ≡ i + suc n) × ((j : ℕ) → i ≤ j → j < i + suc n → t j ≡ false))
+    go : {r : ℕ} → First t n (suc i) r → (b : Bool) → t i ≡ b → First t (suc n) i (cond b i r)
     go h true e = inl (omega arith, omega arith, e, λ j a b. absurd (omega arith))
     go (inl h) false e = inl (omega (arith, h .0), omega (arith, h .1), h .2, more e (h .3))
     go (inr h) false e = inr (omega (arith, h .0), λ j a b. more e (h .1) j a (omega arith))
 
+-- A first index below the bound is one that passes.
 pub first-some : (t : ℕ → Bool) (N : ℕ) → ltb (firstFrom t N 0) N ≡ true → (firstFrom t N 0 < N) × (t (firstFrom t N 0) ≡ true)
 first-some t N e =
     let l : firstFrom t N 0 < N = ltb-true (firstFrom t N 0) N e in
     ⊎-elim (λ h. (l, h .2)) (λ h. absurd (omega (arith, h .0))) (first-cases t N 0)
 
+-- Where the first index is not below the bound, none passes.
 pub first-none : (t : ℕ → Bool) (N : ℕ) → ltb (firstFrom t N 0) N ≡ false → (j : ℕ) → j < N → t j ≡ false
 first-none t N e j l =
     ⊎-elim (λ h. absurd (omega (arith, h .1, ltb-false (firstFrom t N 0) N e))) (λ h. h .1 j (omega arith) (omega arith))
     (first-cases t N 0)
+
+-- The first index that passes is the one that is found.
+pub first-is : (t : ℕ → Bool) (N i : ℕ) → i < N → t i ≡ true → ((j : ℕ) → j < i → t j ≡ false) → firstFrom t N 0 ≡ i
+first-is t N i l e h = go (first-cases t N 0) (lt-or-ge r i) (lt-or-ge i r)
+  where
+    r : ℕ
+    r = firstFrom t N 0
+
+    go : First t N 0 r → (r < i) ⊎ (i ≤ r) → (i < r) ⊎ (r ≤ i) → r ≡ i
+    go (inr s) a b = absurd (false≢true (sym (s .1 i (omega arith) (omega arith)) ∙ e))
+    go (inl s) (inl a) b = absurd (false≢true (sym (h r a) ∙ s .2))
+    go (inl s) (inr a) (inl b) = absurd (false≢true (sym (s .3 i (omega arith) b) ∙ e))
+    go (inl s) (inr a) (inr b) = omega arith
+
+-- Where none passes, the bound is found.
+pub first-is-none : (t : ℕ → Bool) (N : ℕ) → ((j : ℕ) → j < N → t j ≡ false) → firstFrom t N 0 ≡ N
+first-is-none t N h =
+    ⊎-elim (λ s. absurd (false≢true (sym (h (firstFrom t N 0) (omega (arith, s .1))) ∙ s .2))) (λ s. omega (arith, s .0)) (first-cases t N 0)
 
 -- ---- ways back
 
@@ -91,6 +108,7 @@ module _ (G : Graph) where
 
   -- ---- ways as sets
 
+  -- A way is a set: 0 or 1 for each node.
   pub way-le : (k v x : ℕ) → way G k v x ≤ 1
   unfolding way
   way-le zero v x = is-le v x
@@ -138,17 +156,19 @@ module _ (G : Graph) where
 abbrev pub Open : Graph → ℕ → Type 0
 Open G k = (j v : ℕ) → j ≤ k → v < G .N → closes G j v ≡ false
 
+-- At level 0 nothing is closed.
 pub open-zero : (G : Graph) → Open G 0
 unfolding closes
 open-zero G zero v l m = refl
 open-zero G (suc j) v l m = absurd (omega arith)
 
+-- One level more at which none closes a cycle.
 pub open-next : (G : Graph) (k : ℕ) → Open G k → ((v : ℕ) → v < G .N → closes G (suc k) v ≡ false) → Open G (suc k)
 open-next G k o h j v l m =
     ⊎-elim (λ a. o j v (omega arith) m) (λ b. let e : suc k ≡ j = omega arith in subst (λ (i : ℕ). closes G i v ≡ false) e (h v m))
     (lt-or-ge j (suc k))
 
--- A node that fell and is on the way of its parent closes a cycle; and the other way round.
+-- A node that closes a cycle fell, and is on the way of its parent.
 pub closes-way : (G : Graph) (k v : ℕ) → closes G (suc k) v ≡ true → (fell G (suc k) v ≡ true) × (way G k (from G (suc k) v) v ≡ 1)
 unfolding closes
 closes-way G k v h = go (fell G (suc k) v) (eqb (way G k (from G (suc k) v) v) 1) refl refl h
@@ -159,6 +179,7 @@ closes-way G k v h = go (fell G (suc k) v) (eqb (way G k (from G (suc k) v) v) 1
     go true false p q h = absurd (false≢true h)
     go false b p q h = absurd (false≢true h)
 
+-- A node that fell and is on the way of its parent closes a cycle.
 pub way-closes : (G : Graph) (k v : ℕ) → fell G (suc k) v ≡ true → way G k (from G (suc k) v) v ≡ 1 → closes G (suc k) v ≡ true
 unfolding closes
 way-closes G k v f e = ap (λ (a : Bool). a && eqb (way G k (from G (suc k) v) v) 1) f ∙ eq-eqb (way G k (from G (suc k) v) v) 1 e
@@ -259,6 +280,7 @@ Stands G (Cycle k v) = Closing G k v
 pub still-potential : (G : Graph) (k : ℕ) → k < G .N → ((v : ℕ) → v < G .N → fell G (suc k) v ≡ false) → IsPotential G (dist G k)
 still-potential G k l h u v m n a = omega (arith, relaxed G k u v l m a, stayed-eq G k v (h v n))
 
+-- After level k, at which a node fell and up to which none closed a cycle, the search comes to an end that stands.
 pub search-stands : (G : Graph) (n k v : ℕ) → k + n ≡ G .N → v < G .N → fell G k v ≡ true → Open G k → Stands G (search-from G n k)
 unfolding search-from
 search-stands G zero k v e m f o = absurd (omega (arith, open-few G k v (omega arith) m f o))

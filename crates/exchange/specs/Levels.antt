@@ -36,9 +36,11 @@ unfoldable pub level : Graph → ℕ → ℕ → Fall
 level G zero v = record { dist = G .N * G .C; from = v }
 level G (suc k) v = scan G (λ u. true) (λ u. level G k u .dist) v (G .N)
 
+-- The distance of v at level k.
 abbrev pub dist : Graph → ℕ → ℕ → ℕ
 dist G k v = level G k v .dist
 
+-- The node whose arc took v to level k.
 abbrev pub from : Graph → ℕ → ℕ → ℕ
 from G k v = level G k v .from
 
