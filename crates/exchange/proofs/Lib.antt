@@ -3,3 +3,5 @@ pub mod RowOptimum
 pub mod Prices
 pub mod Picked
 pub mod Several
+pub mod Levels
+pub mod Search
