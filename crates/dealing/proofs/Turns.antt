@@ -41,6 +41,10 @@ module _ (P : ℕ) (some : 1 ≤ P) where
   unfolding turns
   turns-none p = omega (arith, zero-div P, zero-mod P)
 
+  pub turns-ge : (p x : ℕ) → x / P ≤ turns P p x
+  unfolding turns
+  turns-ge p x = omega arith
+
   -- R times round, each partition has R.
   pub turns-whole : (p R : ℕ) → turns P p (R * P) ≡ R
   unfolding turns
