@@ -6,7 +6,7 @@ use mathlib.Core.Logic.{_⊎_, inl, inr, ⊎-elim}
 use native.Mathlib.Nat.{add-zero, zero-mul, one-mul, mul-le-mul-left}
 use native.Mathlib.Omega.{arith}
 use Rattle.sums.specs.Sum.{sumTo, is}
-use Rattle.sums.proofs.Sum.{eq-or-ne, is-eq, is-ne, sum-cong, sum-le, sum-swap, sum-is}
+use Rattle.sums.proofs.Sum.{lt-or-ge, eq-or-ne, is-eq, is-ne, sum-cong, sum-le, sum-swap, sum-is}
 use Rattle.dealing.specs.Deal.{inZone, pour, zoned}
 
 -- A rising function.
@@ -31,6 +31,14 @@ unfolding climb
 climb-none g a f i e =
     let q : a + sumTo i f + f i ≡ a + sumTo i f = omega arith in
     omega (arith, ap g q)
+
+-- A running sum with the next term is at most the whole sum.
+pub sum-upto : (n i : ℕ) (f : ℕ → ℕ) → i < n → sumTo i f + f i ≤ sumTo n f
+unfolding sumTo
+sum-upto zero i f l = absurd (omega arith)
+sum-upto (suc n) i f l =
+    ⊎-elim (λ a. omega (arith, sum-upto n i f a))
+    (λ b. let e : i ≡ n = omega arith in omega (arith, ap f e, ap (λ (t : ℕ). sumTo t f) e)) (lt-or-ge i n)
 
 -- ---- filling a room
 

@@ -1,3 +1,5 @@
 pub mod Climb
 pub mod Turns
 pub mod Line
+pub mod Given
+pub mod Exists

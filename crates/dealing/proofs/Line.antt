@@ -13,7 +13,7 @@ use Rattle.sums.specs.Sum.{sumTo, is, one-if}
 use Rattle.sums.proofs.Sum.{lt-or-ge, eq-or-ne, sum-cong, sum-le, sum-add, sum-scale}
 use Rattle.exchange.specs.Row.{zoneCount, cover, Valid, copies}
 use Rattle.dealing.specs.Deal.{inZone, light, heavy, zoneStart, start, among}
-use Rattle.dealing.proofs.Climb.{Rising, climb, climb-sum, climb-none, is-times, not-times, zones-sum}
+use Rattle.dealing.proofs.Climb.{Rising, climb, climb-sum, climb-none, is-times, not-times, zones-sum, sum-upto}
 use Rattle.dealing.proofs.Turns.{turns, turns-rising, turns-none, turns-whole, turns-round, turns-among, turns-sum, turns-ge}
 
 pub among-le : (P x k p : ℕ) → among P x k p ≤ 1
@@ -67,6 +67,16 @@ module _ (P N : ℕ) (zone n : ℕ → ℕ) where
       ∙ (sum-cong N (λ z. light P N zone n z + heavy P N zone n z) (λ z. inZone zone n z N)
       (λ z l. ⊎-elim (λ (a : Light z). omega arith) (λ (b : Heavy z). omega arith) (light-or-heavy z))
       ∙ zones-sum zone N n N zones)
+
+  -- A node's copies end within the line.
+  pub line-end : ((x : ℕ) → x < N → zone x < N) → (b : ℕ) → b < N → start P N zone n b + n b ≤ sumTo N n
+  unfolding start inZone
+  line-end zones b l =
+      let z = zone b in
+      let w = sum-upto N b (λ x. is (zone x) z * n x) l in
+      ⊎-elim (λ (a : Light z). omega (arith, w, is-times {a = z} {b = z} refl (n b), line-length zones, sum-upto N z (light P N zone n) (zones b l)))
+      (λ (a : Heavy z). omega (arith, w, is-times {a = z} {b = z} refl (n b), line-length zones, sum-upto N z (heavy P N zone n) (zones b l)))
+      (light-or-heavy z)
 
   -- What the zones count, at most P each: the light copies, and P for each heavy zone.
   zones-count : sumTo N (λ z. min P (inZone zone n z N)) ≡ sumTo N (light P N zone n) + sumTo N weighty * P
