@@ -1,16 +1,15 @@
 -- A layout within given caps exists exactly where the caps fit, and the dealt layout is one.
 -- Assumes nothing.
-use Prim.Native.Nat.{ℕ, zero, suc, _+_, _-_, _*_, _≤_, _<_, min}
-use mathlib.Core.Path.{_≡_, refl, sym, ap, ap₂, _∙_, subst}
+use Prim.Native.Nat.{ℕ, _+_, _*_, _≤_, _<_, min}
+use mathlib.Core.Path.{_≡_, refl, ap, _∙_}
 use mathlib.Core.Bool.{Bool, true, false, _&&_, false≢true}
-use mathlib.Core.Logic.{_⊎_, inl, inr, ⊎-elim}
-use native.Mathlib.Nat.{mul-comm, mul-one, mul-le-mul-left}
+use native.Mathlib.Nat.{mul-comm, mul-one}
 use native.Mathlib.Omega.{arith}
 use lib.Dec.{leb}
 use borrow.Author.Tests.{leb-true, le-leb}
 use Rattle.sums.specs.Sum.{sumTo, is}
 use Rattle.sums.proofs.Sum.{sum-cong, sum-le, sum-const, sum-scale, sum-swap}
-use Rattle.exchange.specs.Row.{zoneCount, cover, Valid, Within, copies}
+use Rattle.exchange.specs.Row.{zoneCount, cover, Within, copies}
 use Rattle.dealing.specs.Deal.{inZone, Fits, fits, given, start, dealt}
 use Rattle.dealing.proofs.Climb.{inZone-le}
 use Rattle.dealing.proofs.Turns.{turns, turns-whole}
@@ -36,9 +35,10 @@ true-fits P N R Z zone cap e =
 -- Larger caps fit too.
 pub fits-rising : (P N R Z : ℕ) (zone cap cap′ : ℕ → ℕ) → ((b : ℕ) → b < N → cap b ≤ cap′ b)
     → Fits P N R Z zone cap → Fits P N R Z zone cap′
-fits-rising P N R Z zone cap cap′ up h =
-    (omega (arith, h .0, sum-le N cap cap′ up),
-    omega (arith, h .1, sum-le N (λ z. min P (inZone zone cap z N)) (λ z. min P (inZone zone cap′ z N)) (λ z l. omega (arith, inZone-le zone cap cap′ z N up))))
+fits-rising P N R Z zone cap cap′ up h = (
+  omega (arith, h .0, sum-le N cap cap′ up),
+  omega (arith, h .1, sum-le N (λ z. min P (inZone zone cap z N)) (λ z. min P (inZone zone cap′ z N)) (λ z l. omega (arith, inZone-le zone cap cap′ z N up))),
+)
 
 -- ---- needed
 
@@ -61,10 +61,17 @@ pub needed : (P N R Z : ℕ) (zone cap : ℕ → ℕ) (S : ℕ → ℕ → ℕ) 
 unfolding touched cover copies
 needed P N R Z zone cap S w =
     let held = sum-swap N P (λ b p. S p b) ∙ (sum-cong P (λ p. sumTo N (S p)) (λ p. R) (λ p l. w .rows p l .size) ∙ sum-const P R) in
-    let wide = sum-le P (λ p. Z) (λ p. cover N zone (S p)) (λ p l. w .rows p l .wide) in
-    (omega (arith, held, mul-comm P R, sum-le N (copies P S) cap (w .caps)),
-    omega (arith, wide, sum-const P Z, mul-comm P Z, sum-swap N P (λ z p. min 1 (zoneCount N zone (S p) z)),
-    sum-le N (touched P N zone S) (λ z. min P (inZone zone cap z N)) (λ z l. touched-le P N zone S cap z (w .caps))))
+    let wide = sum-le P (λ p. Z) (λ p. cover N zone (S p)) (λ p l. w .rows p l .wide) in (
+      omega (arith, held, mul-comm P R, sum-le N (copies P S) cap (w .caps)),
+      omega (
+        arith,
+        wide,
+        sum-const P Z,
+        mul-comm P Z,
+        sum-swap N P (λ z p. min 1 (zoneCount N zone (S p) z)),
+        sum-le N (touched P N zone S) (λ z. min P (inZone zone cap z N)) (λ z l. touched-le P N zone S cap z (w .caps)),
+      ),
+    )
 
 -- ---- enough
 
@@ -80,5 +87,17 @@ enough P N R Z zone cap some zones caps le h =
       rows = λ p l. record {
         bits = λ x m. among-le P (start P N zone n x) (n x) p;
         size = line-row P N zone n some zones few p l ∙ (ap (turns P p) all ∙ turns-whole P some p R);
-        wide = line-cover P N zone n some zones few p l Z (given-zones P N R zone cap Z zones le (h .1)) };
-      caps = λ b l. omega (arith, line-copies P N zone n some zones few b l, given-le P N R zone cap b) }
+        wide = line-cover P N zone n some zones few p l Z (given-zones P N R zone cap Z zones le (h .1));
+      };
+      caps = λ b l. omega (arith, line-copies P N zone n some zones few b l, given-le P N R zone cap b);
+    }
+
+-- The dealt layout has 0 or 1 at each pair.
+pub dealt-le : (P N R : ℕ) (zone cap : ℕ → ℕ) (p b : ℕ) → dealt P N R zone cap p b ≤ 1
+unfolding dealt
+dealt-le P N R zone cap p b = among-le P (start P N zone (given P N R zone cap) b) (given P N R zone cap b) p
+
+-- A node's copies end within the R * P places of the line, whether the caps fit or not.
+pub given-end : (P N R : ℕ) (zone cap : ℕ → ℕ) → ((x : ℕ) → x < N → zone x < N) → (b : ℕ) → b < N
+    → start P N zone (given P N R zone cap) b + given P N R zone cap b ≤ R * P
+given-end P N R zone cap zones b l = omega (arith, line-end P N zone (given P N R zone cap) zones b l, given-sum P N R zone cap)

@@ -1,8 +1,8 @@
 -- The copies that the two passes give: within the caps, R * P in all where the caps have room for them, and Z * P of them where a zone counts for
 -- at most P.
 -- Assumes nothing.
-use Prim.Native.Nat.{ℕ, zero, suc, _+_, _-_, _*_, _≤_, _<_, min}
-use mathlib.Core.Path.{_≡_, refl, sym, ap, ap₂, _∙_, subst}
+use Prim.Native.Nat.{ℕ, _+_, _-_, _*_, _≤_, _<_, min}
+use mathlib.Core.Path.{_≡_, sym, _∙_}
 use native.Mathlib.Nat.{mul-le-mul-right}
 use native.Mathlib.Omega.{arith}
 use Rattle.sums.specs.Sum.{sumTo}
@@ -50,6 +50,10 @@ module _ (P N R : ℕ) (zone cap : ℕ → ℕ) where
       ∙ sum-cong N (λ z. inZone zone (zoned P zone cap) z N) (λ z. min P (inZone zone cap z N)) (λ z l. zoned-sum zone P cap z N) in
       let kept : sumTo N (λ z. inZone zone f z N) ≤ sumTo N (λ z. min P (inZone zone (given P N R zone cap) z N)) =
       sum-le N (λ z. inZone zone f z N) (λ z. min P (inZone zone (given P N R zone cap) z N))
-      (λ z l. omega (arith, inZone-le zone f (zoned P zone cap) z N (λ x m. first-le-zoned x), zoned-sum zone P cap z N,
-      inZone-le zone f (given P N R zone cap) z N (λ x m. omega arith))) in
+      (λ z l. omega (
+        arith,
+        inZone-le zone f (zoned P zone cap) z N (λ x m. first-le-zoned x),
+        zoned-sum zone P cap z N,
+        inZone-le zone f (given P N R zone cap) z N (λ x m. omega arith),
+      )) in
       omega (arith, zones-sum zone N f N zones, first-sum, mul-le-mul-right P le)

@@ -3,3 +3,5 @@ pub mod Turns
 pub mod Line
 pub mod Given
 pub mod Exists
+pub mod Bisect
+pub mod Size

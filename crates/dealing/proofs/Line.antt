@@ -1,20 +1,20 @@
 -- The line of copies, dealt round the partitions, for any numbers n of copies of the nodes: every row has its share of the line, and touches
 -- the zones that it must.
 -- Assumes nothing.
-use Prim.Native.Nat.{ℕ, zero, suc, _+_, _-_, _*_, _/_, _%_, _≤_, _<_, min}
-use mathlib.Core.Path.{_≡_, refl, sym, ap, ap₂, _∙_, subst}
+use Prim.Native.Nat.{ℕ, _+_, _-_, _*_, _/_, _%_, _≤_, _<_, min}
+use mathlib.Core.Path.{_≡_, refl, sym, ap, ap₂, _∙_}
 use mathlib.Core.Bool.{Bool, true, false, cond}
 use mathlib.Core.Logic.{_⊎_, inl, inr, ⊎-elim}
-use native.Mathlib.Nat.{zero-add, add-zero, mul-zero, mul-one, mul-comm, add-mul-div-right, le-div-iff-mul-le}
+use native.Mathlib.Nat.{zero-add, mul-zero, mul-one, mul-comm, add-mul-div-right, le-div-iff-mul-le}
 use native.Mathlib.Omega.{arith}
 use lib.Dec.{ltb}
 use borrow.Author.Tests.{ltb-true, ltb-false}
 use Rattle.sums.specs.Sum.{sumTo, is, one-if}
-use Rattle.sums.proofs.Sum.{lt-or-ge, eq-or-ne, sum-cong, sum-le, sum-add, sum-scale}
-use Rattle.exchange.specs.Row.{zoneCount, cover, Valid, copies}
+use Rattle.sums.proofs.Sum.{eq-or-ne, sum-cong, sum-le, sum-add, sum-scale}
+use Rattle.exchange.specs.Row.{zoneCount, cover, copies}
 use Rattle.dealing.specs.Deal.{inZone, light, heavy, zoneStart, start, among}
-use Rattle.dealing.proofs.Climb.{Rising, climb, climb-sum, climb-none, is-times, not-times, zones-sum, sum-upto}
-use Rattle.dealing.proofs.Turns.{turns, turns-rising, turns-none, turns-whole, turns-round, turns-among, turns-sum, turns-ge}
+use Rattle.dealing.proofs.Climb.{climb, climb-sum, climb-none, is-times, not-times, zones-sum, sum-upto}
+use Rattle.dealing.proofs.Turns.{turns, turns-rising, turns-none, turns-round, turns-among, turns-sum, turns-ge}
 
 pub among-le : (P x k p : ℕ) → among P x k p ≤ 1
 unfolding among one-if
@@ -115,8 +115,13 @@ module _ (P N : ℕ) (zone n : ℕ → ℕ) (some : 1 ≤ P) (zones : (x : ℕ) 
         (sum-cong N (λ b. is (zone b) z * line P N zone n p b) (climb (turns P p) a (λ x. is (zone x) z * n x))
         (λ b l. ⊎-elim
         (λ (e : zone b ≡ z). let x = a + inZone zone n z b in
-        omega (arith, is-times e (line P N zone n p b), ap (λ (w : ℕ). among P (zoneStart P N zone n w + inZone zone n w b) (n b) p) e,
-        turns-among P some p x (n b) small (few b l), ap (λ (t : ℕ). turns P p (x + t)) (is-times e (n b))))
+        omega (
+          arith,
+          is-times e (line P N zone n p b),
+          ap (λ (w : ℕ). among P (zoneStart P N zone n w + inZone zone n w b) (n b) p) e,
+          turns-among P some p x (n b) small (few b l),
+          ap (λ (t : ℕ). turns P p (x + t)) (is-times e (n b)),
+        ))
         (λ e. omega (arith, not-times e (line P N zone n p b), climb-none (turns P p) a (λ x. is (zone x) z * n x) b (not-times e (n b))))
         (eq-or-ne (zone b) z)))
         ∙ climb-sum (turns P p) (turns-rising P some p) a (λ x. is (zone x) z * n x) N
@@ -131,8 +136,12 @@ module _ (P N : ℕ) (zone n : ℕ → ℕ) (some : 1 ≤ P) (zones : (x : ℕ) 
     light-steps : sumTo N lighter ≡ turns P p (sumTo N (light P N zone n))
     unfolding lighter
     light-steps =
-        omega (arith, climb-sum (turns P p) (turns-rising P some p) 0 (light P N zone n) N, turns-none P some p,
-        ap (turns P p) (zero-add (sumTo N (light P N zone n))))
+        omega (
+          arith,
+          climb-sum (turns P p) (turns-rising P some p) 0 (light P N zone n) N,
+          turns-none P some p,
+          ap (turns P p) (zero-add (sumTo N (light P N zone n))),
+        )
 
     zone-step : (a : ℕ) (f : ℕ → ℕ) (z : ℕ) → a + sumTo z f ≡ zoneStart P N zone n z → f z ≡ inZone zone n z N
         → inZone zone (line P N zone n p) z N ≡ climb (turns P p) a f z
@@ -143,17 +152,21 @@ module _ (P N : ℕ) (zone n : ℕ → ℕ) (some : 1 ≤ P) (zones : (x : ℕ) 
     unfolding lighter heavier
     zone-light z a =
         let x = zoneStart P N zone n z in
-        let e = zone-step 0 (light P N zone n) z (omega arith) (a .lights) in
-        (e, climb-none (turns P p) (sumTo N (light P N zone n)) (heavy P N zone n) z (a .heavies),
-        omega (arith, zone-turns z, turns-round P some p x, turns-rising P some p (x + inZone zone n z N) (x + P) (omega arith)))
+        let e = zone-step 0 (light P N zone n) z (omega arith) (a .lights) in (
+          e,
+          climb-none (turns P p) (sumTo N (light P N zone n)) (heavy P N zone n) z (a .heavies),
+          omega (arith, zone-turns z, turns-round P some p x, turns-rising P some p (x + inZone zone n z N) (x + P) (omega arith)),
+        )
 
     zone-heavy : (z : ℕ) → Heavy P N zone n z → (inZone zone (line P N zone n p) z N ≡ heavier z) × (lighter z ≡ 0) × (1 ≤ heavier z)
     unfolding lighter heavier
     zone-heavy z b =
         let x = zoneStart P N zone n z in
-        let e = zone-step (sumTo N (light P N zone n)) (heavy P N zone n) z (sym (b .begins)) (b .heavies) in
-        (e, climb-none (turns P p) 0 (light P N zone n) z (b .lights),
-        omega (arith, zone-turns z, turns-round P some p x, turns-rising P some p (x + P) (x + inZone zone n z N) (omega arith)))
+        let e = zone-step (sumTo N (light P N zone n)) (heavy P N zone n) z (sym (b .begins)) (b .heavies) in (
+          e,
+          climb-none (turns P p) 0 (light P N zone n) z (b .lights),
+          omega (arith, zone-turns z, turns-round P some p x, turns-rising P some p (x + P) (x + inZone zone n z N) (omega arith)),
+        )
 
     -- The row has its share of the line.
     pub line-row : sumTo N (line P N zone n p) ≡ turns P p (sumTo N n)
@@ -162,8 +175,13 @@ module _ (P N : ℕ) (zone n : ℕ → ℕ) (some : 1 ≤ P) (zones : (x : ℕ) 
         sym (zones-sum zone N (line P N zone n p) N zones)
         ∙ (sum-cong N (λ z. inZone zone (line P N zone n p) z N) (λ z. lighter z + heavier z)
         (λ z l. ⊎-elim (λ (a : Light P N zone n z). omega (arith, zone-light z a)) (λ (b : Heavy P N zone n z). omega (arith, zone-heavy z b)) (light-or-heavy P N zone n z))
-        ∙ omega (arith, sum-add N lighter heavier, light-steps,
-        climb-sum (turns P p) (turns-rising P some p) (sumTo N (light P N zone n)) (heavy P N zone n) N, ap (turns P p) (line-length P N zone n zones)))
+        ∙ omega (
+          arith,
+          sum-add N lighter heavier,
+          light-steps,
+          climb-sum (turns P p) (turns-rising P some p) (sumTo N (light P N zone n)) (heavy P N zone n) N,
+          ap (turns P p) (line-length P N zone n zones),
+        ))
 
     -- Where the zones count Z * P, at most P each, the row touches Z of them.
     pub line-cover : (Z : ℕ) → Z * P ≤ sumTo N (λ z. min P (inZone zone n z N)) → Z ≤ cover N zone (line P N zone n p)
@@ -175,5 +193,10 @@ module _ (P N : ℕ) (zone n : ℕ → ℕ) (some : 1 ≤ P) (zones : (x : ℕ) 
         (λ (b : Heavy P N zone n z). omega (arith, zone-heavy z b, zoneCount-inZone N zone (line P N zone n p) z)) (light-or-heavy P N zone n z)) in
         let long : Z ≤ (sumTo N (light P N zone n) + sumTo N (weighty P N zone n) * P) / P =
         le-div-iff-mul-le some .1 (omega (arith, zones-count P N zone n)) in
-        omega (arith, sum-add N lighter (weighty P N zone n), light-steps, turns-ge P some p (sumTo N (light P N zone n)),
-        add-mul-div-right (sumTo N (light P N zone n)) (sumTo N (weighty P N zone n)) some)
+        omega (
+          arith,
+          sum-add N lighter (weighty P N zone n),
+          light-steps,
+          turns-ge P some p (sumTo N (light P N zone n)),
+          add-mul-div-right (sumTo N (light P N zone n)) (sumTo N (weighty P N zone n)) some,
+        )

@@ -1,8 +1,8 @@
 -- Dealing a line round the partitions: how many of the first x places go to partition p.
 -- Assumes nothing.
 use Prim.Native.Nat.{ℕ, zero, suc, _+_, _-_, _*_, _/_, _%_, _≤_, _<_, min}
-use mathlib.Core.Path.{_≡_, refl, sym, ap, ap₂, _∙_, subst}
-use mathlib.Core.Logic.{_⊎_, inl, inr, ⊎-elim}
+use mathlib.Core.Path.{_≡_, ap, _∙_}
+use mathlib.Core.Logic.{⊎-elim}
 use native.Mathlib.Nat.{mul-comm, suc-mul, zero-div, zero-mod, mod-lt, mod-eq-of-lt, add-mod-right, add-div-right, div-add-mod', div-mul-le-self, le-div-iff-mul-le, mul-div-cancel, mul-mod-left}
 use native.Mathlib.Omega.{arith}
 use lib.Arith.{digits-div, digits-mod}

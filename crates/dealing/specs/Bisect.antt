@@ -3,7 +3,6 @@
 use Prim.Native.Nat.{ℕ, zero, suc, _+_, _^_, _≤_, _<_}
 use mathlib.Core.Path.{_≡_}
 use mathlib.Core.Bool.{Bool, true, cond}
-use Rattle.dealing.specs.Deal.{fits}
 
 -- From s, the bits i - 1, .., 0 are tried in turn, and kept where the test passes.
 unfoldable pub bisectFrom : ℕ → (ℕ → Bool) → ℕ → ℕ
@@ -19,7 +18,3 @@ pub record Largest (m : ℕ) (t : ℕ → Bool) (r : ℕ) : Type 0 where
   pub below : r < m
   pub passes : 1 ≤ r → t r ≡ true
   pub largest : (s : ℕ) → 1 ≤ s → s < m → t s ≡ true → s ≤ r
-
--- The largest size below 2 ^ n at which the caps fit, cap s b being the cap of node b at size s.
-unfoldable pub bestSize : (n P N R Z : ℕ) (zone : ℕ → ℕ) (cap : ℕ → ℕ → ℕ) → ℕ
-bestSize n P N R Z zone cap = bisect n (λ s. fits P N R Z zone (cap s))
