@@ -42,6 +42,7 @@ sum-upto (suc n) i f l =
 
 -- ---- filling a room
 
+-- No more goes in than there is.
 pub pour-le : (room : ℕ) (f : ℕ → ℕ) (b : ℕ) → pour room f b ≤ f b
 unfolding pour
 pour-le room f b = omega arith
@@ -54,6 +55,7 @@ pour-sum room f (suc n) = omega (arith, pour-sum room f n)
 
 -- ---- sums by zones
 
+-- The indicator as a factor, where it is 1 and where it is 0.
 pub is-times : {a b : ℕ} → a ≡ b → (x : ℕ) → is a b * x ≡ x
 is-times e x = ap (λ (t : ℕ). t * x) (is-eq e) ∙ one-mul x
 
@@ -67,6 +69,7 @@ module _ (zone : ℕ → ℕ) where
   zones-sum N f n h =
       sum-swap N n (λ z x. is (zone x) z * f x) ∙ sum-cong n (λ x. sumTo N (λ z. is (zone x) z * f x)) f (λ x l. sum-is N (zone x) (λ z. f x) (h x l))
 
+  -- Smaller terms give a smaller sum over a zone.
   pub inZone-le : (f g : ℕ → ℕ) (z n : ℕ) → ((x : ℕ) → x < n → f x ≤ g x) → inZone zone f z n ≤ inZone zone g z n
   unfolding inZone
   inZone-le f g z n h =

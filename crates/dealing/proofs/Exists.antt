@@ -18,6 +18,7 @@ use Rattle.dealing.proofs.Given.{given-le, given-sum, given-zones}
 
 -- ---- the test
 
+-- Where the caps fit, the test passes.
 pub fits-true : (P N R Z : ℕ) (zone cap : ℕ → ℕ) → Fits P N R Z zone cap → fits P N R Z zone cap ≡ true
 unfolding fits
 fits-true P N R Z zone cap h = simp (le-leb _ _ (h .0), le-leb _ _ (h .1))
@@ -26,6 +27,7 @@ both-true : (a b : Bool) → (a && b) ≡ true → (a ≡ true) × (b ≡ true)
 both-true true b e = (refl, e)
 both-true false b e = absurd (false≢true e)
 
+-- Where the test passes, the caps fit.
 pub true-fits : (P N R Z : ℕ) (zone cap : ℕ → ℕ) → fits P N R Z zone cap ≡ true → Fits P N R Z zone cap
 unfolding fits
 true-fits P N R Z zone cap e =

@@ -11,6 +11,7 @@ use Rattle.dealing.specs.Deal.{inZone, pour, zoned, first, more, given}
 use Rattle.dealing.proofs.Climb.{pour-le, pour-sum, zones-sum, inZone-le, zoned-sum}
 
 module _ (P N R : ℕ) (zone cap : ℕ → ℕ) where
+  -- The first pass keeps within the zones, within the caps, and within R * P.
   pub first-le-zoned : (b : ℕ) → first P R zone cap b ≤ zoned P zone cap b
   unfolding first
   first-le-zoned b = pour-le (R * P) (zoned P zone cap) b

@@ -16,6 +16,7 @@ use Rattle.dealing.specs.Deal.{inZone, light, heavy, zoneStart, start, a
 use Rattle.dealing.proofs.Climb.{climb, climb-sum, climb-none, is-times, not-times, zones-sum, sum-upto}
 use Rattle.dealing.proofs.Turns.{turns, turns-rising, turns-none, turns-round, turns-among, turns-sum, turns-ge}
 
+-- A run reaches a partition at most once, as the test counts.
 pub among-le : (P x k p : ℕ) → among P x k p ≤ 1
 unfolding among one-if
 among-le P x k p = go (ltb ((p + P - x % P) % P) k)

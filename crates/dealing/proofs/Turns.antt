@@ -28,6 +28,7 @@ below r zero = omega arith
 below r (suc m) = omega (arith, below r m)
 
 module _ (P : ℕ) (some : 1 ≤ P) where
+  -- More places are no fewer turns.
   pub turns-rising : (p : ℕ) → Rising (turns P p)
   unfolding turns
   turns-rising p x y l =
@@ -41,6 +42,7 @@ module _ (P : ℕ) (some : 1 ≤ P) where
   unfolding turns
   turns-none p = omega (arith, zero-div P, zero-mod P)
 
+  -- Each whole round is a turn.
   pub turns-ge : (p x : ℕ) → x / P ≤ turns P p x
   unfolding turns
   turns-ge p x = omega arith
