@@ -1,2 +1,5 @@
 pub mod Scans
 pub mod Accepting
+pub mod Lists
+pub mod TieRows
+pub mod TieZones
