@@ -1,3 +1,5 @@
+pub mod CellLayouts
+pub mod CellRows
 pub mod Scans
 pub mod Accepting
 pub mod Lists
