@@ -55,6 +55,19 @@ module _ (P C : ℕ) (g : ℕ → ℕ → ℕ) (light : (p b : ℕ) → g p b �
 
 -- ---- what a circuit is made of
 
+-- Of two exchanges of a row, the source of one and the target of the other.
+pub mixed : {N R Z : ℕ} {zone : ℕ → ℕ} {free S : ℕ → ℕ → ℕ} {p a b d e : ℕ} → Exchange N R Z zone free S p a b → Exchange N R Z zone free S p d e
+    → Valid N R Z zone (swap (S p) a e) → Exchange N R Z zone free S p a e
+mixed u w v =
+    record { a-node = u .a-node; b-node = w .b-node; a-in = u .a-in; b-out = w .b-out; a-free = u .a-free; b-free = w .b-free; valid = v }
+
+several-valid : (N R Z : ℕ) (zone S : ℕ → ℕ) (zones : (x : ℕ) → x < N → zone x < N) (valid : Valid N R Z zone S) (m : ℕ) (μ a b : ℕ → ℕ)
+    (bits : (i : ℕ) → i < m → μ i ≤ 1)
+    (arcs : (i : ℕ) → i < m → μ i ≡ 1 → (a i < N) × (b i < N) × (S (a i) ≡ 1) × (S (b i) ≡ 0) × Valid N R Z zone (swap S (a i) (b i)))
+    (differ : (i j : ℕ) → i < j → j < m → μ i ≡ 1 → μ j ≡ 1 → (a i ≡ a j → ⊥) × (b i ≡ b j → ⊥))
+    (uncrossed : (i j : ℕ) → i < j → j < m → μ i ≡ 1 → μ j ≡ 1 → Valid N R Z zone (swap S (a i) (b j)) → Valid N R Z zone (swap S (a j) (b i)) → ⊥) → Valid N R Z zone (λ x. S x + sumTo m (λ i. μ i * is (b i) x) - sumTo m (λ i. μ i * is (a i) x))
+several-valid N R Z zone S zones valid m μ a b bits arcs differ uncrossed = ?
+
 module _ (P N R Z C : ℕ) (zone cap : ℕ → ℕ) (g free S : ℕ → ℕ → ℕ) (m : ℕ) (y q : ℕ → ℕ) (c : Circuit P N R Z C zone cap g free S m y q) where
   -- Both ends of an arc are nodes.
   pub ends : (i : ℕ) → i < m → (y (suc i) < N) × (y i < N)
@@ -177,3 +190,34 @@ module _ (P N R Z C : ℕ) (zone cap : ℕ → ℕ) (g free S : ℕ → ℕ → 
           sum-balance P (λ p. sumTo N (λ x. turn m y q S p x * g p x)) (λ p. sumTo m (λ i. is (q i) p * g p (y (suc i)))) (λ p. sumTo N (λ x. S p x * g p x))
           (λ p. sumTo m (λ i. is (q i) p * g p (y i)))
           (λ p r. several-sum m (λ i. is (q i) p) (λ i. y (suc i)) y (S p) (λ i l. is-le (q i) p) N (g p) (λ i l e. ends i l) (λ x l. leaves-le p r x))
+
+  -- ---- all together
+
+  -- Two arcs of a row that may be crossed one way and the other.
+  pub crossing : (i j p : ℕ) → i < m → j < m → p < P → q i ≡ p → q j ≡ p → Valid N R Z zone (swap (S p) (y (suc i)) (y j))
+      → Valid N R Z zone (swap (S p) (y (suc j)) (y i)) → Crossed P N R Z zone free S y q i j
+  crossing i j p l k r d e v w =
+      let u = exchange i p l r d in
+      let x = exchange j p k r e in
+      record { row = omega arith; same = d ∙ sym e; outer = at-row (mixed x u w); inner = at-row (mixed u x v) }
+    where
+      at-row : {a b : ℕ} → Exchange N R Z zone free S p a b → Exchange N R Z zone free S (q i) a b
+      at-row {a} {b} h = subst (λ (k : ℕ). Exchange N R Z zone free S k a b) (sym d) h
+
+  -- The layout after the turn of a circuit in which no two exchanges can be crossed is better.
+  pub turn-better : ((x : ℕ) → x < N → zone x < N) → ((p b : ℕ) → g p b ≤ C) → Within P N R Z zone cap S
+      → ((i j : ℕ) → i < j → j < m → Crossed P N R Z zone free S y q i j → ⊥) → Better P N R Z C zone cap g free S (turn m y q S)
+  turn-better zones light w uncrossed =
+      record
+      { within = record { rows = rows; caps = turn-caps (w .caps) };
+        agrees = turn-agrees;
+        more = omega (arith, turn-weighs light, c .gains);
+        most = omega (arith, turn-weighs light, mul-le-mul-right C at-most-nodes) }
+    where
+      rows : (p : ℕ) → p < P → Valid N R Z zone (turn m y q S p)
+      rows p r =
+          unfold turn in
+          several-valid N R Z zone (S p) zones (w .rows p r) m (λ i. is (q i) p) (λ i. y (suc i)) y (λ i l. is-le (q i) p)
+          (λ i l e. let x = exchange i p l r (is-one (q i) p e) in (x .a-node, x .b-node, x .a-in, x .b-out, x .valid))
+          (λ i j l k d e. (sources-differ i j l k, c .distinct i j l k))
+          (λ i j l k d e v w. uncrossed i j l k (crossing i j p (omega arith) k r (is-one (q i) p d) (is-one (q j) p e) v w))

@@ -1,2 +1,3 @@
 pub mod Several
 pub mod Circuit
+pub mod Uncross
