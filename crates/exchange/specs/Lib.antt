@@ -1,3 +1,5 @@
 pub mod Row
 pub mod Circuit
 pub mod Uncross
+pub mod Swap
+pub mod Prices
