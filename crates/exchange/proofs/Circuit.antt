@@ -13,8 +13,9 @@ use Rattle.sums.specs.Sum.{sumTo, is, hits}
 use Rattle.sums.proofs.Sum.{lt-or-ge, eq-or-ne, is-ne, is-le, is-one, is-cases, sum-cong, sum-le, sum-zero, sum-add, sum-const, sum-swap, sum-is, sum-witness}
 use Rattle.sums.proofs.Count.{sum-pos, two-bits, pigeonhole}
 use Rattle.exchange.specs.Row.{Valid, Within, Agree, Exchange, swap, copies, weigh}
-use Rattle.exchange.specs.Circuit.{cost, costs, Allowed, Circuit, Crossed, Better, turn}
-use Rattle.exchange.proofs.Several.{picked, several, picked-at, out-le, several-sum}
+use Rattle.exchange.specs.Circuit.{cost, costs, Allowed, Circuit, Crossed, Uncrossed, Better, turn}
+use Rattle.exchange.proofs.Picked.{picked, picked-at, out-le, several-at, several-sum}
+use Rattle.exchange.proofs.Several.{several-valid}
 
 -- ---- sums
 
@@ -60,13 +61,6 @@ pub mixed : {N R Z : ℕ} {zone : ℕ → ℕ} {free S : ℕ → ℕ → ℕ} {p
     → Valid N R Z zone (swap (S p) a e) → Exchange N R Z zone free S p a e
 mixed u w v =
     record { a-node = u .a-node; b-node = w .b-node; a-in = u .a-in; b-out = w .b-out; a-free = u .a-free; b-free = w .b-free; valid = v }
-
-several-valid : (N R Z : ℕ) (zone S : ℕ → ℕ) (zones : (x : ℕ) → x < N → zone x < N) (valid : Valid N R Z zone S) (m : ℕ) (μ a b : ℕ → ℕ)
-    (bits : (i : ℕ) → i < m → μ i ≤ 1)
-    (arcs : (i : ℕ) → i < m → μ i ≡ 1 → (a i < N) × (b i < N) × (S (a i) ≡ 1) × (S (b i) ≡ 0) × Valid N R Z zone (swap S (a i) (b i)))
-    (differ : (i j : ℕ) → i < j → j < m → μ i ≡ 1 → μ j ≡ 1 → (a i ≡ a j → ⊥) × (b i ≡ b j → ⊥))
-    (uncrossed : (i j : ℕ) → i < j → j < m → μ i ≡ 1 → μ j ≡ 1 → Valid N R Z zone (swap S (a i) (b j)) → Valid N R Z zone (swap S (a j) (b i)) → ⊥) → Valid N R Z zone (λ x. S x + sumTo m (λ i. μ i * is (b i) x) - sumTo m (λ i. μ i * is (a i) x))
-several-valid N R Z zone S zones valid m μ a b bits arcs differ uncrossed = ?
 
 module _ (P N R Z C : ℕ) (zone cap : ℕ → ℕ) (g free S : ℕ → ℕ → ℕ) (m : ℕ) (y q : ℕ → ℕ) (c : Circuit P N R Z C zone cap g free S m y q) where
   -- Both ends of an arc are nodes.
@@ -118,22 +112,24 @@ module _ (P N R Z C : ℕ) (zone cap : ℕ → ℕ) (g free S : ℕ → ℕ → 
   -- No more leaves a row than is there.
   leaves-le : (p : ℕ) → p < P → (x : ℕ) → picked m (λ i. is (q i) p) (λ i. y (suc i)) x ≤ S p x
   leaves-le p r x =
-      out-le m (λ i. is (q i) p) (λ i. y (suc i)) y (S p) (λ i l. is-le (q i) p) (λ i l e. exchange i p l r (is-one (q i) p e) .a-in)
+      out-le m (λ i. is (q i) p) (λ i. y (suc i)) (λ i l. is-le (q i) p) (S p) (λ i l e. exchange i p l r (is-one (q i) p e) .a-in)
       (λ i j l k d e. sources-differ i j l k) x
 
   -- What a row has after the turn, with what left it, is what it had, with what came in.
   turned : (p : ℕ) → p < P → (x : ℕ)
       → turn m y q S p x + picked m (λ i. is (q i) p) (λ i. y (suc i)) x ≡ S p x + picked m (λ i. is (q i) p) y x
   unfolding turn
-  turned p r x = omega (arith, leaves-le p r x)
+  turned p r x = several-at m (λ i. is (q i) p) (λ i. y (suc i)) y (S p) x (leaves-le p r x)
 
   -- Pairs that are not free stay.
   turn-agrees : Agree P N free S (turn m y q S)
   unfolding turn
   turn-agrees p r b l e =
-      omega
-      (arith, still y (λ i k d a. subst (λ (t : ℕ). free p t ≡ 1) a (exchange i p k r d .b-free)),
-      still (λ i. y (suc i)) (λ i k d a. subst (λ (t : ℕ). free p t ≡ 1) a (exchange i p k r d .a-free)))
+      omega (
+        arith,
+        still y (λ i k d a. subst (λ (t : ℕ). free p t ≡ 1) a (exchange i p k r d .b-free)),
+        still (λ i. y (suc i)) (λ i k d a. subst (λ (t : ℕ). free p t ≡ 1) a (exchange i p k r d .a-free)),
+      )
     where
       still : (f : ℕ → ℕ) → ((i : ℕ) → i < m → q i ≡ p → f i ≡ b → free p b ≡ 1) → picked m (λ i. is (q i) p) f b ≡ 0
       still f h =
@@ -163,9 +159,12 @@ module _ (P N R Z C : ℕ) (zone cap : ℕ → ℕ) (g free S : ℕ → ℕ → 
 
       balance : copies P (turn m y q S) b + sumTo m (out (λ i. y (suc i))) ≡ copies P S b + sumTo m (out y)
       balance =
-          omega
-          (arith, sum-balance P (λ p. turn m y q S p b) (λ p. picked m (λ i. is (q i) p) (λ i. y (suc i)) b) (λ p. S p b) (λ p. picked m (λ i. is (q i) p) y b) (λ p r. turned p r b),
-          sum-swap P m (λ p i. is (q i) p * is (y i) b), sum-swap P m (λ p i. is (q i) p * is (y (suc i)) b))
+          omega (
+            arith,
+            sum-balance P (λ p. turn m y q S p b) (λ p. picked m (λ i. is (q i) p) (λ i. y (suc i)) b) (λ p. S p b) (λ p. picked m (λ i. is (q i) p) y b) (λ p r. turned p r b),
+            sum-swap P m (λ p i. is (q i) p * is (y i) b),
+            sum-swap P m (λ p i. is (q i) p * is (y (suc i)) b),
+          )
 
       one : (i : ℕ) × (i < m) × (out (λ i. y (suc i)) i < is (y (suc i)) b) → copies P (turn m y q S) b ≤ cap b
       one (i, k, a) =
@@ -180,16 +179,21 @@ module _ (P N R Z C : ℕ) (zone cap : ℕ → ℕ) (g free S : ℕ → ℕ → 
   pub turn-weighs : ((p b : ℕ) → g p b ≤ C) → weigh P N g (turn m y q S) + costs P C g m y q ≡ weigh P N g S + m * C
   unfolding weigh turn
   turn-weighs light =
-      omega
-      (arith, rows, sum-swap P m (λ p i. is (q i) p * g p (y i)), sum-swap P m (λ p i. is (q i) p * g p (y (suc i))), sum-const m C,
-      sum-balance m (λ i. cost P C g (q i) (y (suc i)) (y i)) (λ i. sumTo P (λ p. is (q i) p * g p (y i))) (λ i. C) (λ i. sumTo P (λ p. is (q i) p * g p (y (suc i))))
-      (λ i l. cost-law P C g light (q i) (y (suc i)) (y i)))
+      omega (
+        arith,
+        rows,
+        sum-swap P m (λ p i. is (q i) p * g p (y i)),
+        sum-swap P m (λ p i. is (q i) p * g p (y (suc i))),
+        sum-const m C,
+        sum-balance m (λ i. cost P C g (q i) (y (suc i)) (y i)) (λ i. sumTo P (λ p. is (q i) p * g p (y i))) (λ i. C) (λ i. sumTo P (λ p. is (q i) p * g p (y (suc i))))
+            (λ i l. cost-law P C g light (q i) (y (suc i)) (y i)),
+      )
     where
       rows : weigh P N g (turn m y q S) + sumTo P (λ p. sumTo m (λ i. is (q i) p * g p (y (suc i)))) ≡ weigh P N g S + sumTo P (λ p. sumTo m (λ i. is (q i) p * g p (y i)))
       rows =
           sum-balance P (λ p. sumTo N (λ x. turn m y q S p x * g p x)) (λ p. sumTo m (λ i. is (q i) p * g p (y (suc i)))) (λ p. sumTo N (λ x. S p x * g p x))
           (λ p. sumTo m (λ i. is (q i) p * g p (y i)))
-          (λ p r. several-sum m (λ i. is (q i) p) (λ i. y (suc i)) y (S p) (λ i l. is-le (q i) p) N (g p) (λ i l e. ends i l) (λ x l. leaves-le p r x))
+          (λ p r. several-sum m (λ i. is (q i) p) (λ i. y (suc i)) y (S p) (λ i l. is-le (q i) p) N (λ i l e. ends i l) (λ x l. leaves-le p r x) (g p))
 
   -- ---- all together
 
@@ -206,13 +210,14 @@ module _ (P N R Z C : ℕ) (zone cap : ℕ → ℕ) (g free S : ℕ → ℕ → 
 
   -- The layout after the turn of a circuit in which no two exchanges can be crossed is better.
   pub turn-better : ((x : ℕ) → x < N → zone x < N) → ((p b : ℕ) → g p b ≤ C) → Within P N R Z zone cap S
-      → ((i j : ℕ) → i < j → j < m → Crossed P N R Z zone free S y q i j → ⊥) → Better P N R Z C zone cap g free S (turn m y q S)
+      → Uncrossed P N R Z zone free S m y q → Better P N R Z C zone cap g free S (turn m y q S)
   turn-better zones light w uncrossed =
-      record
-      { within = record { rows = rows; caps = turn-caps (w .caps) };
+      record {
+        within = record { rows = rows; caps = turn-caps (w .caps) };
         agrees = turn-agrees;
         more = omega (arith, turn-weighs light, c .gains);
-        most = omega (arith, turn-weighs light, mul-le-mul-right C at-most-nodes) }
+        most = omega (arith, turn-weighs light, mul-le-mul-right C at-most-nodes);
+      }
     where
       rows : (p : ℕ) → p < P → Valid N R Z zone (turn m y q S p)
       rows p r =

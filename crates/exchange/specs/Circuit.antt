@@ -42,7 +42,11 @@ pub record Crossed (P N R Z : ℕ) (zone : ℕ → ℕ) (free S : ℕ → ℕ �
   pub outer : Exchange N R Z zone free S (q i) (y (suc j)) (y i)
   pub inner : Exchange N R Z zone free S (q i) (y (suc i)) (y j)
 
--- What a step of a layout is to be: within the caps, free pairs alone changed, and heavier, by at most C for each node.
+-- A circuit of length m in which no two exchanges can be crossed.
+abbrev pub Uncrossed : (P N R Z : ℕ) (zone : ℕ → ℕ) (free S : ℕ → ℕ → ℕ) (m : ℕ) (y q : ℕ → ℕ) → Type 0
+Uncrossed P N R Z zone free S m y q = (i j : ℕ) → i < j → j < m → Crossed P N R Z zone free S y q i j → ⊥
+
+-- T is a better layout than S: within the caps, changed in free pairs only, and heavier, by C for each node at most.
 pub record Better (P N R Z C : ℕ) (zone cap : ℕ → ℕ) (g free S T : ℕ → ℕ → ℕ) : Type 0 where
   pub within : Within P N R Z zone cap T
   pub agrees : Agree P N free S T

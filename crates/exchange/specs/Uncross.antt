@@ -15,6 +15,9 @@ pub record Walk : Type 0 where
   pub node : ℕ → ℕ
   pub partition : ℕ → ℕ
 
+abbrev pub walk : ℕ → (ℕ → ℕ) → (ℕ → ℕ) → Walk
+walk m y q = record { len = m; node = y; partition = q }
+
 -- The first of the n numbers from t on that passes the test, or t + n where none does.
 unfoldable pub seek : ℕ → (ℕ → Bool) → ℕ → ℕ
 seek zero test t = t
@@ -42,7 +45,7 @@ wrap i k t = cond (ltb t k) (t + suc i) (suc i)
 
 -- The walk of length n whose entry t is entry f t of w.
 abbrev pub part : ℕ → (ℕ → ℕ) → Walk → Walk
-part n f w = record { len = n; node = λ t. w .node (f t); partition = λ t. w .partition (f t) }
+part n f w = walk n (λ t. w .node (f t)) (λ t. w .partition (f t))
 
 -- The two parts of a circuit whose arcs i and j are crossed.
 abbrev pub inner : Walk → ℕ → ℕ → Walk
@@ -67,13 +70,9 @@ uncross (suc n) P C g ok w =
     let r = uncross n P C g ok (split P C g w i (partner P ok w i)) in
     cond (ltb i (w .len)) r w
 
--- The layout after the turn of a walk.
-abbrev pub turn-walk : Walk → (ℕ → ℕ → ℕ) → ℕ → ℕ → ℕ
-turn-walk w S = turn (w .len) (w .node) (w .partition) S
-
 -- The layout that a circuit leads to: freed of crossed pairs, then turned.
 unfoldable pub improved : ℕ → ℕ → (ℕ → ℕ → ℕ) → (ℕ → ℕ → ℕ → Bool) → Walk → (ℕ → ℕ → ℕ) → ℕ → ℕ → ℕ
-improved P C g ok w S = turn-walk (uncross (w .len) P C g ok w) S
+improved P C g ok w S = let u = uncross (w .len) P C g ok w in turn (u .len) (u .node) (u .partition) S
 
 -- A walk that is a circuit of the layout S.
 abbrev pub Round : (P N R Z C : ℕ) (zone cap : ℕ → ℕ) (g free S : ℕ → ℕ → ℕ) → Walk → Type 0
