@@ -2,18 +2,17 @@
 -- pairs only, and is heavier.
 -- Assumes nothing.
 use Prim.Native.Nat.{ℕ, zero, suc, _+_, _-_, _*_, _≤_, _<_}
-use mathlib.Core.Path.{_≡_, refl, sym, ap, ap₂, _∙_, subst}
-use mathlib.Core.Bool.{Bool, true, false, cond}
-use mathlib.Core.Logic.{_⊎_, inl, inr, ⊎-elim}
-use native.Mathlib.Nat.{add-zero, one-mul, zero-mul, mul-one, mul-le-mul-right}
+use mathlib.Core.Path.{_≡_, refl, sym, ap, _∙_, subst}
+use mathlib.Core.Bool.{Bool, cond}
+use mathlib.Core.Logic.{⊎-elim}
+use native.Mathlib.Nat.{zero-mul, mul-le-mul-right}
 use native.Mathlib.Omega.{arith}
-use lib.Dec.{ltb}
 use borrow.Author.Tests.{lt-ltb, le-ltb}
 use Rattle.sums.specs.Sum.{sumTo, is, hits}
-use Rattle.sums.proofs.Sum.{lt-or-ge, eq-or-ne, is-ne, is-le, is-one, is-cases, sum-cong, sum-le, sum-zero, sum-add, sum-const, sum-swap, sum-is, sum-witness}
-use Rattle.sums.proofs.Count.{sum-pos, two-bits, pigeonhole}
+use Rattle.sums.proofs.Sum.{lt-or-ge, is-ne, is-le, is-one, sum-cong, sum-le, sum-zero, sum-add, sum-const, sum-swap, sum-is, sum-witness}
+use Rattle.sums.proofs.Count.{two-bits, pigeonhole}
 use Rattle.exchange.specs.Row.{Valid, Within, Agree, Exchange, swap, copies, weigh}
-use Rattle.exchange.specs.Circuit.{cost, costs, Allowed, Circuit, Crossed, Uncrossed, Better, turn}
+use Rattle.exchange.specs.Circuit.{cost, costs, Circuit, Crossed, Uncrossed, Better, turn}
 use Rattle.exchange.proofs.Picked.{picked, picked-at, out-le, several-at, several-sum}
 use Rattle.exchange.proofs.Several.{several-valid}
 
@@ -33,7 +32,8 @@ sum-next (suc n) f = omega (arith, sum-next n f)
 
 -- The sum that picks one index picks nothing where that index is beyond it.
 sum-none : (n k : ℕ) (f : ℕ → ℕ) → n ≤ k → sumTo n (λ i. is k i * f i) ≡ 0
-sum-none n k f h = sum-zero n (λ i. is k i * f i) (λ i l. ap (λ (t : ℕ). t * f i) (is-ne {a = k} {b = i} (λ e. omega arith)) ∙ zero-mul (f i))
+sum-none n k f h =
+    sum-zero n (λ i. is k i * f i) (λ i l. ap (λ (t : ℕ). t * f i) (is-ne {a = k} {b = i} (λ e. omega arith)) ∙ zero-mul (f i))
 
 -- ---- the cost of an arc
 
@@ -56,9 +56,16 @@ module _ (P C : ℕ) (g : ℕ → ℕ → ℕ) (light : (p b : ℕ) → g p b �
 
 -- ---- what a circuit is made of
 
+-- The source of an arc, and whether an arc is of partition p.
+abbrev next : (ℕ → ℕ) → ℕ → ℕ
+next y i = y (suc i)
+
+abbrev mask : (ℕ → ℕ) → ℕ → ℕ → ℕ
+mask q p i = is (q i) p
+
 -- Of two exchanges of a row, the source of one and the target of the other.
-pub mixed : {N R Z : ℕ} {zone : ℕ → ℕ} {free S : ℕ → ℕ → ℕ} {p a b d e : ℕ} → Exchange N R Z zone free S p a b → Exchange N R Z zone free S p d e
-    → Valid N R Z zone (swap (S p) a e) → Exchange N R Z zone free S p a e
+pub mixed : {N R Z : ℕ} {zone : ℕ → ℕ} {free S : ℕ → ℕ → ℕ} {p a b d e : ℕ}
+    → Exchange N R Z zone free S p a b → Exchange N R Z zone free S p d e → Valid N R Z zone (swap (S p) a e) → Exchange N R Z zone free S p a e
 mixed u w v =
     record { a-node = u .a-node; b-node = w .b-node; a-in = u .a-in; b-out = w .b-out; a-free = u .a-free; b-free = w .b-free; valid = v }
 
@@ -110,16 +117,16 @@ module _ (P N R Z C : ℕ) (zone cap : ℕ → ℕ) (g free S : ℕ → ℕ → 
   -- ---- one row of the layout after the turn
 
   -- No more leaves a row than is there.
-  leaves-le : (p : ℕ) → p < P → (x : ℕ) → picked m (λ i. is (q i) p) (λ i. y (suc i)) x ≤ S p x
+  leaves-le : (p : ℕ) → p < P → (x : ℕ) → picked m (mask q p) (next y) x ≤ S p x
   leaves-le p r x =
-      out-le m (λ i. is (q i) p) (λ i. y (suc i)) (λ i l. is-le (q i) p) (S p) (λ i l e. exchange i p l r (is-one (q i) p e) .a-in)
+      out-le m (mask q p) (next y) (λ i l. is-le (q i) p) (S p) (λ i l e. exchange i p l r (is-one (q i) p e) .a-in)
       (λ i j l k d e. sources-differ i j l k) x
 
   -- What a row has after the turn, with what left it, is what it had, with what came in.
   turned : (p : ℕ) → p < P → (x : ℕ)
-      → turn m y q S p x + picked m (λ i. is (q i) p) (λ i. y (suc i)) x ≡ S p x + picked m (λ i. is (q i) p) y x
+      → turn m y q S p x + picked m (mask q p) (next y) x ≡ S p x + picked m (mask q p) y x
   unfolding turn
-  turned p r x = several-at m (λ i. is (q i) p) (λ i. y (suc i)) y (S p) x (leaves-le p r x)
+  turned p r x = several-at m (mask q p) (next y) y (S p) x (leaves-le p r x)
 
   -- Pairs that are not free stay.
   turn-agrees : Agree P N free S (turn m y q S)
@@ -128,23 +135,24 @@ module _ (P N R Z C : ℕ) (zone cap : ℕ → ℕ) (g free S : ℕ → ℕ → 
       omega (
         arith,
         still y (λ i k d a. subst (λ (t : ℕ). free p t ≡ 1) a (exchange i p k r d .b-free)),
-        still (λ i. y (suc i)) (λ i k d a. subst (λ (t : ℕ). free p t ≡ 1) a (exchange i p k r d .a-free)),
+        still (next y) (λ i k d a. subst (λ (t : ℕ). free p t ≡ 1) a (exchange i p k r d .a-free)),
       )
     where
-      still : (f : ℕ → ℕ) → ((i : ℕ) → i < m → q i ≡ p → f i ≡ b → free p b ≡ 1) → picked m (λ i. is (q i) p) f b ≡ 0
+      still : (f : ℕ → ℕ) → ((i : ℕ) → i < m → q i ≡ p → f i ≡ b → free p b ≡ 1) → picked m (mask q p) f b ≡ 0
       still f h =
           ⊎-elim (λ a. omega arith)
-          (λ d. let w = picked-at m (λ i. is (q i) p) f (λ i k. is-le (q i) p) b d in
+          (λ d. let w = picked-at m (mask q p) f (λ i k. is-le (q i) p) b d in
           absurd (omega (arith, h (w .0) (w .1) (is-one (q (w .0)) p (w .2)) (w .3))))
-          (lt-or-ge (picked m (λ i. is (q i) p) f b) 1)
+          (lt-or-ge (picked m (mask q p) f b) 1)
 
   -- ---- the copies of a node
 
   -- Where a node has more copies than before, its leaving arc is a step over the store, which it had room for.
   turn-caps : ((b : ℕ) → b < N → copies P S b ≤ cap b) → (b : ℕ) → b < N → copies P (turn m y q S) b ≤ cap b
   unfolding hits copies
-  turn-caps h b l = ⊎-elim (λ a. one (sum-witness m (out (λ i. y (suc i))) (λ i. is (y (suc i)) b) a)) (λ r. omega (arith, balance, comes, left b, h b l))
-      (lt-or-ge (sumTo m (out (λ i. y (suc i)))) (sumTo m (λ i. is (y (suc i)) b)))
+  turn-caps h b l =
+      ⊎-elim (λ a. one (sum-witness m (out (next y)) (λ i. is (next y i) b) a)) (λ r. omega (arith, balance, comes, left b, h b l))
+      (lt-or-ge (sumTo m (out (next y))) (sumTo m (λ i. is (next y i) b)))
     where
       out : (ℕ → ℕ) → ℕ → ℕ
       out f i = sumTo P (λ p. is (q i) p * is (f i) b)
@@ -157,18 +165,19 @@ module _ (P N R Z C : ℕ) (zone cap : ℕ → ℕ) (g free S : ℕ → ℕ → 
           sum-le m (out y) (λ i. is (y i) b)
           (λ i k. ⊎-elim (λ r. omega (arith, out-row y i r)) (λ r. omega (arith, sum-none P (q i) (λ p. is (y i) b) r)) (lt-or-ge (q i) P))
 
-      balance : copies P (turn m y q S) b + sumTo m (out (λ i. y (suc i))) ≡ copies P S b + sumTo m (out y)
+      balance : copies P (turn m y q S) b + sumTo m (out (next y)) ≡ copies P S b + sumTo m (out y)
       balance =
           omega (
             arith,
-            sum-balance P (λ p. turn m y q S p b) (λ p. picked m (λ i. is (q i) p) (λ i. y (suc i)) b) (λ p. S p b) (λ p. picked m (λ i. is (q i) p) y b) (λ p r. turned p r b),
+            sum-balance P (λ p. turn m y q S p b) (λ p. picked m (mask q p) (next y) b) (λ p. S p b) (λ p. picked m (mask q p) y b)
+                (λ p r. turned p r b),
             sum-swap P m (λ p i. is (q i) p * is (y i) b),
             sum-swap P m (λ p i. is (q i) p * is (y (suc i)) b),
           )
 
-      one : (i : ℕ) × (i < m) × (out (λ i. y (suc i)) i < is (y (suc i)) b) → copies P (turn m y q S) b ≤ cap b
+      one : (i : ℕ) × (i < m) × (out (next y) i < is (y (suc i)) b) → copies P (turn m y q S) b ≤ cap b
       one (i, k, a) =
-          ⊎-elim (λ r. absurd (omega (arith, out-row (λ i. y (suc i)) i r)))
+          ⊎-elim (λ r. absurd (omega (arith, out-row (next y) i r)))
           (λ r. let e : y (suc i) ≡ b = is-one (y (suc i)) b (omega (arith, is-le (y (suc i)) b)) in
           omega (arith, balance, comes, once b, subst (λ (x : ℕ). copies P S x < cap x) e (room i k r)))
           (lt-or-ge (q i) P)
@@ -181,19 +190,23 @@ module _ (P N R Z C : ℕ) (zone cap : ℕ → ℕ) (g free S : ℕ → ℕ → 
   turn-weighs light =
       omega (
         arith,
-        rows,
-        sum-swap P m (λ p i. is (q i) p * g p (y i)),
-        sum-swap P m (λ p i. is (q i) p * g p (y (suc i))),
+        sum-balance P (λ p. sumTo N (λ x. turn m y q S p x * g p x)) (λ p. sumTo m (at (next y) p)) (λ p. sumTo N (λ x. S p x * g p x))
+            (λ p. sumTo m (at y p)) row,
+        sum-swap P m (at y),
+        sum-swap P m (at (next y)),
+        sum-balance m (λ i. cost P C g (q i) (next y i) (y i)) (λ i. sumTo P (λ p. at y p i)) (λ i. C) (λ i. sumTo P (λ p. at (next y) p i))
+            (λ i l. cost-law P C g light (q i) (next y i) (y i)),
         sum-const m C,
-        sum-balance m (λ i. cost P C g (q i) (y (suc i)) (y i)) (λ i. sumTo P (λ p. is (q i) p * g p (y i))) (λ i. C) (λ i. sumTo P (λ p. is (q i) p * g p (y (suc i))))
-            (λ i l. cost-law P C g light (q i) (y (suc i)) (y i)),
       )
     where
-      rows : weigh P N g (turn m y q S) + sumTo P (λ p. sumTo m (λ i. is (q i) p * g p (y (suc i)))) ≡ weigh P N g S + sumTo P (λ p. sumTo m (λ i. is (q i) p * g p (y i)))
-      rows =
-          sum-balance P (λ p. sumTo N (λ x. turn m y q S p x * g p x)) (λ p. sumTo m (λ i. is (q i) p * g p (y (suc i)))) (λ p. sumTo N (λ x. S p x * g p x))
-          (λ p. sumTo m (λ i. is (q i) p * g p (y i)))
-          (λ p r. several-sum m (λ i. is (q i) p) (λ i. y (suc i)) y (S p) (λ i l. is-le (q i) p) N (λ i l e. ends i l) (λ x l. leaves-le p r x) (g p))
+      -- The weight at partition p of the end f of arc i.
+      at : (ℕ → ℕ) → ℕ → ℕ → ℕ
+      at f p i = is (q i) p * g p (f i)
+
+      row : (p : ℕ) → p < P
+          → sumTo N (λ x. turn m y q S p x * g p x) + sumTo m (at (next y) p) ≡ sumTo N (λ x. S p x * g p x) + sumTo m (at y p)
+      row p r =
+          several-sum m (mask q p) (next y) y (S p) (λ i l. is-le (q i) p) N (λ i l e. ends i l) (λ x l. leaves-le p r x) (g p)
 
   -- ---- all together
 
@@ -222,7 +235,7 @@ module _ (P N R Z C : ℕ) (zone cap : ℕ → ℕ) (g free S : ℕ → ℕ → 
       rows : (p : ℕ) → p < P → Valid N R Z zone (turn m y q S p)
       rows p r =
           unfold turn in
-          several-valid N R Z zone (S p) zones (w .rows p r) m (λ i. is (q i) p) (λ i. y (suc i)) y (λ i l. is-le (q i) p)
+          several-valid N R Z zone (S p) zones (w .rows p r) m (mask q p) (next y) y (λ i l. is-le (q i) p)
           (λ i l e. let x = exchange i p l r (is-one (q i) p e) in (x .a-node, x .b-node, x .a-in, x .b-out, x .valid))
           (λ i j l k d e. (sources-differ i j l k, c .distinct i j l k))
           (λ i j l k d e v w. uncrossed i j l k (crossing i j p (omega arith) k r (is-one (q i) p d) (is-one (q j) p e) v w))

@@ -5,3 +5,4 @@ pub mod Picked
 pub mod Several
 pub mod Circuit
 pub mod Uncross
+pub mod Walk

@@ -3,15 +3,15 @@
 use Prim.Native.Nat.{ℕ, zero, suc, _+_, _-_, _*_, _≤_, _<_}
 use mathlib.Core.Path.{_≡_, refl, sym, ap, ap₂, _∙_, subst}
 use mathlib.Core.Bool.{Bool, true, false, cond, _&&_, and-eq-true-iff, true≢false}
-use mathlib.Core.Logic.{_⊎_, inl, inr, ⊎-elim}
+use mathlib.Core.Logic.{inl, ⊎-elim}
 use native.Mathlib.Nat.{add-mul}
 use native.Mathlib.Omega.{arith}
-use lib.Dec.{ltb, leb, eqb}
+use lib.Dec.{ltb, eqb}
 use borrow.Author.Tests.{ltb-true, ltb-false, lt-ltb, le-ltb, le-leb, lt-leb, eqb-true, eq-eqb}
 use Rattle.sums.specs.Sum.{sumTo}
 use Rattle.sums.proofs.Sum.{lt-or-ge, eq-or-ne, sum-cong, sum-split}
-use Rattle.exchange.specs.Row.{Valid, Within, Exchange, swap}
-use Rattle.exchange.specs.Circuit.{cost, costs, Allowed, Circuit, Crossed, Uncrossed, Better, turn}
+use Rattle.exchange.specs.Row.{Within}
+use Rattle.exchange.specs.Circuit.{cost, Allowed, Crossed, Uncrossed, Better}
 use Rattle.exchange.specs.Uncross.{Walk, seek, crosses, partner, first, skip, wrap, part, inner, outer, walk-costs, split, uncross, improved, Round, Right}
 use Rattle.exchange.proofs.Circuit.{cost-row, exchange, turn-better}
 
@@ -33,21 +33,25 @@ sum-but-one (suc n) s f h l e =
 
 -- ---- where the entries of the two parts stand
 
-skip-low : (i k t : ℕ) → t ≤ i → skip i k t ≡ t
+-- The laws of the two ways to count anew.
+pub skip-low : (i k t : ℕ) → t ≤ i → skip i k t ≡ t
 unfolding skip
 skip-low i k t l = ap (λ (b : Bool). cond b t (t + k)) (le-leb t i l)
 
-skip-high : (i k t : ℕ) → i < t → skip i k t ≡ t + k
+pub skip-high : (i k t : ℕ) → i < t → skip i k t ≡ t + k
 unfolding skip
 skip-high i k t l = ap (λ (b : Bool). cond b t (t + k)) (lt-leb t i l)
 
-wrap-low : (i k t : ℕ) → t < k → wrap i k t ≡ t + suc i
+pub wrap-low : (i k t : ℕ) → t < k → wrap i k t ≡ t + suc i
 unfolding wrap
 wrap-low i k t l = ap (λ (b : Bool). cond b (t + suc i) (suc i)) (lt-ltb t k l)
 
-wrap-end : (i k t : ℕ) → k ≤ t → wrap i k t ≡ suc i
+pub wrap-end : (i k t : ℕ) → k ≤ t → wrap i k t ≡ suc i
 unfolding wrap
 wrap-end i k t l = ap (λ (b : Bool). cond b (t + suc i) (suc i)) (le-ltb t k l)
+
+pub skip-le : (i k t : ℕ) → skip i k t ≤ t + k
+skip-le i k t = ⊎-elim (λ a. omega (arith, skip-high i k t a)) (λ b. omega (arith, skip-low i k t b)) (lt-or-ge i t)
 
 -- The two parts have the entries of the whole.
 parts-sum : (m i j : ℕ) (f : ℕ → ℕ) → i < j → j < m
@@ -89,6 +93,7 @@ module _ (P N R Z C : ℕ) (zone cap : ℕ → ℕ) (g free S : ℕ → ℕ → 
         gains = gains;
       }
 
+  -- Both parts are shorter than the whole and not empty, as i < j < len.
   module _ (i j : ℕ) (l : i < j) (h : j < w .len) (x : Crossed P N R Z zone free S (w .node) (w .partition) i j) where
     -- How many entries stand between the two.
     abbrev k : ℕ
@@ -100,12 +105,9 @@ module _ (P N R Z C : ℕ) (zone cap : ℕ → ℕ) (g free S : ℕ → ℕ → 
         (λ b. let a : i < t = omega (arith, d) in omega (arith, skip-high i k (suc t) (omega arith), skip-high i k t a))
         (lt-or-ge t i)
 
-    skip-le : (t : ℕ) → skip i k t ≤ t + k
-    skip-le t = ⊎-elim (λ a. omega (arith, skip-high i k t a)) (λ b. omega (arith, skip-low i k t b)) (lt-or-ge i t)
-
     skip-rises : (t u : ℕ) → t < u → skip i k t < skip i k u
     skip-rises t u a =
-        ⊎-elim (λ b. omega (arith, skip-le t, skip-high i k u b)) (λ b. omega (arith, skip-low i k u b, skip-low i k t (omega arith)))
+        ⊎-elim (λ b. omega (arith, skip-le i k t, skip-high i k u b)) (λ b. omega (arith, skip-low i k u b, skip-low i k t (omega arith)))
         (lt-or-ge i u)
 
     skip-last : skip i k (w .len - k) ≡ w .len
@@ -124,14 +126,14 @@ module _ (P N R Z C : ℕ) (zone cap : ℕ → ℕ) (g free S : ℕ → ℕ → 
     wrap-cross = wrap-end i k (suc (k - 1)) (omega arith)
 
     -- The outer part is a circuit if it gains.
-    outer-circuit : walk-costs P C g (outer w i j) < (w .len - k) * C → Round P N R Z C zone cap g free S (outer w i j)
+    pub outer-circuit : walk-costs P C g (outer w i j) < (w .len - k) * C → Round P N R Z C zone cap g free S (outer w i j)
     outer-circuit =
-        part-circuit (w .len - k) i (skip i k) (λ t a. omega (arith, skip-le t)) (λ t u a b. skip-rises t u a)
+        part-circuit (w .len - k) i (skip i k) (λ t a. omega (arith, skip-le i k t)) (λ t u a b. skip-rises t u a)
         (ap (w .node) skip-last ∙ (c .closed ∙ ap (w .node) (sym (skip-low i k 0 (omega arith))))) (λ t a d. skip-on t d)
         (arc-at skip-cross (skip-low i k i (omega arith)) (inl (x .row, x .outer)))
 
     -- The inner part is a circuit if it gains.
-    inner-circuit : walk-costs P C g (inner w i j) < k * C → Round P N R Z C zone cap g free S (inner w i j)
+    pub inner-circuit : walk-costs P C g (inner w i j) < k * C → Round P N R Z C zone cap g free S (inner w i j)
     inner-circuit =
         part-circuit k (k - 1) (wrap i k) (λ t a. omega (arith, wrap-low i k t a))
         (λ t u a b. omega (arith, wrap-low i k t (omega arith), wrap-low i k u b))
@@ -140,7 +142,7 @@ module _ (P N R Z C : ℕ) (zone cap : ℕ → ℕ) (g free S : ℕ → ℕ → 
         (subst (λ (p : ℕ). Allowed P N R Z zone cap free S p (w .node (suc i)) (w .node j)) (x .same) (inl (x .row, x .inner))))
 
     -- The two parts cost what the whole costs.
-    parts-cost : ((p b : ℕ) → g p b ≤ C) → walk-costs P C g (outer w i j) + walk-costs P C g (inner w i j) ≡ walk-costs P C g w
+    pub parts-cost : ((p b : ℕ) → g p b ≤ C) → walk-costs P C g (outer w i j) + walk-costs P C g (inner w i j) ≡ walk-costs P C g w
     parts-cost light =
         omega (
           arith,
@@ -209,7 +211,7 @@ module _ (P N R Z C : ℕ) (zone cap : ℕ → ℕ) (g free S : ℕ → ℕ → 
             ))
 
 -- The part to go on with is shorter.
-split-shorter : (P C : ℕ) (g : ℕ → ℕ → ℕ) (w : Walk) (i j : ℕ) → i < j → j < w .len → split P C g w i j .len < w .len
+pub split-shorter : (P C : ℕ) (g : ℕ → ℕ → ℕ) (w : Walk) (i j : ℕ) → i < j → j < w .len → split P C g w i j .len < w .len
 unfolding split
 split-shorter P C g w i j l h = go (ltb (walk-costs P C g (inner w i j)) ((j - i) * C))
   where
@@ -243,6 +245,7 @@ seek-found (suc n) test t = go (seek n test (suc t)) (test t) refl (seek-found n
               ⊎-elim (λ a. h .fails u a k) (λ b. let d : t ≡ u = omega arith in subst (λ (v : ℕ). test v ≡ false) d e) (lt-or-ge t u);
         }
 
+-- What the two searches for a crossed pair find.
 pub partner-found : (P : ℕ) (ok : ℕ → ℕ → ℕ → Bool) (w : Walk) (i : ℕ)
     → Found (w .len - suc i) (crosses P ok (w .node) (w .partition) i) (suc i) (partner P ok w i)
 unfolding partner

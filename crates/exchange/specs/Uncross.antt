@@ -4,7 +4,7 @@
 -- Assumes nothing.
 use Prim.Native.Nat.{ℕ, zero, suc, _+_, _-_, _*_, _≤_, _<_}
 use mathlib.Core.Path.{_≡_}
-use mathlib.Core.Bool.{Bool, true, false, cond, _&&_}
+use mathlib.Core.Bool.{Bool, true, cond, _&&_}
 use lib.Dec.{ltb, leb, eqb}
 use Rattle.exchange.specs.Row.{Exchange}
 use Rattle.exchange.specs.Circuit.{costs, turn, Circuit}
@@ -74,11 +74,17 @@ uncross (suc n) P C g ok w =
 unfoldable pub improved : ℕ → ℕ → (ℕ → ℕ → ℕ) → (ℕ → ℕ → ℕ → Bool) → Walk → (ℕ → ℕ → ℕ) → ℕ → ℕ → ℕ
 improved P C g ok w S = let u = uncross (w .len) P C g ok w in turn (u .len) (u .node) (u .partition) S
 
+-- Two walks that have one length, and the same nodes and partitions in it.
+pub record Same (w u : Walk) : Type 0 where
+  pub lens : w .len ≡ u .len
+  pub nodes : (t : ℕ) → t ≤ w .len → w .node t ≡ u .node t
+  pub partitions : (t : ℕ) → t < w .len → w .partition t ≡ u .partition t
+
 -- A walk that is a circuit of the layout S.
 abbrev pub Round : (P N R Z C : ℕ) (zone cap : ℕ → ℕ) (g free S : ℕ → ℕ → ℕ) → Walk → Type 0
 Round P N R Z C zone cap g free S w = Circuit P N R Z C zone cap g free S (w .len) (w .node) (w .partition)
 
--- The test ok is right for the layout S: of a node in the row and one outside it tells whether the exchange may be.
+-- The test ok is right for the layout S: of a node of a row and one outside, it tells whether they may be exchanged.
 pub record Right (P N R Z : ℕ) (zone : ℕ → ℕ) (free S : ℕ → ℕ → ℕ) (ok : ℕ → ℕ → ℕ → Bool) : Type 0 where
   pub sound : (p a b : ℕ) → p < P → a < N → b < N → S p a ≡ 1 → S p b ≡ 0 → ok p a b ≡ true → Exchange N R Z zone free S p a b
   pub complete : (p a b : ℕ) → p < P → Exchange N R Z zone free S p a b → ok p a b ≡ true
