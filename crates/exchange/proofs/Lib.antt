@@ -5,3 +5,6 @@ pub mod Picked
 pub mod Several
 pub mod Levels
 pub mod Search
+pub mod Circuit
+pub mod Uncross
+pub mod Walk
