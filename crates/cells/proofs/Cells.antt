@@ -2,13 +2,13 @@
 -- Assumes nothing.
 use Prim.Native.Nat.{ℕ, zero, suc, _+_, _-_, _*_, _≤_, _<_}
 use mathlib.Core.Path.{_≡_, refl, sym, ap, ap₂, _∙_, subst}
-use mathlib.Core.List.{List, [], _∷_, _++_, append-assoc}
+use mathlib.Core.List.{List, [], _∷_, _++_, map, append-assoc}
 use mathlib.Core.Logic.{⊎-elim}
-use native.Mathlib.Nat.{add-zero, add-suc}
+use native.Mathlib.Nat.{add-zero, sub-zero}
 use native.Mathlib.Numerals.{add-one}
 use native.Mathlib.Omega.{arith}
-use lib.ListN.{length, take, drop, getD, set, length-append, length-set, length-take, length-drop, List·getD-append}
-use lib.Seq.{drop-cons, take-suc, set-at, getD-append-add, getD-set-same, getD-set-other, ext-getD, take-append-le, take-at, drop-at, getD-take, getD-drop, drop-set-lt, take-set-le}
+use lib.ListN.{length, take, drop, getD, set, length-append, length-set, length-map, List·getD-append}
+use lib.Seq.{drop-cons, set-at, getD-append-add, getD-set-same, getD-set-other, ext-getD}
 use Rattle.sums.proofs.Sum.{lt-or-ge}
 use Rattle.cells.specs.Cells.{tab, put}
 
@@ -87,3 +87,22 @@ module _ {A : Type 0} where
       ap (λ (i : ℕ). getD (set (put b f n l) (b + n) (f n)) (b + i) d) e
       ∙ (getD-set-same (put b f n l) (b + n) (f n) d (omega (arith, length-put b f n l)) ∙ ap f (sym e)))
       (lt-or-ge j n)
+
+  -- What a scan of the first n cells has before it at cell i: that cell, then what it has before it at cell i + 1.
+  pub rest-cons : (l : List A) (n i : ℕ) (d : A) → i < n → n ≤ length l → take (n - i) (drop i l) ≡ getD l i d ∷ take (n - (i + 1)) (drop (i + 1) l)
+  rest-cons l n i d h k =
+      let e : n - i ≡ suc (n - (i + 1)) = omega arith in
+      ap₂ (λ (m : ℕ) (r : List A). take m r) e (drop-cons l i d (omega arith))
+      ∙ ap (λ (j : ℕ). getD l i d ∷ take (n - (i + 1)) (drop j l)) (sym (add-one i))
+
+  -- A scan that has not begun has all of the first n cells before it.
+  pub rest-all : (l : List A) (n : ℕ) → take n l ≡ take (n - 0) (drop 0 l)
+  rest-all l n = ap (λ (k : ℕ). take k l) (sym (sub-zero n))
+
+  -- A scan that is at its end has nothing before it.
+  pub rest-none : (l : List A) (n i : ℕ) → n ≤ i → take (n - i) (drop i l) ≡ []
+  rest-none l n i h = let e : n - i ≡ 0 = omega arith in ap (λ (m : ℕ). take m (drop i l)) e
+
+  -- The length of a list, from that of its image.
+  pub length-of-map : {B : Type 0} (f : A → B) (l : List A) (n : ℕ) → length (map f l) ≡ n → length l ≡ n
+  length-of-map f l n e = sym (length-map l f) ∙ e

@@ -1,0 +1,10 @@
+pub mod Row
+pub mod RowOptimum
+pub mod Prices
+pub mod Picked
+pub mod Several
+pub mod Levels
+pub mod Search
+pub mod Circuit
+pub mod Uncross
+pub mod Walk
