@@ -30,6 +30,7 @@ pub id-at : (ns : List Node) (b : ℕ) → getD (idsOf ns) b 0 ≡ getD ns b noN
 unfolding idsOf
 id-at ns b = List·getD-map (λ (n : Node). n .id) ns b noNode
 
+-- There are as many ids as nodes.
 pub length-ids : (ns : List Node) → length (idsOf ns) ≡ length ns
 unfolding idsOf
 length-ids ns = length-map ns (λ (n : Node). n .id)
