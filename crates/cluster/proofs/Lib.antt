@@ -5,3 +5,6 @@ pub mod Accepting
 pub mod Lists
 pub mod TieRows
 pub mod TieZones
+pub mod TieDistance
+pub mod TieLayouts
+pub mod Examples
