@@ -6,3 +6,5 @@ pub mod Several
 pub mod Circuit
 pub mod Uncross
 pub mod Walk
+pub mod Levels
+pub mod Search

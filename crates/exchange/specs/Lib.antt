@@ -3,3 +3,4 @@ pub mod Circuit
 pub mod Uncross
 pub mod Swap
 pub mod Prices
+pub mod Levels

@@ -9,6 +9,11 @@ unfoldable pub sumTo : ℕ → (ℕ → ℕ) → ℕ
 sumTo zero f = 0
 sumTo (suc n) f = sumTo n f + f n
 
+-- The first of two for true, the second for false.
+abbrev pub pick : {A : Type 0} → Bool → A → A → A
+pick true a b = a
+pick false a b = b
+
 -- 1 for true, 0 for false.
 unfoldable pub one-if : Bool → ℕ
 one-if true = 1

@@ -1,0 +1,5 @@
+pub mod Faults
+pub mod Limits
+pub mod Terms
+pub mod TermsCells
+pub mod Tie

@@ -1,0 +1,124 @@
+-- The terms of document 01: layout, row, valid at a size, the size of a cluster, former layout, distance. They speak of the nodes in use
+-- and of the first P rows alone, and quantify over all layouts. Every claim of this repository about planning, checking and records rests
+-- on these definitions; they have to be right by reading. "Box" in the papers is a node here.
+-- Assumes nothing.
+use Prim.Native.Nat.{ℕ, _+_, _*_, _^_, _≤_, _<_}
+use mathlib.Core.Path.{_≡_}
+use mathlib.Core.List.{List, [], _∷_, map}
+use mathlib.Core.Bool.{Bool, true, false, not, _&&_, _||_}
+use lib.Dec.{ltb, eqb}
+use lib.ListN.{length, take, getD}
+use Rattle.sums.specs.Sum.{sumTo, one-if, pick}
+use Rattle.cluster.specs.Limits.{mostCopies}
+use Rattle.cluster.specs.declared.Cluster.{Cluster}
+use Rattle.cluster.specs.declared.Node.{Node}
+
+-- ---- the cluster
+
+-- "A cluster has partition bits k, replication R, zone redundancy Z and boxes": its numbers and the nodes in use, and nothing of the slots
+-- that are not in use.
+pub record Topology : Type 0 where
+  pub bits : ℕ
+  pub replication : ℕ
+  pub redundancy : ℕ
+  pub nodes : List Node
+
+-- "Box slots not in use .. are not looked at": the nodes in use are the first `count`.
+abbrev pub topology : Cluster → Topology
+topology c = record { bits = c .bits; replication = c .replication; redundancy = c .redundancy; nodes = take (c .count) (c .nodes) }
+
+-- "P = 2^k partitions numbered from 0"
+abbrev pub partitions : Topology → ℕ
+partitions t = 2 ^ (t .bits)
+
+-- A slot that is not in use.
+abbrev pub noNode : Node
+noNode = record { id = 0; zone = 0; capacity = 0 }
+
+-- Node b of the cluster, in the order of ids; b is below the number of nodes wherever this is asked.
+abbrev pub nodeAt : Topology → ℕ → Node
+nodeAt t b = getD (t .nodes) b noNode
+
+-- The ids of nodes, in their order.
+unfoldable pub idsOf : List Node → List ℕ
+idsOf l = map (λ (n : Node). n .id) l
+
+-- ---- rows and layouts
+
+-- Whether a number stands in a list.
+unfoldable pub mem : ℕ → List ℕ → Bool
+mem i [] = false
+mem i (x ∷ xs) = eqb i x || mem i xs
+
+-- Whether each number is above the one before it, the first above `last`.
+unfoldable pub risingFrom : ℕ → List ℕ → Bool
+risingFrom last [] = true
+risingFrom last (x ∷ xs) = ltb last x && risingFrom x xs
+
+-- Rising ids: all different, and none is 0.
+abbrev pub rising : List ℕ → Bool
+rising l = risingFrom 0 l
+
+-- "A layout gives each partition a row of box ids." A row is a set of ids, written by rising id.
+abbrev pub Layout : Type 0
+Layout = List (List ℕ)
+
+-- Row p of a layout.
+abbrev pub row : Layout → ℕ → List ℕ
+row L p = getD L p []
+
+-- How many different numbers a list has: each counts where it stands last.
+unfoldable pub different : List ℕ → ℕ
+different [] = 0
+different (x ∷ xs) = one-if (not (mem x xs)) + different xs
+
+-- The zones of the nodes that a row names.
+unfoldable pub zonesNamed : List Node → List ℕ → List ℕ
+zonesNamed [] r = []
+zonesNamed (n ∷ ns) r = pick (mem (n .id) r) (n .zone ∷ zonesNamed ns r) (zonesNamed ns r)
+
+-- In how many zones the nodes of a row lie; a zone counts once.
+abbrev pub zonesOf : List Node → List ℕ → ℕ
+zonesOf ns r = different (zonesNamed ns r)
+
+-- How many rows of a layout name an id: the copies that the node holds.
+unfoldable pub copiesIn : Layout → ℕ → ℕ
+copiesIn [] i = 0
+copiesIn (r ∷ rs) i = one-if (mem i r) + copiesIn rs i
+
+-- "each row names R different boxes of the cluster, these lie in at least Z zones"
+pub record ValidRow (t : Topology) (r : List ℕ) : Type 0 where
+  pub ids : rising r ≡ true
+  pub many : length r ≡ t .replication
+  pub known : (i : ℕ) → mem i r ≡ true → mem i (idsOf (t .nodes)) ≡ true
+  pub zones : t .redundancy ≤ zonesOf (t .nodes) r
+
+-- "valid at size s, s at least 1, when each row names R different boxes of the cluster, these lie in at least Z zones, and for each box,
+-- copies held times s is at most its capacity". A node with no copies puts no limit on s.
+pub record ValidAt (t : Topology) (L : Layout) (s : ℕ) : Type 0 where
+  pub positive : 1 ≤ s
+  pub partition-rows : length L ≡ partitions t
+  pub rows : (p : ℕ) → p < partitions t → ValidRow t (row L p)
+  pub capacities : (b : ℕ) → b < length (t .nodes) → copiesIn L (nodeAt t b .id) * s ≤ nodeAt t b .capacity
+
+-- "The size of a cluster is the largest whole s with a layout valid at s."
+pub record IsSize (t : Topology) (s : ℕ) : Type 0 where
+  pub reached : (L : Layout) × ValidAt t L s
+  pub largest : (L : Layout) (s′ : ℕ) → ValidAt t L s′ → s′ ≤ s
+
+-- ---- the former layout, and the distance
+
+-- "The former layout gives each partition 0 to 8 ids, which may name boxes now gone."
+pub record IsFormer (t : Topology) (F : Layout) : Type 0 where
+  pub partition-rows : length F ≡ partitions t
+  pub ids : (p : ℕ) → p < partitions t → rising (row F p) ≡ true
+  pub few : (p : ℕ) → p < partitions t → length (row F p) ≤ mostCopies
+
+-- How many ids of the first row do not stand in the second.
+unfoldable pub onlyIn : List ℕ → List ℕ → ℕ
+onlyIn [] r = 0
+onlyIn (x ∷ xs) r = one-if (not (mem x r)) + onlyIn xs r
+
+-- "The distance is the number of pairs (id, partition) standing in one of the two layouts and not in both, gone boxes included."
+unfoldable pub distance : Topology → Layout → Layout → ℕ
+distance t L F = sumTo (partitions t) (λ p. onlyIn (row L p) (row F p) + onlyIn (row F p) (row L p))

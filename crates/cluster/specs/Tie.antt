@@ -1,0 +1,42 @@
+-- Between the terms and the theory of exchanges: a layout of ids as 0/1 rows of node indices, and back. Nobody has to believe this file:
+-- the theorems of proofs/ say what it achieves.
+-- Assumes nothing.
+use Prim.Native.Nat.{ℕ, zero, suc, _+_, _-_, _*_, _/_, _^_, min}
+use mathlib.Core.List.{List, [], _∷_}
+use mathlib.Core.Bool.{Bool, true, false}
+use lib.Dec.{eqb}
+use lib.ListN.{length}
+use Rattle.sums.specs.Sum.{sumTo, one-if, pick}
+use Rattle.cells.specs.Cells.{tab}
+use Rattle.cluster.specs.Terms.{Topology, partitions, nodeAt, Layout, row, mem}
+use Rattle.cluster.specs.declared.Node.{Node}
+
+-- The first index below n of which a test holds; n where there is none.
+unfoldable pub firstIndex : ℕ → (ℕ → Bool) → ℕ
+firstIndex zero f = 0
+firstIndex (suc n) f = pick (f 0) 0 (suc (firstIndex n (λ i. f (suc i))))
+
+-- The zone of node b as an index: the first node of the same zone.
+unfoldable pub zoneIndex : Topology → ℕ → ℕ
+zoneIndex t b = firstIndex (length (t .nodes)) (λ c. eqb (nodeAt t c .zone) (nodeAt t b .zone))
+
+-- The most copies that node b may hold at size s. The one place that knows of capacities.
+unfoldable pub capAt : Topology → ℕ → ℕ → ℕ
+capAt t s b = min (partitions t) (nodeAt t b .capacity / s)
+
+-- The layout as 0/1 rows: 1 where row p names node b.
+unfoldable pub incidence : Topology → Layout → ℕ → ℕ → ℕ
+incidence t L p b = one-if (mem (nodeAt t b .id) (row L p))
+
+-- The ids of the nodes at which f is not 0, in their order.
+unfoldable pub idsWhere : List Node → (ℕ → ℕ) → List ℕ
+idsWhere [] f = []
+idsWhere (n ∷ ns) f = pick (eqb (f 0) 0) (idsWhere ns (λ i. f (suc i))) (n .id ∷ idsWhere ns (λ i. f (suc i)))
+
+-- The layout of ids with the given 0/1 rows.
+unfoldable pub layoutOf : Topology → (ℕ → ℕ → ℕ) → Layout
+layoutOf t S = tab (λ p. idsWhere (t .nodes) (S p)) (partitions t)
+
+-- All former pairs, those of gone nodes included.
+unfoldable pub formerPairs : Topology → Layout → ℕ
+formerPairs t F = sumTo (partitions t) (λ p. length (row F p))

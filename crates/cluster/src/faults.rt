@@ -1,0 +1,64 @@
+// The faults of a cluster in hand, over the nodes in use only.
+ghost use mathlib.Core.Path.{_≡_};
+ghost use Prim.Native.Nat.{_≤_};
+ghost use Rattle.cluster.specs.Terms.{topology, idsOf, mem, rising};
+ghost use Rattle.cluster.specs.Faults.{outOfRange};
+use super::Cluster;
+
+// Whether a used id is 0.
+fn has_zero_id(c: Cluster) -> bool
+    requires { ⌜ c .count ≤ 32 ⌝ }
+    ensures { λ r. ⌜ r ≡ mem 0 (idsOf (topology c .nodes)) ⌝ }
+{
+    let n = c.count;
+    let mut i = 0;
+    while i < n {
+        if c.nodes[i].id == 0 {
+            return true;
+        }
+        i += 1;
+    }
+    false
+}
+
+// Whether a number of the cluster or a used id is out of its range.
+pub fn out_of_range(c: Cluster) -> bool
+    requires { ⌜ c .count ≤ 32 ⌝ }
+    ensures { λ r. ⌜ r ≡ outOfRange (topology c) ⌝ }
+{
+    if Cluster::BITS < c.bits {
+        return true;
+    }
+    if c.replication == 0 {
+        return true;
+    }
+    if Cluster::REPLICATION < c.replication {
+        return true;
+    }
+    if c.redundancy == 0 {
+        return true;
+    }
+    if c.replication < c.redundancy {
+        return true;
+    }
+    has_zero_id(c)
+}
+
+// Whether the used ids rise.
+pub fn ids_rise(c: Cluster) -> bool
+    requires { ⌜ c .count ≤ 32 ⌝ }
+    ensures { λ r. ⌜ r ≡ rising (idsOf (topology c .nodes)) ⌝ }
+{
+    let n = c.count;
+    let mut last = 0;
+    let mut i = 0;
+    while i < n {
+        let id = c.nodes[i].id;
+        if id <= last {
+            return false;
+        }
+        last = id;
+        i += 1;
+    }
+    true
+}

@@ -1,0 +1,76 @@
+// A cluster in hand: its limits, its nodes, and what makes it acceptable.
+ghost use mathlib.Core.Path.{_≡_};
+ghost use Rattle.cluster.specs.Faults.{noNodes, faultOf};
+
+mod faults;
+pub mod refusal;
+
+// A node ("box" in the papers): one storage box of the cluster.
+pub struct Node {
+    pub id: u32,
+    pub zone: u16,
+    pub capacity: u32,
+}
+
+// A cluster by value. Only the first `count` nodes are in use; the other slots are not looked at.
+pub struct Cluster {
+    pub bits: u32,
+    pub replication: u32,
+    pub redundancy: u32,
+    pub count: usize,
+    pub nodes: [Node; Cluster::NODES],
+}
+
+impl Cluster {
+    // The most partition bits: a cluster has 2 ^ bits partitions.
+    pub const BITS: u32 = 8;
+    // The most copies of a partition.
+    pub const REPLICATION: u32 = 8;
+    // The most nodes.
+    pub const NODES: usize = 32;
+    // The cells of a row in a lent buffer: as many as a partition has copies at most.
+    pub const ROW: usize = Cluster::REPLICATION as usize;
+    // The rows of a lent layout.
+    pub const PARTITIONS: usize = 1 << Cluster::BITS;
+    // The cells of a lent layout.
+    pub const CELLS: usize = Cluster::PARTITIONS * Cluster::ROW;
+    // The cells of the lent scratch.
+    pub const SCRATCH: usize = 16384;
+    // The cells of the lent figures: two for each node.
+    pub const FIGURES: usize = 2 * Cluster::NODES;
+
+    // The cluster with no nodes, which a refused reading yields.
+    pub fn none() -> Cluster
+        ensures { λ r. ⌜ r ≡ noNodes ⌝ }
+    {
+        Cluster {
+            bits: 0,
+            replication: 1,
+            redundancy: 1,
+            count: 0,
+            nodes: [Node {
+                id: 0,
+                zone: 0,
+                capacity: 0,
+            }; Cluster::NODES],
+        }
+    }
+
+    // The first fault of a cluster in hand, as planning and check refuse it: too many nodes, a number or an id out of
+    // range, ids not rising; 0 where there is none.
+    pub fn fault(self) -> u32
+        ensures { λ r. ⌜ r ≡ faultOf self ⌝ }
+    {
+        if Cluster::NODES < self.count {
+            return refusal::NODES;
+        }
+        if faults::out_of_range(self) {
+            return refusal::RANGE;
+        }
+        if faults::ids_rise(self) {
+            0
+        } else {
+            refusal::ORDER
+        }
+    }
+}

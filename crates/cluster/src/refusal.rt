@@ -1,0 +1,26 @@
+// The refusal numbers of the paper: one list for all operations, 0 for none.
+
+// One or two bytes left, or a body cut short.
+pub const CUT: u32 = 1;
+// A tag that is not allowed next.
+pub const TAG: u32 = 2;
+// A length that is not legal for the tag.
+pub const LENGTH: u32 = 3;
+// A value outside its range.
+pub const RANGE: u32 = 4;
+// Ids or partitions that do not rise, or a row that is not the next.
+pub const ORDER: u32 = 5;
+// More nodes than a cluster has.
+pub const NODES: u32 = 6;
+// The record ends before a field or row that it must have.
+pub const MISSING: u32 = 7;
+// A lent buffer is too short.
+pub const BUFFER: u32 = 8;
+// No layout is valid at size 1.
+pub const NO_LAYOUT: u32 = 9;
+// A row that is not what a layout of this cluster has.
+pub const ROW: u32 = 10;
+// A row in too few zones.
+pub const ZONES: u32 = 11;
+// A node with more copies than its capacity takes.
+pub const CAPACITY: u32 = 12;
