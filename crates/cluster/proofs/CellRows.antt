@@ -30,11 +30,12 @@ getD-zeros [] (suc n) (suc i) = getD-zeros [] n i
 
 -- ---- the two kinds of cell
 
--- A cell that is not 0 is an id.
+-- A cell that is not 0 is an id, and the others' ids follow it.
 pub ids-more : (x : ℕ) (xs : List ℕ) → idsIn (suc x ∷ xs) ≡ suc x ∷ idsIn xs
 unfolding idsIn
 ids-more x xs = simp eqb·suc-zero
 
+-- Cells that start with an id are formed where it is above the last and the others are formed after it.
 pub formed-more : (k x : ℕ) (xs : List ℕ) → formedFrom k (suc x ∷ xs) ≡ (ltb k (suc x) && formedFrom (suc x) xs)
 unfolding formedFrom
 formed-more k x xs = simp eqb·suc-zero
@@ -63,6 +64,13 @@ pub blank-ids : (l : List ℕ) → blank l ≡ true → idsIn l ≡ []
 unfolding idsIn
 blank-ids [] h = refl
 blank-ids (x ∷ xs) h = ap (λ (r : List ℕ). idsIn r) (blank-zeros (x ∷ xs) h)
+
+-- A blank row is formed, whatever id it follows.
+pub blank-formed : (k : ℕ) (l : List ℕ) → blank l ≡ true → formedFrom k l ≡ true
+unfolding blank formedFrom
+blank-formed k [] h = refl
+blank-formed k (zero ∷ xs) h = h
+blank-formed k (suc x ∷ xs) h = absurd (omega (arith, eqb-true (suc x) 0 (both (eqb (suc x) 0) (blank xs) h .0)))
 
 -- A row that is formed and has no ids is blank.
 pub no-ids-blank : (k : ℕ) (l : List ℕ) → formedFrom k l ≡ true → idsIn l ≡ [] → blank l ≡ true
@@ -103,7 +111,7 @@ formed-cells k (suc x ∷ xs) h =
     ∙ (ap (λ (n : ℕ). suc x ∷ (idsIn xs ++ replicate n 0)) e
     ∙ ap (λ (r : List ℕ). r ++ replicate (suc (length xs) - length r) 0) (sym (ids-more x xs)))
 
--- So each cell is the id at its place, or 0 where there is none.
+-- Each cell of a formed row is the id at its place, or 0 where there is none.
 pub formed-cell : (k : ℕ) (l : List ℕ) (i : ℕ) → formedFrom k l ≡ true → getD (idsIn l) i 0 ≡ getD l i 0
 formed-cell k l i h =
     sym (ap (λ (r : List ℕ). getD r i 0) (formed-cells k l h) ∙ getD-zeros (idsIn l) (length l - length (idsIn l)) i)
