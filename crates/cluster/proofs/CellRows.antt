@@ -3,7 +3,7 @@
 use Prim.Native.Nat.{ℕ, zero, suc, _-_, _≤_}
 use mathlib.Core.Path.{_≡_, refl, sym, ap, ap₂, _∙_}
 use mathlib.Core.List.{List, [], _∷_, _++_}
-use mathlib.Core.Bool.{Bool, true, false, _&&_}
+use mathlib.Core.Bool.{Bool, true, false, _&&_, false≢true}
 use native.Mathlib.Nat.{sub-zero}
 use native.Mathlib.Omega.{arith}
 use lib.Dec.{ltb, eqb, eqb·suc-zero}
@@ -15,10 +15,7 @@ use Rattle.cluster.specs.TermsCells.{idsIn, blank, formedFrom}
 -- What two tests together tell.
 pub both : (a b : Bool) → a && b ≡ true → (a ≡ true) × (b ≡ true)
 both true b h = (refl, h)
-both false b h = absurd (no h)
-  where
-    no : false ≡ true → ⊥
-    no e = let z : _≡_ {A = ℕ} 0 1 = cc in omega arith
+both false b h = absurd (false≢true h)
 
 -- Zeros after a list change no cell of it, read as 0 past the end.
 pub getD-zeros : (l : List ℕ) (n i : ℕ) → getD (l ++ replicate n 0) i 0 ≡ getD l i 0
@@ -81,6 +78,10 @@ no-ids-blank k (suc x ∷ xs) h e = absurd (omega (arith, ap length (sym (ids-mo
 
 -- ---- formed rows
 
+-- The first id of a formed row is above the last, and the others follow it.
+formed-head : (k x : ℕ) (xs : List ℕ) → formedFrom k (suc x ∷ xs) ≡ true → (ltb k (suc x) ≡ true) × (formedFrom (suc x) xs ≡ true)
+formed-head k x xs h = both (ltb k (suc x)) (formedFrom (suc x) xs) (sym (formed-more k x xs) ∙ h)
+
 -- A row has at most as many ids as cells.
 pub ids-length : (l : List ℕ) → length (idsIn l) ≤ length l
 unfolding idsIn
@@ -94,7 +95,7 @@ unfolding idsIn risingFrom
 formed-rising k [] h = refl
 formed-rising k (zero ∷ xs) h = refl
 formed-rising k (suc x ∷ xs) h =
-    let b = both (ltb k (suc x)) (formedFrom (suc x) xs) (sym (formed-more k x xs) ∙ h) in
+    let b = formed-head k x xs h in
     ap (λ (r : List ℕ). risingFrom k r) (ids-more x xs)
     ∙ ap₂ _&&_ (b .0) (formed-rising (suc x) xs (b .1))
 
@@ -105,7 +106,7 @@ formed-cells k [] h = refl
 formed-cells k (zero ∷ xs) h =
     ap (λ (r : List ℕ). 0 ∷ r) (blank-zeros xs h) ∙ ap (λ (n : ℕ). replicate n 0) (sym (sub-zero (suc (length xs))))
 formed-cells k (suc x ∷ xs) h =
-    let b = both (ltb k (suc x)) (formedFrom (suc x) xs) (sym (formed-more k x xs) ∙ h) in
+    let b = formed-head k x xs h in
     let e : length xs - length (idsIn xs) ≡ suc (length xs) - suc (length (idsIn xs)) = omega arith in
     ap (λ (r : List ℕ). suc x ∷ r) (formed-cells (suc x) xs (b .1))
     ∙ (ap (λ (n : ℕ). suc x ∷ (idsIn xs ++ replicate n 0)) e

@@ -31,7 +31,7 @@ returns : tie.Need-returns Inv-loop μ-loop
 returns c =
     let k = c .before .before .before in
     sym
-    (k .loop .inv .2 ∙ id-not-blank (k .before .args .cells .now) (k .before .args .to) (k .loop .i) (search needs) (search needs) (c .if1 .taken))
+    (k .loop .inv .2 ∙ id-not-blank (k .before .args .cells .now) (k .before .args .to) (k .loop .i) (search needs) (search needs) (search needs))
 
 add-i : tie.Need-add-i Inv-loop μ-loop
 add-i c = search needs
@@ -44,7 +44,7 @@ loop-again c =
     let k = c .before .before .before in (
       search needs,
       search needs,
-      k .loop .inv .2 ∙ zero-blank (k .before .args .cells .now) (k .before .args .to) (k .loop .i) (search needs) (search needs) (c .if1 .left),
+      k .loop .inv .2 ∙ zero-blank (k .before .args .cells .now) (k .before .args .to) (k .loop .i) (search needs) (search needs) (search needs),
     )
 
 returns-2 : tie.Need-returns-2 Inv-loop μ-loop
