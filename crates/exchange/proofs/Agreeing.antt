@@ -1,7 +1,7 @@
 -- Rows and layouts are read at the nodes below N and the partitions below P only: two that have the same values there have the same counts, covers,
 -- copies and weights, are valid, within the caps, best or better alike, and allow the same exchanges.
 -- Assumes nothing.
-use Prim.Native.Nat.{ℕ, suc, _+_, _-_, _*_, _≤_, _<_, min}
+use Prim.Native.Nat.{ℕ, suc, _+_, _-_, _*_, _<_, min}
 use mathlib.Core.Path.{_≡_, refl, sym, ap, ap₂, _∙_}
 use mathlib.Core.Bool.{Bool}
 use mathlib.Core.Logic.{inl, inr, ⊎-elim}
