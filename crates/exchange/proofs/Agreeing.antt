@@ -73,6 +73,10 @@ weigh-cong P N g f S T e h =
     sum-cong P (λ p. sumTo N (λ b. S p b * g p b)) (λ p. sumTo N (λ b. T p b * f p b))
     (λ p l. sum-cong N (λ b. S p b * g p b) (λ b. T p b * f p b) (λ b k. ap₂ _*_ (h p l b k) (e p l b k)))
 
+-- Layouts agree on the pairs that are not free where those with the same bits do.
+pub agree-cong : (P N : ℕ) (free S T S′ T′ : ℕ → ℕ → ℕ) → SameLayout P N S S′ → SameLayout P N T T′ → Agree P N free S T → Agree P N free S′ T′
+agree-cong P N free S T S′ T′ h k e p l b m f = sym (k p l b m) ∙ (e p l b m f ∙ h p l b m)
+
 module _ (P N : ℕ) (S T : ℕ → ℕ → ℕ) (h : SameLayout P N S T) where
   -- Layouts with the same bits have as many copies at each node.
   pub copies-cong : (b : ℕ) → b < N → copies P S b ≡ copies P T b
@@ -86,10 +90,6 @@ module _ (P N : ℕ) (S T : ℕ → ℕ → ℕ) (h : SameLayout P N S T) where
         rows = λ p l. valid-cong N zone (S p) (T p) (h p l) R Z (w .rows p l);
         caps = λ b k. omega (arith, copies-cong b k, w .caps b k);
       }
-
-  -- What agrees with one agrees with the other.
-  pub agree-cong : (free U : ℕ → ℕ → ℕ) → Agree P N free S U → Agree P N free T U
-  agree-cong free U e p l b k f = e p l b k f ∙ h p l b k
 
   -- They allow the same exchanges.
   pub exchange-cong : (R Z : ℕ) (zone : ℕ → ℕ) (free : ℕ → ℕ → ℕ) (p a b : ℕ) → p < P → Exchange N R Z zone free S p a b
@@ -131,7 +131,7 @@ pub heaviest-cong : (P N R Z : ℕ) (zone cap : ℕ → ℕ) (g free S T : ℕ �
 heaviest-cong P N R Z zone cap g free S T h most U w a =
     omega (
       arith,
-      most U w (agree-cong P N T S (same-layout-sym h) free U a),
+      most U w (agree-cong P N free T U S U (same-layout-sym h) (λ p l b k. refl) a),
       weigh-cong P N g g S T (λ p l b k. refl) h,
     )
 
@@ -141,7 +141,7 @@ pub better-cong : (P N R Z C : ℕ) (zone cap : ℕ → ℕ) (g free S T S′ T�
 better-cong P N R Z C zone cap g free S T S′ T′ h k b =
     record {
       within = within-cong P N T T′ k R Z zone cap (b .within);
-      agrees = λ p l x m f. sym (k p l x m) ∙ (b .agrees p l x m f ∙ h p l x m);
+      agrees = agree-cong P N free S T S′ T′ h k (b .agrees);
       more = omega (arith, b .more, from, to);
       most = omega (arith, b .most, from, to);
     }
