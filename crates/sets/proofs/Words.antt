@@ -1,8 +1,7 @@
 -- What the operations of a 32-bit word compute, as operations on sets: each has the bits of the set, and is below 2 ^ 32.
 -- Assumes nothing.
-use Prim.Native.Nat.{ℕ, zero, suc, _+_, _-_, _*_, _/_, _%_, _^_, _≤_, _<_, min, max}
-use mathlib.Core.Path.{_≡_, refl, sym, ap, ap₂, _∙_, subst}
-use mathlib.Core.Bool.{Bool, true, false}
+use Prim.Native.Nat.{ℕ, zero, suc, _-_, _*_, _/_, _%_, _^_, _<_, min, max}
+use mathlib.Core.Path.{_≡_, refl, sym, ap, _∙_}
 use mathlib.Core.Logic.{⊎-elim}
 use native.Mathlib.Nat.{one-mul}
 use native.Mathlib.Omega.{arith}
@@ -10,25 +9,29 @@ use lib.Bits.{bitOr, bitAnd, or-lt, and-lt}
 use lib.Count.{ones, trailingZeros, under}
 use lib.Dec.{eqb}
 use lib.Pow.{pow-pos, pow-lt, pow-mono, ones-lt, ones-sub-lt, shl-exact}
-use Rattle.sums.specs.Sum.{sumTo, is}
-use Rattle.sums.proofs.Sum.{lt-or-ge, is-le, is-ne}
-use Rattle.sets.specs.Bits.{bit, maskOf, firstTo, memberOf, withOf, withoutOf, unionOf, meetOf, differenceOf, belowOf, countOf, leastOf}
-use Rattle.sets.proofs.Laws.{bit-le, bit-zero, bit-shr, bit-high, bit-ext, bit-or, bit-and, bit-not, bit-pow, ones-bits, mask-unique, bit-below, bit-below-not, below-lt, bit-false}
+use Rattle.sums.specs.Sum.{is}
+use Rattle.sums.proofs.Sum.{lt-or-ge, is-le}
+use Rattle.sets.specs.Bits.{bit, firstTo, memberOf, withOf, withoutOf, unionOf, meetOf, differenceOf, belowOf, countOf, leastOf}
+use Rattle.sets.proofs.Laws.{bit-le, bit-zero, bit-shr, bit-high, bit-ext, bit-or, bit-and, bit-not, bit-pow, ones-bits, mask-unique, bit-below, bit-below-not, below-lt}
 
+-- A shift and a remainder tell a member.
 pub word-member : (s i : ℕ) → eqb (s / 2 ^ i % 2) 1 ≡ memberOf s i
 unfolding memberOf
 word-member s i = ap (λ (x : ℕ). eqb x 1) (sym (bit-shr s i))
 
+-- An or is a union.
 pub word-union : (s t : ℕ) → s < 2 ^ 32 → t < 2 ^ 32 → bitOr s t ≡ unionOf s t
 unfolding unionOf
 word-union s t hs ht =
     mask-unique 32 (bitOr s t) (λ j. max (bit s j) (bit t j)) (or-lt 32 s t hs ht) (λ j l. omega (arith, bit-or s t j, bit-le s j, bit-le t j))
 
+-- An and is a meet.
 pub word-meet : (s t : ℕ) → s < 2 ^ 32 → t < 2 ^ 32 → bitAnd s t ≡ meetOf s t
 unfolding meetOf
 word-meet s t hs ht =
     mask-unique 32 (bitAnd s t) (λ j. min (bit s j) (bit t j)) (and-lt 32 s t hs ht) (λ j l. omega (arith, bit-and s t j, bit-le s j))
 
+-- An and with the complement is a difference.
 pub word-difference : (s t : ℕ) → s < 2 ^ 32 → t < 2 ^ 32 → bitAnd s (2 ^ 32 - 1 - t) ≡ differenceOf s t
 unfolding differenceOf
 word-difference s t hs ht =
@@ -39,6 +42,7 @@ word-difference s t hs ht =
 pub word-one : (i : ℕ) → i < 32 → 1 * 2 ^ i % 2 ^ 32 ≡ 2 ^ i
 word-one i l = shl-exact 1 i 32 (omega arith) (omega arith) ∙ one-mul (2 ^ i)
 
+-- An or with the set of i alone adds i.
 pub word-with : (s i : ℕ) → s < 2 ^ 32 → i < 32 → bitOr s (1 * 2 ^ i % 2 ^ 32) ≡ withOf s i
 unfolding withOf
 word-with s i hs l =
@@ -46,6 +50,7 @@ word-with s i hs l =
     ∙ mask-unique 32 (bitOr s (2 ^ i)) (λ j. max (bit s j) (is i j)) (or-lt 32 s (2 ^ i) hs (pow-lt l))
     (λ j k. omega (arith, bit-or s (2 ^ i) j, bit-pow i j, bit-le s j, is-le i j))
 
+-- An and with its complement takes i.
 pub word-without : (s i : ℕ) → s < 2 ^ 32 → i < 32 → bitAnd s (2 ^ 32 - 1 - 1 * 2 ^ i % 2 ^ 32) ≡ withoutOf s i
 unfolding withoutOf
 word-without s i hs l =
@@ -53,6 +58,7 @@ word-without s i hs l =
     ∙ mask-unique 32 (bitAnd s (2 ^ 32 - 1 - 2 ^ i)) (λ j. bit s j - is i j) (and-lt 32 s (2 ^ 32 - 1 - 2 ^ i) hs (ones-sub-lt 32 (2 ^ i)))
     (λ j k. omega (arith, bit-and s (2 ^ 32 - 1 - 2 ^ i) j, bit-not 32 (2 ^ i) j (pow-lt l) k, bit-pow i j, bit-le s j))
 
+-- A power of two less 1 is the set of the numbers below its exponent.
 pub word-below : (k n : ℕ) → k ≡ min n 32 → 2 ^ k - 1 ≡ belowOf n
 word-below k n e =
     bit-ext 32 (2 ^ k - 1) (belowOf n) (omega (arith, pow-pos k, pow-mono {i = k} {j = 32} (omega arith))) (below-lt n)
@@ -65,6 +71,7 @@ word-below k n e =
         let e : 2 ^ k - 1 - 0 ≡ 2 ^ k - 1 = omega arith in
         omega (arith, ap (λ (x : ℕ). bit x j) e, bit-not k 0 j (pow-pos k) l, bit-zero j)
 
+-- The set digits are the members.
 pub word-count : (s : ℕ) → s < 2 ^ 32 → ones s ≡ countOf s
 unfolding countOf
 word-count s h = ones-bits 32 s h
@@ -74,6 +81,7 @@ unfolding trailingZeros firstTo bit
 first-bit zero m = refl
 first-bit (suc k) m = ap (under (m % 2)) (first-bit k (m / 2))
 
+-- The zeros below the lowest set digit are as many as the least member.
 pub word-least : (s : ℕ) → trailingZeros 32 s ≡ leastOf s
 unfolding leastOf
 word-least s = first-bit 32 s
