@@ -1,1 +1,7 @@
+pub mod CellLayouts
+pub mod CellRows
 pub mod Scans
+pub mod Accepting
+pub mod Lists
+pub mod TieRows
+pub mod TieZones

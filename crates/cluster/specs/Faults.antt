@@ -18,8 +18,8 @@ noNodes = record { bits = 0; replication = 1; redundancy = 1; count = 0; nodes =
 -- "bits, replication, redundancy or an id out of range": k 0 to 8, R 1 to 8, Z 1 to R, an id never 0.
 unfoldable pub outOfRange : Topology → Bool
 outOfRange t =
-    ltb mostBits (t .bits) || (eqb (t .replication) 0 || ltb mostCopies (t .replication))
-    || (eqb (t .redundancy) 0 || ltb (t .replication) (t .redundancy)) || mem 0 (idsOf (t .nodes))
+    ltb mostBits (t .bits) || eqb (t .replication) 0 || ltb mostCopies (t .replication) || eqb (t .redundancy) 0
+    || ltb (t .replication) (t .redundancy) || mem 0 (idsOf (t .nodes))
 
 -- "6: more than 32 boxes. 4: bits, replication, redundancy or an id out of range. 5: ids not rising"; 0 where there is no fault.
 unfoldable pub faultOf : Cluster → ℕ

@@ -5,10 +5,10 @@ use Prim.Native.Nat.{ℕ, zero, suc, _+_, _-_, _*_, _/_, _^_, min}
 use mathlib.Core.List.{List, [], _∷_}
 use mathlib.Core.Bool.{Bool, true, false}
 use lib.Dec.{eqb}
-use lib.ListN.{length}
+use lib.ListN.{length, getD}
 use Rattle.sums.specs.Sum.{sumTo, one-if, pick}
 use Rattle.cells.specs.Cells.{tab}
-use Rattle.cluster.specs.Terms.{Topology, partitions, nodeAt, Layout, row, mem}
+use Rattle.cluster.specs.Terms.{Topology, partitions, noNode, nodeAt, Layout, row, mem}
 use Rattle.cluster.specs.declared.Node.{Node}
 
 -- The first index below n of which a test holds; n where there is none.
@@ -24,9 +24,13 @@ zoneIndex t b = firstIndex (length (t .nodes)) (λ c. eqb (nodeAt t c .zone) (no
 unfoldable pub capAt : Topology → ℕ → ℕ → ℕ
 capAt t s b = min (partitions t) (nodeAt t b .capacity / s)
 
--- The layout as 0/1 rows: 1 where row p names node b.
+-- A row of ids over node indices: 1 where it names node b, else 0.
+abbrev pub bitsOf : List Node → List ℕ → ℕ → ℕ
+bitsOf ns r b = one-if (mem (getD ns b noNode .id) r)
+
+-- The layout as 0/1 rows.
 unfoldable pub incidence : Topology → Layout → ℕ → ℕ → ℕ
-incidence t L p b = one-if (mem (nodeAt t b .id) (row L p))
+incidence t L p b = bitsOf (t .nodes) (row L p) b
 
 -- The ids of the nodes at which f is not 0, in their order.
 unfoldable pub idsWhere : List Node → (ℕ → ℕ) → List ℕ

@@ -29,10 +29,16 @@ pub fn out_of_range(c: Cluster) -> bool
     if Cluster::BITS < c.bits {
         return true;
     }
-    if c.replication == 0 || Cluster::REPLICATION < c.replication {
+    if c.replication == 0 {
         return true;
     }
-    if c.redundancy == 0 || c.replication < c.redundancy {
+    if Cluster::REPLICATION < c.replication {
+        return true;
+    }
+    if c.redundancy == 0 {
+        return true;
+    }
+    if c.replication < c.redundancy {
         return true;
     }
     has_zero_id(c)

@@ -1,4 +1,6 @@
 pub mod Row
 pub mod Circuit
+pub mod Uncross
 pub mod Swap
 pub mod Prices
+pub mod Levels

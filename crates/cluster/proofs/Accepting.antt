@@ -1,0 +1,79 @@
+-- A cluster has no fault exactly where it is accepted.
+-- Assumes nothing.
+use Prim.Native.Nat.{ℕ, _≤_, _<_}
+use mathlib.Core.Path.{_≡_, refl, sym, ap, _∙_}
+use mathlib.Core.Bool.{Bool, true, false, _||_, _&&_}
+use mathlib.Core.List.{List, [], _∷_}
+use native.Mathlib.Omega.{arith}
+use mathlib.Core.Logic.{⊎-elim}
+use native.Mathlib.Nat.{eq-zero-or-pos}
+use lib.Dec.{ltb, eqb}
+use lib.ListN.{length, length-take}
+use borrow.Author.Tests.{ltb-true, ltb-false, eqb-false, le-ltb, ne-eqb}
+use Rattle.sums.specs.Sum.{pick}
+use Rattle.cluster.specs.Terms.{Topology, topology, idsOf, mem, risingFrom, rising}
+use Rattle.cluster.specs.Faults.{outOfRange, faultOf, Accepted}
+use Rattle.cluster.specs.declared.Cluster.{Cluster}
+
+-- Of a disjunction that is false both sides are.
+or-false : (a b : Bool) → a || b ≡ false → (a ≡ false) × (b ≡ false)
+or-false false false e = (refl, refl)
+or-false false true e = let z : _≡_ {A = ℕ} 0 1 = cc in absurd (omega arith)
+or-false true b e = let z : _≡_ {A = ℕ} 0 1 = cc in absurd (omega arith)
+
+-- Rising ids have no 0 among them.
+rising-no-zero : (k : ℕ) (l : List ℕ) → risingFrom k l ≡ true → mem 0 l ≡ false
+unfolding mem risingFrom
+rising-no-zero k [] e = refl
+rising-no-zero k (x ∷ xs) e = go (λ h. rising-no-zero x xs h) (ltb k x) refl e
+  where
+    go : (risingFrom x xs ≡ true → mem 0 xs ≡ false) → (t : Bool) → ltb k x ≡ t → (t && risingFrom x xs) ≡ true → (eqb 0 x || mem 0 xs) ≡ false
+    go rest false q h = let z : _≡_ {A = ℕ} 0 1 = cc in absurd (omega arith)
+    go rest true q h = ap (λ (t : Bool). t || mem 0 xs) (ne-eqb 0 x (λ n. omega (arith, ltb-true k x q))) ∙ rest h
+
+-- Numbers in range, from the test.
+in-range : (t : Topology) → length (t .nodes) ≤ 32 → rising (idsOf (t .nodes)) ≡ true → outOfRange t ≡ false → Accepted t
+unfolding outOfRange
+in-range t few ids e =
+    let a = or-false _ _ e in
+    let b = or-false _ _ (a .0) in
+    let d = or-false _ _ (b .0) in
+    let f = or-false _ _ (d .0) in
+    let g = or-false _ _ (f .0) in
+    record {
+      bits = ltb-false 8 (t .bits) (g .0);
+      replication = (pos (t .replication) (g .1), ltb-false 8 (t .replication) (f .1));
+      redundancy = (pos (t .redundancy) (d .1), ltb-false (t .replication) (t .redundancy) (b .1));
+      few = few;
+      ids = ids
+    }
+  where
+    pos : (n : ℕ) → eqb n 0 ≡ false → 1 ≤ n
+    pos n h = ⊎-elim (λ z. absurd (eqb-false n 0 h z)) (λ l. l) (eq-zero-or-pos n)
+
+-- A cluster without fault is accepted.
+pub accepted : (c : Cluster) → faultOf c ≡ 0 → Accepted (topology c)
+unfolding faultOf
+accepted c e = go (ltb 32 (c .count)) refl e
+  where
+    t : Topology
+    t = topology c
+    order : c .count ≤ 32 → outOfRange t ≡ false → (r : Bool) → rising (idsOf (t .nodes)) ≡ r → _≡_ {A = ℕ} (pick r 0 5) 0 → Accepted t
+    order few range true q h = in-range t (omega (arith, length-take (c .count) (c .nodes))) q range
+    order few range false q h = absurd (omega arith)
+    numbers : c .count ≤ 32 → (b : Bool) → outOfRange t ≡ b → _≡_ {A = ℕ} (pick b 4 (pick (rising (idsOf (t .nodes))) 0 5)) 0 → Accepted t
+    numbers few true q h = absurd (omega arith)
+    numbers few false q h = order few q (rising (idsOf (t .nodes))) refl h
+    go : (b : Bool) → ltb 32 (c .count) ≡ b → _≡_ {A = ℕ} (pick b 6 (pick (outOfRange t) 4 (pick (rising (idsOf (t .nodes))) 0 5))) 0 → Accepted t
+    go true q h = absurd (omega arith)
+    go false q h = numbers (ltb-false 32 (c .count) q) (outOfRange t) refl h
+
+-- A cluster that is accepted, and whose count is within the slots, has no fault.
+pub no-fault : (c : Cluster) → c .count ≤ 32 → Accepted (topology c) → faultOf c ≡ 0
+unfolding faultOf outOfRange
+no-fault c few a =
+    let t = topology c in
+    simp
+    (le-ltb 32 (c .count) few, le-ltb 8 (t .bits) (a .bits), ne-eqb (t .replication) 0 (λ e. omega (arith, a .replication)),
+    le-ltb 8 (t .replication) (a .replication .1), ne-eqb (t .redundancy) 0 (λ e. omega (arith, a .redundancy)),
+    le-ltb (t .replication) (t .redundancy) (a .redundancy .1), rising-no-zero 0 (idsOf (t .nodes)) (a .ids), a .ids)

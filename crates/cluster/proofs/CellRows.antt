@@ -1,0 +1,137 @@
+-- The laws of one row of cells: rising ids followed by zeros are a row of ids and nothing else, both ways.
+-- Assumes nothing.
+use Prim.Native.Nat.{ℕ, zero, suc, _-_, _≤_}
+use mathlib.Core.Path.{_≡_, refl, sym, ap, ap₂, _∙_}
+use mathlib.Core.List.{List, [], _∷_, _++_}
+use mathlib.Core.Bool.{Bool, true, false, _&&_}
+use native.Mathlib.Nat.{sub-zero}
+use native.Mathlib.Omega.{arith}
+use lib.Dec.{ltb, eqb, eqb·suc-zero}
+use lib.ListN.{length, getD, replicate}
+use borrow.Author.Tests.{ltb-true, eqb-true}
+use Rattle.cluster.specs.Terms.{risingFrom}
+use Rattle.cluster.specs.TermsCells.{idsIn, blank, formedFrom}
+
+-- What two tests together tell.
+pub both : (a b : Bool) → a && b ≡ true → (a ≡ true) × (b ≡ true)
+both true b h = (refl, h)
+both false b h = absurd (no h)
+  where
+    no : false ≡ true → ⊥
+    no e = let z : _≡_ {A = ℕ} 0 1 = cc in omega arith
+
+-- Zeros after a list change no cell of it, read as 0 past the end.
+pub getD-zeros : (l : List ℕ) (n i : ℕ) → getD (l ++ replicate n 0) i 0 ≡ getD l i 0
+getD-zeros (x ∷ xs) n zero = refl
+getD-zeros (x ∷ xs) n (suc i) = getD-zeros xs n i
+getD-zeros [] zero i = refl
+getD-zeros [] (suc n) zero = refl
+getD-zeros [] (suc n) (suc i) = getD-zeros [] n i
+
+-- ---- the two kinds of cell
+
+-- A cell that is not 0 is an id.
+pub ids-more : (x : ℕ) (xs : List ℕ) → idsIn (suc x ∷ xs) ≡ suc x ∷ idsIn xs
+unfolding idsIn
+ids-more x xs = simp eqb·suc-zero
+
+pub formed-more : (k x : ℕ) (xs : List ℕ) → formedFrom k (suc x ∷ xs) ≡ (ltb k (suc x) && formedFrom (suc x) xs)
+unfolding formedFrom
+formed-more k x xs = simp eqb·suc-zero
+
+-- ---- blank rows
+
+-- Blank cells are zeros.
+pub blank-zeros : (l : List ℕ) → blank l ≡ true → l ≡ replicate (length l) 0
+unfolding blank
+blank-zeros [] h = refl
+blank-zeros (zero ∷ xs) h = ap (λ (r : List ℕ). 0 ∷ r) (blank-zeros xs h)
+blank-zeros (suc x ∷ xs) h = absurd (omega (arith, eqb-true (suc x) 0 (both (eqb (suc x) 0) (blank xs) h .0)))
+
+-- Zeros are blank.
+pub zeros-blank : (n : ℕ) → blank (replicate n 0) ≡ true
+unfolding blank
+zeros-blank zero = refl
+zeros-blank (suc n) = zeros-blank n
+
+-- Each cell of a blank row is 0.
+pub blank-cell : (l : List ℕ) (i : ℕ) → blank l ≡ true → getD l i 0 ≡ 0
+blank-cell l i h = ap (λ (r : List ℕ). getD r i 0) (blank-zeros l h) ∙ getD-zeros [] (length l) i
+
+-- A blank row has no ids.
+pub blank-ids : (l : List ℕ) → blank l ≡ true → idsIn l ≡ []
+unfolding idsIn
+blank-ids [] h = refl
+blank-ids (x ∷ xs) h = ap (λ (r : List ℕ). idsIn r) (blank-zeros (x ∷ xs) h)
+
+-- A row that is formed and has no ids is blank.
+pub no-ids-blank : (k : ℕ) (l : List ℕ) → formedFrom k l ≡ true → idsIn l ≡ [] → blank l ≡ true
+unfolding formedFrom blank
+no-ids-blank k [] h e = refl
+no-ids-blank k (zero ∷ xs) h e = h
+no-ids-blank k (suc x ∷ xs) h e = absurd (omega (arith, ap length (sym (ids-more x xs) ∙ e)))
+
+-- ---- formed rows
+
+-- A row has at most as many ids as cells.
+pub ids-length : (l : List ℕ) → length (idsIn l) ≤ length l
+unfolding idsIn
+ids-length [] = omega arith
+ids-length (zero ∷ xs) = omega arith
+ids-length (suc x ∷ xs) = omega (arith, ids-length xs, ap length (ids-more x xs))
+
+-- The ids of a formed row rise.
+pub formed-rising : (k : ℕ) (l : List ℕ) → formedFrom k l ≡ true → risingFrom k (idsIn l) ≡ true
+unfolding idsIn risingFrom
+formed-rising k [] h = refl
+formed-rising k (zero ∷ xs) h = refl
+formed-rising k (suc x ∷ xs) h =
+    let b = both (ltb k (suc x)) (formedFrom (suc x) xs) (sym (formed-more k x xs) ∙ h) in
+    ap (λ (r : List ℕ). risingFrom k r) (ids-more x xs)
+    ∙ ap₂ _&&_ (b .0) (formed-rising (suc x) xs (b .1))
+
+-- A formed row is its ids, then zeros.
+pub formed-cells : (k : ℕ) (l : List ℕ) → formedFrom k l ≡ true → l ≡ idsIn l ++ replicate (length l - length (idsIn l)) 0
+unfolding idsIn formedFrom
+formed-cells k [] h = refl
+formed-cells k (zero ∷ xs) h =
+    ap (λ (r : List ℕ). 0 ∷ r) (blank-zeros xs h) ∙ ap (λ (n : ℕ). replicate n 0) (sym (sub-zero (suc (length xs))))
+formed-cells k (suc x ∷ xs) h =
+    let b = both (ltb k (suc x)) (formedFrom (suc x) xs) (sym (formed-more k x xs) ∙ h) in
+    let e : length xs - length (idsIn xs) ≡ suc (length xs) - suc (length (idsIn xs)) = omega arith in
+    ap (λ (r : List ℕ). suc x ∷ r) (formed-cells (suc x) xs (b .1))
+    ∙ (ap (λ (n : ℕ). suc x ∷ (idsIn xs ++ replicate n 0)) e
+    ∙ ap (λ (r : List ℕ). r ++ replicate (suc (length xs) - length r) 0) (sym (ids-more x xs)))
+
+-- So each cell is the id at its place, or 0 where there is none.
+pub formed-cell : (k : ℕ) (l : List ℕ) (i : ℕ) → formedFrom k l ≡ true → getD (idsIn l) i 0 ≡ getD l i 0
+formed-cell k l i h =
+    sym (ap (λ (r : List ℕ). getD r i 0) (formed-cells k l h) ∙ getD-zeros (idsIn l) (length l - length (idsIn l)) i)
+
+-- Formed rows of one length with the same ids are equal.
+pub formed-same : (j k : ℕ) (l m : List ℕ) → formedFrom j l ≡ true → formedFrom k m ≡ true → length l ≡ length m → idsIn l ≡ idsIn m → l ≡ m
+formed-same j k l m hl hm e d =
+    formed-cells j l hl
+    ∙ (ap₂ (λ (n : ℕ) (r : List ℕ). r ++ replicate (n - length r) 0) e d ∙ sym (formed-cells k m hm))
+
+-- ---- rows of ids
+
+-- Zeros after rising ids leave the ids as they are.
+pub rising-ids : (k n : ℕ) (r : List ℕ) → risingFrom k r ≡ true → idsIn (r ++ replicate n 0) ≡ r
+unfolding idsIn risingFrom
+rising-ids k zero [] h = refl
+rising-ids k (suc n) [] h = refl
+rising-ids k n (zero ∷ xs) h = absurd (omega (arith, ltb-true k 0 (both (ltb k 0) (risingFrom 0 xs) h .0)))
+rising-ids k n (suc x ∷ xs) h =
+    ids-more x (xs ++ replicate n 0)
+    ∙ ap (λ (r : List ℕ). suc x ∷ r) (rising-ids (suc x) n xs (both (ltb k (suc x)) (risingFrom (suc x) xs) h .1))
+
+-- Rising ids, then zeros, are a formed row.
+pub rising-formed : (k n : ℕ) (r : List ℕ) → risingFrom k r ≡ true → formedFrom k (r ++ replicate n 0) ≡ true
+unfolding formedFrom risingFrom
+rising-formed k zero [] h = refl
+rising-formed k (suc n) [] h = zeros-blank n
+rising-formed k n (zero ∷ xs) h = absurd (omega (arith, ltb-true k 0 (both (ltb k 0) (risingFrom 0 xs) h .0)))
+rising-formed k n (suc x ∷ xs) h =
+    let b = both (ltb k (suc x)) (risingFrom (suc x) xs) h in
+    formed-more k x (xs ++ replicate n 0) ∙ ap₂ _&&_ (b .0) (rising-formed (suc x) n xs (b .1))

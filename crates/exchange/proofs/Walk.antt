@@ -1,0 +1,169 @@
+-- Freeing a walk of crossed pairs, step by step, as a program runs it; it reads the entries of a walk up to its length only, so that a program may
+-- hold them in arrays.
+-- Assumes nothing.
+use Prim.Native.Nat.{ℕ, zero, suc, _+_, _-_, _*_, _%_, _≤_, _<_}
+use mathlib.Core.Path.{_≡_, refl, ap, ap₂, _∙_, subst}
+use mathlib.Core.Bool.{Bool, true, false, cond}
+use mathlib.Core.Logic.{⊎-elim}
+use native.Mathlib.Omega.{arith}
+use lib.Dec.{ltb, eqb}
+use borrow.Author.Tests.{ltb-true, lt-ltb, le-ltb}
+use Rattle.sums.specs.Sum.{sumTo, is, one-if}
+use Rattle.sums.proofs.Sum.{lt-or-ge, sum-cong}
+use Rattle.exchange.specs.Circuit.{cost, turn}
+use Rattle.exchange.specs.Uncross.{Walk, walk, Same, seek, crosses, partner, first, skip, wrap, part, inner, outer, walk-costs, split, uncross, improved}
+use Rattle.exchange.proofs.Uncross.{skip-le, wrap-low, wrap-end, partner-found, first-found}
+
+-- ---- the steps
+
+-- The pair that the search finds.
+pub first-pair : (P : ℕ) (ok : ℕ → ℕ → ℕ → Bool) (w : Walk) → first P ok w < w .len
+    → (first P ok w < partner P ok w (first P ok w)) × (partner P ok w (first P ok w) < w .len)
+first-pair P ok w h =
+    (partner-found P ok w (first P ok w) .from, ltb-true (partner P ok w (first P ok w)) (w .len) (first-found P ok w .passes (omega arith)))
+
+module _ (P C : ℕ) (g : ℕ → ℕ → ℕ) (ok : ℕ → ℕ → ℕ → Bool) where
+  -- Where the search finds no pair, the walk stays.
+  pub uncross-stop : (n : ℕ) (w : Walk) → w .len ≤ first P ok w → uncross n P C g ok w ≡ w
+  unfolding uncross
+  uncross-stop zero w h = refl
+  uncross-stop (suc n) w h =
+      ap (λ (t : Bool). cond t (uncross n P C g ok (split P C g w (first P ok w) (partner P ok w (first P ok w)))) w) (le-ltb (first P ok w) (w .len) h)
+
+  -- Where it finds one, it goes on with a part.
+  pub uncross-go : (n : ℕ) (w : Walk) → first P ok w < w .len
+      → uncross (suc n) P C g ok w ≡ uncross n P C g ok (split P C g w (first P ok w) (partner P ok w (first P ok w)))
+  unfolding uncross
+  uncross-go n w h =
+      ap (λ (t : Bool). cond t (uncross n P C g ok (split P C g w (first P ok w) (partner P ok w (first P ok w)))) w) (lt-ltb (first P ok w) (w .len) h)
+
+-- ---- walks that are the same
+
+pub same-refl : (w : Walk) → Same w w
+same-refl w = record { lens = refl; nodes = λ t l. refl; partitions = λ t l. refl }
+
+pub same-trans : {w u v : Walk} → Same w u → Same u v → Same w v
+same-trans {w} {u} {v} a b =
+    record {
+      lens = a .lens ∙ b .lens;
+      nodes = λ t l. a .nodes t l ∙ b .nodes t (omega arith);
+      partitions = λ t l. a .partitions t l ∙ b .partitions t (omega arith);
+    }
+
+-- Tests that agree find the same.
+seek-same : (n : ℕ) (f h : ℕ → Bool) (t : ℕ) → ((u : ℕ) → t ≤ u → u < t + n → f u ≡ h u) → seek n f t ≡ seek n h t
+unfolding seek
+seek-same zero f h t e = refl
+seek-same (suc n) f h t e = ap₂ (λ (b : Bool) (r : ℕ). cond b t r) (e t (omega arith) (omega arith)) (seek-same n f h (suc t) (λ u l k. e u (omega arith) (omega arith)))
+
+-- A sum over the arcs.
+sum-same : {w u : Walk} (f : ℕ → ℕ → ℕ → ℕ) → Same w u
+    → sumTo (w .len) (λ i. f (w .partition i) (w .node (suc i)) (w .node i)) ≡ sumTo (u .len) (λ i. f (u .partition i) (u .node (suc i)) (u .node i))
+sum-same {w} {u} f s =
+    sum-cong (w .len) (λ i. f (w .partition i) (w .node (suc i)) (w .node i)) (λ i. f (u .partition i) (u .node (suc i)) (u .node i))
+    (λ i l. cc (s .partitions i l, s .nodes (suc i) l, s .nodes i (omega arith)))
+    ∙ ap (λ (m : ℕ). sumTo m (λ i. f (u .partition i) (u .node (suc i)) (u .node i))) (s .lens)
+
+-- The turn.
+pub turn-same : {w u : Walk} → Same w u → (S : ℕ → ℕ → ℕ) (p x : ℕ)
+    → turn (w .len) (w .node) (w .partition) S p x ≡ turn (u .len) (u .node) (u .partition) S p x
+unfolding turn
+turn-same s S p x =
+    ap₂ (λ (a b : ℕ). S p x + a - b) (sum-same (λ q a b. is q p * is b x) s) (sum-same (λ q a b. is q p * is a x) s)
+
+module _ (P C : ℕ) (g : ℕ → ℕ → ℕ) (ok : ℕ → ℕ → ℕ → Bool) where
+  crosses-same : {w u : Walk} → Same w u → (i j : ℕ) → i < j → j < w .len
+      → crosses P ok (w .node) (w .partition) i j ≡ crosses P ok (u .node) (u .partition) i j
+  unfolding crosses
+  crosses-same {w} {u} s i j l h =
+      rw (
+        s .partitions i (omega arith),
+        s .partitions j h,
+        s .nodes i (omega arith),
+        s .nodes (suc i) (omega arith),
+        s .nodes j (omega arith),
+        s .nodes (suc j) h,
+      )
+
+  partner-same : {w u : Walk} → Same w u → (i : ℕ) → i < w .len → partner P ok w i ≡ partner P ok u i
+  unfolding partner
+  partner-same {w} {u} s i l =
+      ap (λ (m : ℕ). seek (m - suc i) (crosses P ok (w .node) (w .partition) i) (suc i)) (s .lens)
+      ∙ seek-same (u .len - suc i) (crosses P ok (w .node) (w .partition) i) (crosses P ok (u .node) (u .partition) i) (suc i)
+      (λ j a b. crosses-same s i j a (omega arith))
+
+  first-same : {w u : Walk} → Same w u → first P ok w ≡ first P ok u
+  unfolding first
+  first-same {w} {u} s =
+      seek-same (w .len) (λ i. ltb (partner P ok w i) (w .len)) (λ i. ltb (partner P ok u i) (u .len)) 0
+      (λ i a b. ap₂ ltb (partner-same s i (omega arith)) (s .lens))
+      ∙ ap (λ (m : ℕ). seek m (λ i. ltb (partner P ok u i) (u .len)) 0) (s .lens)
+
+  -- Parts of walks that are the same.
+  part-same : {w u : Walk} → Same w u → (n k : ℕ) (f : ℕ → ℕ) → n ≡ k → ((t : ℕ) → t ≤ n → f t ≤ w .len) → ((t : ℕ) → t < n → f t < w .len)
+      → Same (part n f w) (part k f u)
+  part-same s n k f e a b = record { lens = e; nodes = λ t l. s .nodes (f t) (a t l); partitions = λ t l. s .partitions (f t) (b t l) }
+
+  -- One choice between the parts, and the same parts.
+  pub split-same : {w u : Walk} → Same w u → (i j : ℕ) → i < j → j < w .len → Same (split P C g w i j) (split P C g u i j)
+  unfolding split
+  split-same {w} {u} s i j l h =
+      subst (λ (b : Bool). Same (cond (test w) (inner w i j) (outer w i j)) (cond b (inner u i j) (outer u i j)))
+      (ap (λ (n : ℕ). ltb n ((j - i) * C)) (sum-same (cost P C g) inside)) (go (test w))
+    where
+      test : Walk → Bool
+      test v = ltb (walk-costs P C g (inner v i j)) ((j - i) * C)
+
+      inside : Same (inner w i j) (inner u i j)
+      inside =
+          part-same s (j - i) (j - i) (wrap i (j - i)) refl
+          (λ t a. ⊎-elim (λ b. omega (arith, wrap-low i (j - i) t b)) (λ b. omega (arith, wrap-end i (j - i) t b)) (lt-or-ge t (j - i)))
+          (λ t a. omega (arith, wrap-low i (j - i) t a))
+
+      outside : Same (outer w i j) (outer u i j)
+      outside =
+          part-same s (w .len - (j - i)) (u .len - (j - i)) (skip i (j - i)) (ap (λ (m : ℕ). m - (j - i)) (s .lens))
+          (λ t a. omega (arith, skip-le i (j - i) t)) (λ t a. omega (arith, skip-le i (j - i) t))
+
+      go : (b : Bool) → Same (cond b (inner w i j) (outer w i j)) (cond b (inner u i j) (outer u i j))
+      go true = inside
+      go false = outside
+
+  -- Walks that are the same are so when freed of crossed pairs.
+  pub uncross-same : (n : ℕ) {w u : Walk} → Same w u → Same (uncross n P C g ok w) (uncross n P C g ok u)
+  unfolding uncross
+  uncross-same zero s = s
+  uncross-same (suc n) {w} {u} s =
+      ⊎-elim
+      (λ a. let l : first P ok u < u .len = omega (arith, s .lens, first-same s) in
+      let d = first-pair P ok w a in
+      rw (uncross-go P C g ok n w a, uncross-go P C g ok n u l, ← first-same s, ← partner-same s (first P ok w) a)
+      (uncross-same n (split-same s (first P ok w) (partner P ok w (first P ok w)) (d .0) (d .1))))
+      (λ b. let l : u .len ≤ first P ok u = omega (arith, s .lens, first-same s) in
+      rw (uncross-stop P C g ok (suc n) w b, uncross-stop P C g ok (suc n) u l) s)
+      (lt-or-ge (first P ok w) (w .len))
+
+  -- They lead to the same layout.
+  pub improved-same : {w u : Walk} → Same w u → (S : ℕ → ℕ → ℕ) (p x : ℕ) → improved P C g ok w S p x ≡ improved P C g ok u S p x
+  unfolding improved
+  improved-same {w} {u} s S p x =
+      turn-same (uncross-same (w .len) s) S p x
+      ∙ ap (λ (n : ℕ). let v = uncross n P C g ok u in turn (v .len) (v .node) (v .partition) S p x) (s .lens)
+
+-- ---- an example
+
+-- The nodes 0, 3, 1, 2 and 0 again.
+around : ℕ → ℕ
+around t = 3 * is t 1 + is t 2 + 2 * is t 3
+
+-- The exchanges 0 → 2 and 1 → 3 of partition 0 can be crossed, those of partition 1 not. The inner part, over 1 and 2, is taken if it gains ..
+inner-taken : let w = uncross 4 2 1 (λ p b. is p 0 * is b 2) (λ p a b. eqb p 0) (walk 4 around (λ t. (suc t) % 2)) in
+    (w .len ≡ 2) × (w .node 0 ≡ 1) × (w .node 1 ≡ 2) × (w .node 2 ≡ 1) × (w .partition 0 ≡ 1) × (w .partition 1 ≡ 0)
+unfolding uncross first partner seek crosses split skip wrap cost sumTo is one-if around
+inner-taken = (refl, refl, refl, refl, refl, refl)
+
+-- .. and else the outer part, over 0 and 3.
+outer-taken : let w = uncross 4 2 1 (λ p b. is p 0 * is b 3) (λ p a b. eqb p 0) (walk 4 around (λ t. (suc t) % 2)) in
+    (w .len ≡ 2) × (w .node 0 ≡ 0) × (w .node 1 ≡ 3) × (w .node 2 ≡ 0) × (w .partition 0 ≡ 1) × (w .partition 1 ≡ 0)
+unfolding uncross first partner seek crosses split skip wrap cost sumTo is one-if around
+outer-taken = (refl, refl, refl, refl, refl, refl)
