@@ -55,7 +55,7 @@ bytes-byte (suc w) n (suc i) = bytes-byte w n i
 pub number-bytes : (w n : ℕ) → n < 256 ^ w → numberOf (bytesOf w n) ≡ n
 unfolding bytesOf numberOf
 number-bytes zero n h = omega arith
-number-bytes (suc w) n h = 
+number-bytes (suc w) n h =
     let p = 256 ^ w in
     let d : n / p * p + n % p ≡ n = div-add-mod' n p in
     let small : n / p < 256 = div-lt-iff-lt-mul (bytes-pos w) .1 (omega (arith, pow-suc 256 w, mul-comm p 256)) in
@@ -159,7 +159,7 @@ number-split s at v w h =
 -- The number in one byte.
 pub number-byte : (s : List ℕ) (at : ℕ) → numberAt s at 1 ≡ getD s at 0
 unfolding numberOf
-number-byte s at = 
+number-byte s at =
     ⊎-elim (λ l. number-there s at 1 (omega arith) ∙ (ap (λ (r : List ℕ). numberOf (take 1 r)) (drop-cons s at 0 l) ∙ (add-zero (getD s at 0 * 1) ∙ mul-one (getD s at 0))))
     (λ g. number-none s at 1 (omega arith) ∙ sym (List·getD-eq-default s 0 g))
     (lt-or-ge at (length s))

@@ -194,12 +194,12 @@ module _ (s : List ℕ) (at allowed exact tag start len : ℕ) (e : fieldAt s at
       let after = drop (at + 1) s in
       let next : at + 1 + 2 ≡ start = omega arith in
       let behind : drop 2 after ≡ part s start len ++ drop (start + len) s =
-          drop-drop 2 (at + 1) s
-          ∙ (ap (λ (k : ℕ). drop k s) next
-          ∙ (sym (take-append-drop len (drop start s)) ∙ ap (λ (l : List ℕ). part s start len ++ l) (drop-drop len start s)))
-          in
+      drop-drop 2 (at + 1) s
+      ∙ (ap (λ (k : ℕ). drop k s) next
+      ∙ (sym (take-append-drop len (drop start s)) ∙ ap (λ (l : List ℕ). part s start len ++ l) (drop-drop len start s)))
+      in
       let head : take 2 after ≡ bytesOf 2 (length (part s start len)) =
-          sym (bytes-there s (at + 1) 2 b (omega arith)) ∙ ap (bytesOf 2) (sym length-read ∙ sym (length-part s start len (omega arith))) in
+      sym (bytes-there s (at + 1) 2 b (omega arith)) ∙ ap (bytesOf 2) (sym length-read ∙ sym (length-part s start len (omega arith))) in
       drop-cons s at 0 (omega arith)
       ∙ ap₂ (λ (t : ℕ) (l : List ℕ). t ∷ l) (sym (number-byte s at) ∙ sym tag-read)
       (ap (λ (k : ℕ). drop k s) (sym (add-one at))
@@ -230,19 +230,19 @@ module _ (s rest body : List ℕ) (at tag : ℕ) (e : drop at s ≡ field tag bo
 
   -- Writing and reading again: where a field stands that is allowed and has a legal length, it is read whole.
   pub field-here : (allowed exact : ℕ) → memberOf allowed tag ≡ true → legalAs exact tag (length body) ≡ true
-    → fieldAt s at allowed exact ≡ Body tag (at + 3) (length body)
+      → fieldAt s at allowed exact ≡ Body tag (at + 3) (length body)
   unfolding field
   field-here allowed exact t l =
       let long : length s - at ≡ 3 + length body + length rest = sym (length-drop at s) ∙ (ap length e ∙ (length-append (field tag body) rest ∙ ap (λ (k : ℕ). k + length rest) (length-field tag body))) in
       let short : length body < 65536 = omega (arith, legal-greatest tag (length body) (lawful exact tag (length body) l), greatest-lt tag) in
       let a : numberAt s at 1 ≡ tag =
-          number-byte s at ∙ (ap (λ (k : ℕ). getD s k 0) (sym (add-zero at)) ∙ (sym (getD-drop at s 0 0) ∙ ap (λ (r : List ℕ). getD r 0 0) e)) in
+      number-byte s at ∙ (ap (λ (k : ℕ). getD s k 0) (sym (add-zero at)) ∙ (sym (getD-drop at s 0 0) ∙ ap (λ (r : List ℕ). getD r 0 0) e)) in
       let n : numberAt s (at + 1) 2 ≡ length body = number-here s (body ++ rest) (at + 1) 2 (length body) head-here short in
       field-whole s at allowed exact (omega arith) (ap (memberOf allowed) a ∙ t) (ap₂ (legalAs exact) a n ∙ l) (omega arith)
       ∙ ap₂ (λ (x y : ℕ). Body x (at + 3) y) a n
 
 -- The same behind any bytes.
 pub field-front : (before body rest : List ℕ) (tag allowed exact : ℕ) → memberOf allowed tag ≡ true → legalAs exact tag (length body) ≡ true
-  → fieldAt (before ++ (field tag body ++ rest)) (length before) allowed exact ≡ Body tag (length before + 3) (length body)
+    → fieldAt (before ++ (field tag body ++ rest)) (length before) allowed exact ≡ Body tag (length before + 3) (length body)
 field-front before body rest tag allowed exact t l =
     field-here (before ++ (field tag body ++ rest)) rest body (length before) tag (drop-append-seam before (field tag body ++ rest)) allowed exact t l

@@ -1,18 +1,18 @@
 -- The laws of writing: bytes written one after the other, and a record that is written from front to back.
 -- Assumes nothing.
-use Prim.Native.Nat.{ℕ, zero, suc, _+_, _-_, _≤_, _<_}
+use Prim.Native.Nat.{ℕ, _+_, _/_, _%_, _^_, _≤_, _<_}
 use mathlib.Core.Path.{_≡_, refl, sym, ap, ap₂, _∙_, subst}
 use mathlib.Core.Bool.{Bool, true, false}
 use mathlib.Core.List.{List, [], _∷_, _++_, append-assoc}
 use mathlib.Core.Logic.{⊎-elim}
-use native.Mathlib.Numerals.{add-one}
+use native.Mathlib.Nat.{div-one}
 use native.Mathlib.Omega.{arith}
 use lib.ListN.{length, take, drop, getD, set, length-append, length-drop}
 use lib.Seq.{take-at, drop-append-add, drop-drop, length-take-le, sets-eq}
 use Rattle.sums.specs.Sum.{pick}
 use Rattle.sums.proofs.Sum.{lt-or-ge}
-use Rattle.fields.specs.RecordField.{has, written, over}
-use Rattle.fields.proofs.Numbers.{has-true, has-false}
+use Rattle.fields.specs.RecordField.{bytesOf, has, written, over}
+use Rattle.fields.proofs.Numbers.{has-true, has-false, length-bytes, bytes-append}
 
 pub written-fits : (s : List ℕ) (at : ℕ) (l : List ℕ) → at + length l ≤ length s → written s at l ≡ take at s ++ l ++ drop (at + length l) s
 unfolding written
@@ -66,3 +66,21 @@ written-append s at l m h =
 -- One byte is written by one store.
 pub written-byte : (s : List ℕ) (at b : ℕ) → at < length s → set s at b ≡ written s at (b ∷ [])
 written-byte s at b h = sets-eq (b ∷ []) s at (omega arith) ∙ sym (written-fits s at (b ∷ []) (omega arith))
+
+-- One store writes the lowest byte of a number.
+pub written-one : (s : List ℕ) (at n : ℕ) → at < length s → set s at (n % 256) ≡ written s at (bytesOf 1 n)
+unfolding bytesOf
+written-one s at n h = written-byte s at (n % 256) h ∙ ap (λ (k : ℕ). written s at (k % 256 ∷ [])) (sym (div-one n))
+
+-- A number is not written where its bytes do not fit.
+pub written-short : (s : List ℕ) (at w n : ℕ) → length s < at + w → written s at (bytesOf w n) ≡ s
+written-short s at w n h = written-not s at (bytesOf w n) (omega (arith, length-bytes w n))
+
+-- A number of v + w bytes is written as its high v bytes and then its low w bytes.
+pub written-split : (s : List ℕ) (at v w n : ℕ) → at + (v + w) ≤ length s
+    → written (written s at (bytesOf v (n / 256 ^ w))) (at + v) (bytesOf w n) ≡ written s at (bytesOf (v + w) n)
+written-split s at v w n h =
+    let high = bytesOf v (n / 256 ^ w) in
+    ap (λ (k : ℕ). written (written s at high) (at + k) (bytesOf w n)) (sym (length-bytes v (n / 256 ^ w)))
+    ∙ (written-append s at high (bytesOf w n) (omega (arith, length-bytes v (n / 256 ^ w), length-bytes w n))
+    ∙ ap (written s at) (bytes-append v w n))

@@ -13,17 +13,61 @@ pub struct Rule {
 
 // The legal lengths by tag. There is no tag 0, so no length is legal for it.
 const LEGAL: [Rule; 11] = [
-    Rule { least: 1, greatest: 0, step: 1 },
-    Rule { least: 1, greatest: 1, step: 1 },
-    Rule { least: 1, greatest: 1, step: 1 },
-    Rule { least: 1, greatest: 1, step: 1 },
-    Rule { least: 10, greatest: 10, step: 1 },
-    Rule { least: 6, greatest: 34, step: 4 },
-    Rule { least: 4, greatest: 4, step: 1 },
-    Rule { least: 2, greatest: 2, step: 1 },
-    Rule { least: 1, greatest: 1, step: 1 },
-    Rule { least: 2, greatest: 2, step: 1 },
-    Rule { least: 6, greatest: 34, step: 4 },
+    Rule {
+        least: 1,
+        greatest: 0,
+        step: 1,
+    },
+    Rule {
+        least: 1,
+        greatest: 1,
+        step: 1,
+    },
+    Rule {
+        least: 1,
+        greatest: 1,
+        step: 1,
+    },
+    Rule {
+        least: 1,
+        greatest: 1,
+        step: 1,
+    },
+    Rule {
+        least: 10,
+        greatest: 10,
+        step: 1,
+    },
+    Rule {
+        least: 6,
+        greatest: 34,
+        step: 4,
+    },
+    Rule {
+        least: 4,
+        greatest: 4,
+        step: 1,
+    },
+    Rule {
+        least: 2,
+        greatest: 2,
+        step: 1,
+    },
+    Rule {
+        least: 1,
+        greatest: 1,
+        step: 1,
+    },
+    Rule {
+        least: 2,
+        greatest: 2,
+        step: 1,
+    },
+    Rule {
+        least: 6,
+        greatest: 34,
+        step: 4,
+    },
 ];
 
 // What stands at a byte of a record: a whole field, or a refusal with the byte at which the field begins.
@@ -104,7 +148,11 @@ pub fn put_word(out: &mut [u8], at: usize, value: u32)
 fn rule_of(tag: usize) -> Rule
     ensures { λ r. ⌜ r ≡ ruleOf tag ⌝ }
 {
-    if tag < LEGAL.len() { LEGAL[tag] } else { LEGAL[0] }
+    if tag < LEGAL.len() {
+        LEGAL[tag]
+    } else {
+        LEGAL[0]
+    }
 }
 
 // Whether a body of this length is legal for this tag and, where `exact` is not 0, of that length.
@@ -130,21 +178,37 @@ pub fn field_at(s: &[u8], at: usize, allowed: u32, exact: usize) -> Field
     ensures { λ r. ⌜ (r ≡ fieldAt (now (s .entry)) at allowed exact) × Within (length (now (s .entry))) at allowed exact r ⌝ }
 {
     if !reaches(s.len(), at, 3) {
-        return Field::Refused { refusal: cluster::refusal::CUT, at };
+        return Field::Refused {
+            refusal: cluster::refusal::CUT,
+            at,
+        };
     }
     let tag = byte_at(s, at);
     if !sets::member(allowed, tag) {
-        return Field::Refused { refusal: cluster::refusal::TAG, at };
+        return Field::Refused {
+            refusal: cluster::refusal::TAG,
+            at,
+        };
     }
     let len = pair_at(s, at + 1) as usize;
     if !is_legal(exact, tag as usize, len) {
-        return Field::Refused { refusal: cluster::refusal::LENGTH, at };
+        return Field::Refused {
+            refusal: cluster::refusal::LENGTH,
+            at,
+        };
     }
     let start = at + 3;
     if !reaches(s.len(), start, len) {
-        return Field::Refused { refusal: cluster::refusal::CUT, at };
+        return Field::Refused {
+            refusal: cluster::refusal::CUT,
+            at,
+        };
     }
-    Field::Body { tag: tag as u8, start, len }
+    Field::Body {
+        tag: tag as u8,
+        start,
+        len,
+    }
 }
 
 // The refusal of a field that cannot be taken whole; 0 for a whole field.
@@ -152,7 +216,11 @@ pub fn refusal_of(f: Field) -> u32
     ensures { λ r. ⌜ r ≡ refusalOf f ⌝ }
 {
     match f {
-        Field::Body { tag: _, start: _, len: _ } => 0,
+        Field::Body {
+            tag: _,
+            start: _,
+            len: _,
+        } => 0,
         Field::Refused { refusal, at: _ } => refusal,
     }
 }
@@ -162,7 +230,11 @@ pub fn place_of(f: Field) -> usize
     ensures { λ r. ⌜ r ≡ placeOf f ⌝ }
 {
     match f {
-        Field::Body { tag: _, start: _, len: _ } => 0,
+        Field::Body {
+            tag: _,
+            start: _,
+            len: _,
+        } => 0,
         Field::Refused { refusal: _, at } => at,
     }
 }
