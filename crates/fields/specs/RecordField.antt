@@ -59,13 +59,26 @@ rule least greatest step = record { least = least; greatest = greatest; step = s
 abbrev pub noLength : Rule
 noLength = rule 1 0 1
 
--- "The legal lengths by tag are one table": the rules of the tags 0, 1, 2 and on.
--- There is no tag 0; "1 bits (1 byte), 2 replication (1), 3 redundancy (1)"; "4 box (10: id 4, zone 2, capacity 4)";
--- "5 former row (2 + 4m: partition 2, then m rising ids, m from 1 to 8)"; "6 size (4 bytes, at least 1), 7 distance (2, at most 4,096),
--- 8 verdict (1: 1 finished, 0 stopped), 9 improvements (2, at most 2,048), then P fields 10 (2 + 4R: partition, R rising ids)", R from 1 to 8.
+-- "The legal lengths by tag are one table": the rules of the tags 0, 1, 2 and on. There is no tag 0.
 abbrev pub rules : List Rule
 rules =
-    noLength ∷ rule 1 1 1 ∷ rule 1 1 1 ∷ rule 1 1 1 ∷ rule 10 10 1 ∷ rule 6 34 4 ∷ rule 4 4 1 ∷ rule 2 2 1 ∷ rule 1 1 1 ∷ rule 2 2 1 ∷ rule 6 34 4 ∷ []
+    noLength
+    -- "1 bits (1 byte), 2 replication (1), 3 redundancy (1)"
+    ∷ rule 1 1 1
+    ∷ rule 1 1 1
+    ∷ rule 1 1 1
+    -- "4 box (10: id 4, zone 2, capacity 4)"
+    ∷ rule 10 10 1
+    -- "5 former row (2 + 4m: partition 2, then m rising ids, m from 1 to 8)"
+    ∷ rule 6 34 4
+    -- "6 size (4 bytes, at least 1), 7 distance (2, at most 4,096), 8 verdict (1: 1 finished, 0 stopped), 9 improvements (2, at most 2,048)"
+    ∷ rule 4 4 1
+    ∷ rule 2 2 1
+    ∷ rule 1 1 1
+    ∷ rule 2 2 1
+    -- "10 (2 + 4R: partition, R rising ids)", R from 1 to 8
+    ∷ rule 6 34 4
+    ∷ []
 
 -- The rule of a tag; a tag that the table does not have has no legal length.
 unfoldable pub ruleOf : ℕ → Rule

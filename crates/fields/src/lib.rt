@@ -13,56 +13,67 @@ pub struct Rule {
 
 // The legal lengths by tag. There is no tag 0, so no length is legal for it.
 const LEGAL: [Rule; 11] = [
+    // 0: none.
     Rule {
         least: 1,
         greatest: 0,
         step: 1,
     },
+    // 1 bits.
     Rule {
         least: 1,
         greatest: 1,
         step: 1,
     },
+    // 2 replication.
     Rule {
         least: 1,
         greatest: 1,
         step: 1,
     },
+    // 3 redundancy.
     Rule {
         least: 1,
         greatest: 1,
         step: 1,
     },
+    // 4 node: id 4, zone 2, capacity 4.
     Rule {
         least: 10,
         greatest: 10,
         step: 1,
     },
+    // 5 former row: partition 2, one to eight ids.
     Rule {
         least: 6,
         greatest: 34,
         step: 4,
     },
+    // 6 size.
     Rule {
         least: 4,
         greatest: 4,
         step: 1,
     },
+    // 7 distance.
     Rule {
         least: 2,
         greatest: 2,
         step: 1,
     },
+    // 8 verdict.
     Rule {
         least: 1,
         greatest: 1,
         step: 1,
     },
+    // 9 improvements.
     Rule {
         least: 2,
         greatest: 2,
         step: 1,
     },
+    // 10 row: partition 2, one to eight ids.
     Rule {
         least: 6,
         greatest: 34,
