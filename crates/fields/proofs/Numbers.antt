@@ -5,11 +5,10 @@ use mathlib.Core.Path.{_≡_, refl, sym, ap, ap₂, _∙_, subst}
 use mathlib.Core.Bool.{Bool, true, false}
 use mathlib.Core.List.{List, [], _∷_, _++_}
 use mathlib.Core.Logic.{⊎-elim}
-use native.Mathlib.Nat.{add-zero, add-comm, suc-add, add-mul, zero-mul, zero-add, mul-one, mul-assoc, mul-comm, mul-le-mul-right, mod-lt, mod-eq-of-lt, div-one, div-add-mod', div-lt-iff-lt-mul, div-div-eq-div-mul, mul-add-div-right, mul-add-mod-self-right, div-eq-of-lt, pow-suc}
+use native.Mathlib.Nat.{add-zero, add-comm, suc-add, add-mul, zero-mul, zero-add, mul-one, mul-assoc, mul-comm, mul-le-mul-right, mod-lt, mod-eq-of-lt, div-add-mod', div-lt-iff-lt-mul, div-div-eq-div-mul, mul-add-div-right, mul-add-mod-self-right, div-eq-of-lt, pow-suc}
 use native.Mathlib.Omega.{arith}
-use lib.Dec.{leb}
-use lib.ListN.{length, take, drop, getD, length-append, length-take, length-drop, List·getD-eq-default}
-use lib.Seq.{getD-take, getD-drop, take-add, drop-drop, drop-cons, take-at, length-take-le, drop-append-seam}
+use lib.ListN.{length, take, drop, getD, length-append, length-drop, List·getD-eq-default}
+use lib.Seq.{getD-drop, take-add, drop-drop, drop-cons, take-at, length-take-le, drop-append-seam}
 use lib.Pow.{pow-add}
 use borrow.Author.Tests.{leb-true, leb-false, le-leb, lt-leb}
 use Rattle.sums.specs.Sum.{pick}
@@ -21,6 +20,7 @@ bytes-pos : (w : ℕ) → 0 < 256 ^ w
 bytes-pos zero = omega arith
 bytes-pos (suc w) = omega (arith, bytes-pos w, pow-suc 256 w)
 
+-- w bytes are w bytes.
 pub length-bytes : (w n : ℕ) → length (bytesOf w n) ≡ w
 unfolding bytesOf
 length-bytes zero n = refl
@@ -45,6 +45,7 @@ bytes-append (suc v) w n =
     let e : n / 256 ^ w / 256 ^ v ≡ n / 256 ^ (v + w) = div-div-eq-div-mul n (256 ^ w) (256 ^ v) ∙ ap (λ (k : ℕ). n / k) (sym (pow-add 256 w v) ∙ ap (λ (k : ℕ). 256 ^ k) (add-comm w v)) in
     ap₂ (λ (x : ℕ) (l : List ℕ). x % 256 ∷ l) e (bytes-append v w n) ∙ ap (λ (k : ℕ). bytesOf k n) (sym (suc-add v w))
 
+-- They are below 256.
 pub bytes-byte : (w n : ℕ) → Bytes (bytesOf w n)
 unfolding bytesOf
 bytes-byte zero n i = omega arith
@@ -94,23 +95,27 @@ number-append (b ∷ l) m =
     let e : 256 ^ length (l ++ m) ≡ p * q = ap (λ (k : ℕ). 256 ^ k) (length-append l m) ∙ pow-add 256 (length l) (length m) in
     omega (arith, number-append l m, ap (λ (k : ℕ). b * k) e, mul-assoc b p q, add-mul (b * p) (numberOf l) q)
 
--- w bytes from byte `at` on are there, or they are not.
+-- w bytes from byte `at` on are there.
 pub has-true : (n at w : ℕ) → at + w ≤ n → has n at w ≡ true
 unfolding has
 has-true n at w h = le-leb (at + w) n h
 
+-- They are not, where the record ends before.
 pub has-false : (n at w : ℕ) → n < at + w → has n at w ≡ false
 unfolding has
 has-false n at w h = lt-leb (at + w) n h
 
+-- The test says that they are there.
 pub true-has : (n at w : ℕ) → has n at w ≡ true → at + w ≤ n
 unfolding has
 true-has n at w h = leb-true (at + w) n h
 
+-- The test says that they are not.
 pub false-has : (n at w : ℕ) → has n at w ≡ false → n < at + w
 unfolding has
 false-has n at w h = leb-false (at + w) n h
 
+-- A part that is there has its length.
 pub length-part : (s : List ℕ) (at w : ℕ) → at + w ≤ length s → length (part s at w) ≡ w
 length-part s at w h = length-take-le w (drop at s) (omega (arith, length-drop at s))
 
@@ -118,19 +123,22 @@ length-part s at w h = length-take-le w (drop at s) (omega (arith, length-drop a
 pub part-append : (s : List ℕ) (at v w : ℕ) → part s at (v + w) ≡ part s at v ++ part s (at + v) w
 part-append s at v w = take-add v w (drop at s) ∙ ap (λ (l : List ℕ). part s at v ++ take w l) (drop-drop v at s)
 
--- A part of bytes has bytes.
+-- What is left of bytes has bytes.
 pub bytes-drop : (s : List ℕ) (at : ℕ) → Bytes s → Bytes (drop at s)
 bytes-drop s at b i = subst (λ (k : ℕ). k < 256) (sym (getD-drop at s i 0)) (b (at + i))
 
+-- So has what is taken of them.
 pub bytes-take : (s : List ℕ) (n : ℕ) → Bytes s → Bytes (take n s)
 bytes-take s zero b i = omega arith
 bytes-take [] (suc n) b i = omega arith
 bytes-take (x ∷ s) (suc n) b zero = b 0
 bytes-take (x ∷ s) (suc n) b (suc i) = bytes-take s n (λ j. b (suc j)) i
 
+-- So has a part.
 pub bytes-part : (s : List ℕ) (at w : ℕ) → Bytes s → Bytes (part s at w)
 bytes-part s at w b = bytes-take (drop at s) w (bytes-drop s at b)
 
+-- Bytes and bytes are bytes.
 pub bytes-join : (l m : List ℕ) → Bytes l → Bytes m → Bytes (l ++ m)
 bytes-join [] m a b i = b i
 bytes-join (x ∷ l) m a b zero = a 0

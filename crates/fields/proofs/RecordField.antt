@@ -3,26 +3,25 @@
 -- Assumes nothing.
 use Prim.Native.Nat.{ℕ, zero, suc, _+_, _-_, _%_, _≤_, _<_}
 use mathlib.Core.Path.{_≡_, refl, sym, ap, ap₂, _∙_, subst}
-use mathlib.Core.Bool.{Bool, true, false, not, _&&_, _||_, and-true, or-true}
+use mathlib.Core.Bool.{Bool, true, false, _&&_, _||_, and-true, or-true}
 use mathlib.Core.List.{List, [], _∷_, _++_, append-assoc}
 use mathlib.Core.Logic.{_⊎_, inl, inr, ⊎-elim}
-use native.Mathlib.Nat.{add-zero}
+use native.Mathlib.Nat.{add-zero, div-one, mod-eq-of-lt}
 use native.Mathlib.Numerals.{add-one}
 use native.Mathlib.Omega.{arith}
 use lib.Dec.{leb, ltb, eqb}
 use lib.ListN.{length, take, drop, getD, length-append, length-drop, take-append-drop, List·getD-eq-default}
 use lib.Seq.{drop-cons, drop-drop, getD-drop, drop-append-seam, drop-at}
 use borrow.Author.Tests.{leb-true, le-leb, ltb-true, eqb-true, ne-eqb, eq-eqb}
-use Rattle.sums.specs.Sum.{pick, is}
 use Rattle.sums.proofs.Sum.{lt-or-ge, is-cases}
 use Rattle.sets.specs.Bits.{bit, memberOf, withOf}
 use Rattle.sets.proofs.Laws.{bit-high, bit-zero, bit-with, bit-true, member-true, with-lt}
 use Rattle.cluster.proofs.Lists.{and-left, and-right, test-cases}
-use Rattle.fields.specs.RecordField.{bytesOf, Bytes, part, has, numberAt, field, noLength, rules, ruleOf, legal, legalAs, judged, fieldAt, Whole, Within}
+use Rattle.fields.specs.RecordField.{bytesOf, Bytes, part, numberAt, field, noLength, rules, ruleOf, legal, legalAs, judged, fieldAt, Whole, Within}
 use Rattle.fields.specs.declared.Rule.{Rule}
 use Rattle.fields.specs.declared.Field.{Field}
 use Rattle.fields.specs.declared.Field.the-variants.{Body, Refused}
-use Rattle.fields.proofs.Numbers.{length-bytes, has-true, has-false, true-has, number-byte, number-here, bytes-there, length-part}
+use Rattle.fields.proofs.Numbers.{length-bytes, has-true, has-false, number-byte, number-here, bytes-there, bytes-byte, bytes-join, length-part}
 
 -- ---- the table
 
@@ -36,6 +35,7 @@ passes f [] d h k i = k
 passes f (r ∷ l) d h k zero = and-left (f r) (every f l) h
 passes f (r ∷ l) d h k (suc i) = passes f l d (and-right (f r) (every f l) h) k i
 
+-- No rule has steps of 0.
 pub step-pos : (tag : ℕ) → 0 < ruleOf tag .step
 unfolding ruleOf
 step-pos tag = ltb-true 0 (ruleOf tag .step) (passes (λ r. ltb 0 (r .step)) rules noLength refl refl tag)
@@ -60,7 +60,7 @@ pub rule-none : (tag : ℕ) → length rules ≤ tag → ruleOf tag ≡ noLength
 unfolding ruleOf
 rule-none tag h = List·getD-eq-default rules noLength h
 
--- What a legal length is.
+-- A legal length is at least the least, at most the greatest, and some steps above the least.
 pub legal-least : (tag len : ℕ) → legal tag len ≡ true → ruleOf tag .least ≤ len
 unfolding legal
 legal-least tag len h = leb-true (ruleOf tag .least) len (and-left (leb (ruleOf tag .least) len) (leb len (ruleOf tag .greatest) && eqb ((len - ruleOf tag .least) % ruleOf tag .step) 0) h)
@@ -76,9 +76,18 @@ pub legal-step : (tag len : ℕ) → legal tag len ≡ true → (len - ruleOf ta
 legal-step tag len h =
     eqb-true ((len - ruleOf tag .least) % ruleOf tag .step) 0 (and-right (leb len (ruleOf tag .greatest)) (eqb ((len - ruleOf tag .least) % ruleOf tag .step) 0) (legal-rest tag len h))
 
+-- What has these three is legal.
 pub legal-true : (tag len : ℕ) → ruleOf tag .least ≤ len → len ≤ ruleOf tag .greatest → (len - ruleOf tag .least) % ruleOf tag .step ≡ 0 → legal tag len ≡ true
 unfolding legal
 legal-true tag len a b e = simp (le-leb _ _ a, le-leb _ _ b, eq-eqb _ _ e)
+
+-- Tag 0, and a tag that the table does not have, have no legal length.
+pub legal-none : (tag len : ℕ) → ruleOf tag ≡ noLength → legal tag len ≡ false
+legal-none tag len e =
+    ⊎-elim
+    (λ t. absurd
+    (omega (arith, subst (λ (r : Rule). r .least ≤ len) e (legal-least tag len t), subst (λ (r : Rule). len ≤ r .greatest) e (legal-greatest tag len t))))
+    (λ f. f) (test-cases (legal tag len))
 
 -- Legal where no one length is asked for.
 pub legal-any : (tag len : ℕ) → legalAs 0 tag len ≡ legal tag len
@@ -90,7 +99,7 @@ pub legal-only : (tag len : ℕ) → legal tag len ≡ true → legalAs len tag 
 unfolding legalAs
 legal-only tag len h = simp (h, eq-eqb len len refl, or-true)
 
--- Of a length that is legal, and where one length is asked for.
+-- What is legal where one length is asked for is legal for the tag, and of that length.
 pub lawful : (exact tag len : ℕ) → legalAs exact tag len ≡ true → legal tag len ≡ true
 unfolding legalAs
 lawful exact tag len h = and-left (legal tag len) (eqb exact 0 || eqb len exact) h
@@ -111,8 +120,16 @@ with-tag m a t h =
     (λ g. absurd (omega (arith, bit-high 32 (withOf m a) t (with-lt m a) g)))
     (lt-or-ge t 32)
 
+-- The empty set has no tag.
 pub no-tag : (t : ℕ) → memberOf 0 t ≡ true → ⊥
 no-tag t h = omega (arith, member-true 0 t h, bit-zero t)
+
+-- The tag of a set of one, and of a set of two.
+pub one-tag : (a t : ℕ) → memberOf (withOf 0 a) t ≡ true → t ≡ a
+one-tag a t h = ⊎-elim (λ e. e) (λ z. absurd (no-tag t z)) (with-tag 0 a t h)
+
+pub two-tags : (a b t : ℕ) → memberOf (withOf (withOf 0 a) b) t ≡ true → (t ≡ a) ⊎ (t ≡ b)
+two-tags a b t h = ⊎-elim (λ e. inr e) (λ r. inl (one-tag a t r)) (with-tag (withOf 0 a) b t h)
 
 -- ---- the field at a byte
 
@@ -207,9 +224,21 @@ module _ (s : List ℕ) (at allowed exact tag start len : ℕ) (e : fieldAt s at
       ∙ (ap₂ (λ (x y : List ℕ). x ++ y) head behind
       ∙ sym (append-assoc (bytesOf 2 (length (part s start len))) (part s start len) (drop (start + len) s)))))
 
+-- A field is three bytes longer than its body.
 pub length-field : (tag : ℕ) (body : List ℕ) → length (field tag body) ≡ 3 + length body
 unfolding field
 length-field tag body = omega (arith, length-append (bytesOf 2 (length body)) body, length-bytes 2 (length body))
+
+-- A field in its three parts, as it is written.
+pub field-bytes : (tag : ℕ) (body : List ℕ) → tag < 256 → field tag body ≡ bytesOf 1 tag ++ (bytesOf 2 (length body) ++ body)
+unfolding field bytesOf
+field-bytes tag body h = ap (λ (k : ℕ). k ∷ (bytesOf 2 (length body) ++ body)) (sym (ap (λ (k : ℕ). k % 256) (div-one tag) ∙ mod-eq-of-lt h))
+
+-- A field is made of bytes.
+pub bytes-field : (tag : ℕ) (body : List ℕ) → tag < 256 → Bytes body → Bytes (field tag body)
+bytes-field tag body h b =
+    subst Bytes (sym (field-bytes tag body h))
+    (bytes-join (bytesOf 1 tag) (bytesOf 2 (length body) ++ body) (bytes-byte 1 tag) (bytes-join (bytesOf 2 (length body)) body (bytes-byte 2 (length body)) b))
 
 module _ (s rest body : List ℕ) (at tag : ℕ) (e : drop at s ≡ field tag body ++ rest) where
   -- After its tag a field has its length and its body.

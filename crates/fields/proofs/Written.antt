@@ -1,19 +1,20 @@
 -- The laws of writing: bytes written one after the other, and a record that is written from front to back.
 -- Assumes nothing.
 use Prim.Native.Nat.{ℕ, _+_, _/_, _%_, _^_, _≤_, _<_}
-use mathlib.Core.Path.{_≡_, refl, sym, ap, ap₂, _∙_, subst}
-use mathlib.Core.Bool.{Bool, true, false}
+use mathlib.Core.Path.{_≡_, refl, sym, ap, ap₂, _∙_}
+use mathlib.Core.Bool.{Bool}
 use mathlib.Core.List.{List, [], _∷_, _++_, append-assoc}
 use mathlib.Core.Logic.{⊎-elim}
 use native.Mathlib.Nat.{div-one}
 use native.Mathlib.Omega.{arith}
-use lib.ListN.{length, take, drop, getD, set, length-append, length-drop}
+use lib.ListN.{length, take, drop, set, length-append, length-drop}
 use lib.Seq.{take-at, drop-append-add, drop-drop, length-take-le, sets-eq}
 use Rattle.sums.specs.Sum.{pick}
 use Rattle.sums.proofs.Sum.{lt-or-ge}
-use Rattle.fields.specs.RecordField.{bytesOf, has, written, over}
+use Rattle.fields.specs.RecordField.{bytesOf, written, over}
 use Rattle.fields.proofs.Numbers.{has-true, has-false, length-bytes, bytes-append}
 
+-- What fits is written.
 pub written-fits : (s : List ℕ) (at : ℕ) (l : List ℕ) → at + length l ≤ length s → written s at l ≡ take at s ++ l ++ drop (at + length l) s
 unfolding written
 written-fits s at l h = ap (λ (t : Bool). pick t (take at s ++ l ++ drop (at + length l) s) s) (has-true (length s) at (length l) h)
@@ -23,10 +24,12 @@ pub written-not : (s : List ℕ) (at : ℕ) (l : List ℕ) → length s < at + l
 unfolding written
 written-not s at l h = ap (λ (t : Bool). pick t (take at s ++ l ++ drop (at + length l) s) s) (has-false (length s) at (length l) h)
 
+-- Of no record nothing is left in a buffer.
 pub over-none : (s : List ℕ) → over [] s ≡ s
 unfolding over
 over-none s = refl
 
+-- A record that fits leaves the buffer its length.
 pub length-over : (p s : List ℕ) → length p ≤ length s → length (over p s) ≡ length s
 unfolding over
 length-over p s h = omega (arith, length-append p (drop (length p) s), length-drop (length p) s)
@@ -48,6 +51,7 @@ written-over s at l h =
     written-fits s at l h
     ∙ ap (λ (k : ℕ). take at s ++ l ++ drop k s) (sym (length-append (take at s) l ∙ ap (λ (k : ℕ). k + length l) (length-take-le at s (omega arith))))
 
+-- Writing keeps the length.
 pub length-written : (s : List ℕ) (at : ℕ) (l : List ℕ) → length (written s at l) ≡ length s
 length-written s at l =
     ⊎-elim (λ b. ap length (written-not s at l b))
