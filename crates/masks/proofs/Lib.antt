@@ -1,0 +1,4 @@
+pub mod Named
+pub mod Rows
+pub mod Where
+pub mod Written
