@@ -2,3 +2,4 @@ pub mod Named
 pub mod Rows
 pub mod Where
 pub mod Written
+pub mod Laws

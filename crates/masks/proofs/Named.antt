@@ -118,12 +118,14 @@ higher b d k =
 -- A node that is done with: taken into the mask where its id v is the next one, x, and not else.
 pub node-done : (total mask b x v k mask′ : ℕ) → b < 32 → mask < 2 ^ b → total ≡ mask + 2 ^ b * (is x v + 2 * k)
     → ((x ≡ v) × (mask′ ≡ withOf mask b)) ⊎ ((x ≡ v → ⊥) × (mask′ ≡ mask)) → (mask′ < 2 ^ (b + 1)) × (total ≡ mask′ + 2 ^ (b + 1) * k)
-node-done total mask b x v k mask′ h bound inv (inl w) =
-    (omega (arith, w .1, with-next mask b h bound, ap (λ (n : ℕ). 2 ^ n) (add-one b), pow-suc 2 b),
-    omega (arith, w .1, with-next mask b h bound, higher b 1 k, inv ∙ ap (λ (d : ℕ). mask + 2 ^ b * (d + 2 * k)) (is-eq (w .0))))
-node-done total mask b x v k mask′ h bound inv (inr w) =
-    (omega (arith, w .1, ap (λ (n : ℕ). 2 ^ n) (add-one b), pow-suc 2 b),
-    omega (arith, w .1, higher b 0 k, inv ∙ ap (λ (d : ℕ). mask + 2 ^ b * (d + 2 * k)) (is-ne (w .0))))
+node-done total mask b x v k mask′ h bound inv (inl w) = (
+  omega (arith, w .1, with-next mask b h bound, ap (λ (n : ℕ). 2 ^ n) (add-one b), pow-suc 2 b),
+  omega (arith, w .1, with-next mask b h bound, higher b 1 k, inv ∙ ap (λ (d : ℕ). mask + 2 ^ b * (d + 2 * k)) (is-eq (w .0))),
+)
+node-done total mask b x v k mask′ h bound inv (inr w) = (
+  omega (arith, w .1, ap (λ (n : ℕ). 2 ^ n) (add-one b), pow-suc 2 b),
+  omega (arith, w .1, higher b 0 k, inv ∙ ap (λ (d : ℕ). mask + 2 ^ b * (d + 2 * k)) (is-ne (w .0))),
+)
 
 -- Where nothing is left, the mask is whole.
 pub walked : (total mask b k : ℕ) → total ≡ mask + 2 ^ b * k → k ≡ 0 → mask ≡ total

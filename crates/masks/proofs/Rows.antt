@@ -49,6 +49,12 @@ all-each (suc n) i f h l =
     let b = both (allTo n f) (f n) h in
     ⊎-elim (λ k. all-each n i f (b .0) k) (λ k. let e : i ≡ n = omega arith in ap f e ∙ b .1) (lt-or-ge i n)
 
+-- A test that holds of each holds of all.
+pub each-all : (n : ℕ) (f : ℕ → Bool) → ((i : ℕ) → i < n → f i ≡ true) → allTo n f ≡ true
+unfolding allTo
+each-all zero f h = refl
+each-all (suc n) f h = ap₂ _&&_ (each-all n f (λ i l. h i (omega arith))) (h n (omega arith))
+
 -- A test that fails of one number does not hold of all.
 pub all-not : (n i : ℕ) (f : ℕ → Bool) → i < n → f i ≡ false → allTo n f ≡ false
 unfolding allTo

@@ -3,13 +3,13 @@
 use Prim.Native.Nat.{ℕ, zero, suc, _+_, _≤_, _<_, min}
 use mathlib.Core.Path.{_≡_, refl, sym, ap, ap₂, _∙_}
 use mathlib.Core.List.{List, [], _∷_}
-use mathlib.Core.Bool.{Bool, true, false}
+use mathlib.Core.Bool.{Bool}
 use mathlib.Core.Logic.{⊎-elim}
 use native.Mathlib.Omega.{arith}
 use lib.Dec.{eqb}
-use lib.ListN.{length, drop, getD, List·getD-eq-default}
-use lib.Seq.{drop-drop, getD-drop}
-use borrow.Author.Tests.{eq-eqb, ne-eqb, eqb-true, eqb-false}
+use lib.ListN.{length, take, drop, getD, List·getD-eq-default}
+use lib.Seq.{drop-drop, getD-take, getD-drop}
+use borrow.Author.Tests.{eq-eqb, ne-eqb}
 use Rattle.sums.specs.Sum.{sumTo, pick}
 use Rattle.sums.proofs.Sum.{lt-or-ge}
 use Rattle.sets.specs.Bits.{bit, withoutOf, leastOf}
@@ -18,6 +18,14 @@ use Rattle.cluster.specs.Terms.{noNode}
 use Rattle.cluster.specs.Tie.{idsWhere}
 use Rattle.cluster.specs.declared.Node.{Node}
 use Rattle.cluster.proofs.TieRows.{sum-first}
+
+-- A node in use has the id of its slot.
+pub slot-id : (slots : List Node) (count b : ℕ) → b < count → getD (take count slots) b noNode .id ≡ getD slots b noNode .id
+slot-id slots count b h = ap (λ (n : Node). n .id) (getD-take count slots b noNode h)
+
+-- Past the nodes the id is 0.
+pub past-id : (ns : List Node) (b : ℕ) → length ns ≤ b → getD ns b noNode .id ≡ 0
+past-id ns b h = ap (λ (n : Node). n .id) (List·getD-eq-default ns noNode h)
 
 -- A node at which f is 0 is left out,
 where-out : (n : Node) (ns : List Node) (f : ℕ → ℕ) → f 0 ≡ 0 → idsWhere (n ∷ ns) f ≡ idsWhere ns (λ b. f (suc b))
@@ -85,7 +93,7 @@ where-least ns s few =
     (λ l. let e : idsWhere ns (bit s) ≡ [] = where-none ns (bit s) (λ b k. least-before s b (omega arith)) in
     let d : idsWhere ns (bit (withoutOf s (leastOf s))) ≡ [] =
     where-none ns (bit (withoutOf s (leastOf s))) (λ b k. omega (arith, bit-without s (leastOf s) b (omega arith), least-before s b (omega arith))) in
-    (ap (λ (r : List ℕ). getD r 0 0) e ∙ sym (ap (λ (n : Node). n .id) (List·getD-eq-default ns noNode l)), ap (λ (r : List ℕ). drop 1 r) e ∙ sym d))
+    (ap (λ (r : List ℕ). getD r 0 0) e ∙ sym (past-id ns (leastOf s) l), ap (λ (r : List ℕ). drop 1 r) e ∙ sym d))
     (lt-or-ge (leastOf s) (length ns))
 
 module _ (ns : List Node) (r : List ℕ) (j s : ℕ) (few : length ns ≤ 32) (inv : drop j r ≡ idsWhere ns (bit s)) where

@@ -1,9 +1,9 @@
 -- The cells of a layout, written row by row.
 -- Assumes nothing.
-use Prim.Native.Nat.{ℕ, zero, suc, _+_, _-_, _*_, _/_, _%_, _≤_, _<_}
+use Prim.Native.Nat.{ℕ, zero, suc, _+_, _*_, _/_, _%_, _≤_, _<_}
 use mathlib.Core.Path.{_≡_, refl, sym, ap, ap₂, _∙_}
-use mathlib.Core.List.{List, [], _∷_, _++_}
-use mathlib.Core.Bool.{Bool, true, false}
+use mathlib.Core.List.{List, [], _++_}
+use mathlib.Core.Bool.{Bool}
 use mathlib.Core.Logic.{⊎-elim}
 use native.Mathlib.Nat.{add-zero, add-suc}
 use native.Mathlib.Numerals.{add-one}
@@ -18,7 +18,7 @@ use Rattle.sets.specs.Bits.{bit}
 use Rattle.cells.specs.Cells.{tab, put}
 use Rattle.cells.proofs.Cells.{length-tab, getD-tab, tab-more}
 use Rattle.cluster.specs.Limits.{rowCells}
-use Rattle.cluster.specs.Terms.{Layout, row}
+use Rattle.cluster.specs.Terms.{row}
 use Rattle.cluster.specs.Tie.{idsWhere}
 use Rattle.cluster.specs.declared.Node.{Node}
 use Rattle.masks.specs.Model.{rowsWhere}

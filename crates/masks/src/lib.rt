@@ -18,7 +18,11 @@ use cluster::rows;
 fn used(c: Cluster) -> usize
     ensures { λ r. ⌜ (r ≡ length (topology c .nodes)) × (r ≤ 32) × (r ≤ c .count) ⌝ }
 {
-    if c.count < Cluster::NODES { c.count } else { Cluster::NODES }
+    if c.count < Cluster::NODES {
+        c.count
+    } else {
+        Cluster::NODES
+    }
 }
 
 // The nodes that the ids of the row that starts at cell `from` name: one walk over the nodes and the ids.

@@ -1,3 +1,5 @@
+-- `masks::walk_row` meets its contract. The loop's invariant: the nodes that the row names are those of the mask, and what is left to the walk.
+-- Assumes nothing.
 use borrow.Author.Needs.{needs}
 use native.Mathlib.Omega.{arith}
 use Prim.Native.Nat.{ℕ, _≤_, _<_, _+_, _-_, _*_, _^_}
@@ -5,19 +7,15 @@ use mathlib.Core.Path.{_≡_, sym, ap, _∙_}
 use mathlib.Core.List.{List}
 use mathlib.Core.Logic.{inl, inr, ⊎-elim}
 use lib.ListN.{length, take, drop, getD}
-use lib.Seq.{getD-take}
 use Rattle.cluster.specs.Limits.{rowCells}
 use Rattle.cluster.specs.Terms.{topology, noNode}
 use Rattle.cluster.specs.TermsCells.{idsIn}
 use Rattle.cluster.specs.declared.Node.{Node}
 use Rattle.masks.specs.Model.{named}
 use Rattle.masks.proofs.Named.{left, left-all, left-end, left-past, left-zero, left-skip, left-node, node-done, walked}
+use Rattle.masks.proofs.Where.{slot-id}
 use Rattle.masks.proofs.walk_row.Statement.{statement}
 use Rattle.masks.proofs.walk_row.Tie as tie
-use Rattle.masks.proofs.walk_row.Reads as reads
-use Rattle.masks.proofs.walk_row.Lts as lts
-use Rattle.masks.proofs.used.Reads as used-reads
-use Rattle.sets.proofs.with.Reads as with-reads
 
 abbrev Inv-loop : tie.InvT-loop
 Inv-loop cells from c n to mask₀ b₀ i₀ mask b i =
@@ -30,10 +28,6 @@ abbrev μ-loop : tie.MeasureT-loop
 -- The nodes in use.
 abbrev nodes : tie.Start Inv-loop μ-loop → List Node
 nodes c = topology (c .args .t1) .nodes
-
--- A node in use has the id of its slot.
-id-at : (c : tie.Start Inv-loop μ-loop) (b : ℕ) → b < c .args .t1 .count → getD (nodes c) b noNode .id ≡ getD (c .args .t1 .nodes) b noNode .id
-id-at c b h = ap (λ (n : Node). n .id) (getD-take (c .args .t1 .count) (c .args .t1 .nodes) b noNode h)
 
 used-requires : tie.Need-used-requires Inv-loop μ-loop
 used-requires c κs = search needs
@@ -91,7 +85,7 @@ loop-again c =
       k .loop .inv .4
           ∙ ap (λ (n : ℕ). k .loop .mask + 2 ^ (k .loop .b) * n)
           (left-skip (nodes s) (k .loop .b) (s .args .cells .now) (s .args .from + rowCells) (k .loop .i) (search needs) (search needs)
-          _ (omega arith) (id-at s (k .loop .b) (omega arith)) (c .before .if2 .left) (c .if3 .taken)),
+          _ (omega arith) (slot-id (s .args .t1 .nodes) (s .args .t1 .count) (k .loop .b) (omega arith)) (c .before .if2 .left) (c .if3 .taken)),
     )
 
 cast-with : tie.Need-cast-with Inv-loop μ-loop
@@ -111,7 +105,7 @@ loop-again-2 c =
     let k = c .before .before .before .before .before .before in
     let s = k .before .before .before in
     let e = left-node (nodes s) (k .loop .b) (s .args .cells .now) (s .args .from + rowCells) (k .loop .i) (search needs) (search needs)
-    (getD (s .args .t1 .nodes) (k .loop .b) noNode .id) (omega arith) (id-at s (k .loop .b) (omega arith)) (c .before .before .if2 .left) (c .before .if3 .left) in
+    (getD (s .args .t1 .nodes) (k .loop .b) noNode .id) (omega arith) (slot-id (s .args .t1 .nodes) (s .args .t1 .count) (k .loop .b) (omega arith)) (c .before .before .if2 .left) (c .before .if3 .left) in
     let w = node-done _ (k .loop .mask) (k .loop .b) _ _ _ (c .if4 .mask) (omega arith) (k .loop .inv .3)
     (k .loop .inv .4 ∙ ap (λ (n : ℕ). k .loop .mask + 2 ^ (k .loop .b) * n) e)
     (⊎-elim (λ u. inl (u .0 .taken, u .2 ∙ u .1 .ensures)) (λ u. inr (u .0 .left, u .1)) (c .if4 .came)) in
