@@ -1,0 +1,4 @@
+pub mod Columns
+pub mod Slots
+pub mod Adding
+pub mod Fitting
