@@ -9,19 +9,18 @@ use Rattle.sizing.proofs.nodes.used.Statement.{statement}
 use Rattle.sizing.proofs.nodes.used.Tie as tie
 use Rattle.sizing.proofs.nodes.used.Reads as reads
 use Rattle.sizing.proofs.nodes.used.Lts as lts
+use Rattle.sizing.proofs.nodes.cut.Reads as cut-reads
 
 long : (c : tie.Start) → length (c .args .c .nodes) ≡ 32
 long c = search length-of-map
 
+cut-requires : tie.Need-cut-requires
+cut-requires c κs = search needs
+
 returns : tie.Need-returns
 returns c = 
-    let s = c .before .before in
-    (omega (arith, long s, length-take (s .args .c .count) (s .args .c .nodes)), search needs, search needs)
-
-returns-2 : tie.Need-returns-2
-returns-2 c =
-    let s = c .before .before in
-    (omega (arith, long s, length-take (s .args .c .count) (s .args .c .nodes)), search needs, search needs)
+    let s = c .before in
+    (omega (arith, c .cut .ensures, long s, length-take (s .args .c .count) (s .args .c .nodes)), search needs, search needs)
 
 pub used-spec : {M : Type 1} → statement M
-used-spec = tie.close (tie.spec returns returns-2)
+used-spec = tie.close (tie.spec cut-requires returns)
