@@ -17,6 +17,11 @@ cell-blank zero b = refl
 cell-blank (suc n) zero = refl
 cell-blank (suc n) (suc b) = cell-blank n b
 
+-- A turn of a loop that writes the first cells of a list.
+pub put-next : (f : ℕ → ℕ) (k l : List ℕ) (n v : ℕ) → l ≡ put 0 f n k → v ≡ f n → set l n v ≡ put 0 f (n + 1) k
+put-next f k l n v e d =
+    ap₂ (λ (r : List ℕ) (x : ℕ). set r n x) e d ∙ (ap (λ (i : ℕ). set (put 0 f n k) i (f n)) (sym (zero-add n)) ∙ put-more 0 f n k)
+
 -- A column has 32 cells.
 pub length-column : (f : ℕ → ℕ) (n : ℕ) → length (column f n) ≡ 32
 unfolding column
@@ -27,14 +32,10 @@ pub column-none : (f : ℕ → ℕ) → blanks ≡ column f 0
 unfolding column
 column-none f = put-none 0 f blanks
 
--- One number more.
-pub column-more : (f : ℕ → ℕ) (n : ℕ) → set (column f n) n (f n) ≡ column f (n + 1)
-unfolding column
-column-more f n = ap (λ (i : ℕ). set (put 0 f n blanks) i (f n)) (sym (zero-add n)) ∙ put-more 0 f n blanks
-
 -- A turn of a loop that writes a column.
 pub column-next : (f : ℕ → ℕ) (l : List ℕ) (n v : ℕ) → l ≡ column f n → v ≡ f n → set l n v ≡ column f (n + 1)
-column-next f l n v e d = ap₂ (λ (k : List ℕ) (x : ℕ). set k n x) e d ∙ column-more f n
+unfolding column
+column-next f l n v e d = put-next f blanks l n v e d
 
 -- The end of a loop that writes a column.
 pub column-end : (f : ℕ → ℕ) (l : List ℕ) (b n : ℕ) → l ≡ column f b → b ≡ n → l ≡ column f n

@@ -6,3 +6,6 @@ pub mod Agree
 pub mod Masks
 pub mod Arrays
 pub mod Bisecting
+pub mod Pouring
+pub mod Lining
+pub mod Giving

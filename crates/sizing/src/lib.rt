@@ -9,6 +9,8 @@ ghost use Rattle.dealing.specs.Deal.{fits};
 ghost use Rattle.sizing.specs.Model.{zoneCells, mateCells, capCells, sizeOf, sizeIn};
 use cluster::Cluster;
 
+mod copies;
+mod line;
 mod nodes;
 mod totals;
 
