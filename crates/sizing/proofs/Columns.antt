@@ -52,14 +52,16 @@ pub cell-column-out : (f : ℕ → ℕ) (n b : ℕ) → n ≤ b → cell (column
 unfolding column
 cell-column-out f n b h = getD-put-out 0 f n blanks b 0 (λ j l e. omega arith) ∙ cell-blank 32 b
 
+-- Equal numbers are written alike.
+pub put-cong : (f g : ℕ → ℕ) (n : ℕ) (l : List ℕ) → ((b : ℕ) → b < n → f b ≡ g b) → put 0 f n l ≡ put 0 g n l
+unfolding put
+put-cong f g zero l e = refl
+put-cong f g (suc n) l e = ap₂ (λ (k : List ℕ) (v : ℕ). set k (0 + n) v) (put-cong f g n l (λ b m. e b (omega arith))) (e n (omega arith))
+
 -- Equal numbers give equal columns.
 pub column-cong : (f g : ℕ → ℕ) (n : ℕ) → ((b : ℕ) → b < n → f b ≡ g b) → column f n ≡ column g n
-unfolding column put
-column-cong f g n h = go n h
-  where
-    go : (k : ℕ) → ((b : ℕ) → b < k → f b ≡ g b) → put 0 f k blanks ≡ put 0 g k blanks
-    go zero e = refl
-    go (suc k) e = ap₂ (λ (l : List ℕ) (v : ℕ). set l (0 + k) v) (go k (λ b m. e b (omega arith))) (e k (omega arith))
+unfolding column
+column-cong f g n h = put-cong f g n blanks h
 
 -- An array is the column of its own cells.
 pub column-cells : (f : ℕ → ℕ) (l : List ℕ) → length l ≡ 32 → ((b : ℕ) → b < 32 → cell l b ≡ f b) → l ≡ column f 32

@@ -9,3 +9,4 @@ pub mod Bisecting
 pub mod Pouring
 pub mod Lining
 pub mod Giving
+pub mod Dealt

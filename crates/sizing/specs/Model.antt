@@ -45,9 +45,10 @@ beginning t s p b = dealt (partitions t) (nodesOf t) (t .replication) (zoneIndex
 unfoldable pub sizeIn : Cluster → ℕ
 sizeIn c = pick (eqb (faultOf c) 0) (sizeOf (topology c)) 0
 
--- What lent cells hold afterwards: the rows of the dealt layout, as sets of nodes, in as many cells as there are partitions; unchanged where
--- the cluster has a fault or the cells are too few.
+-- The rows of the dealt layout, as sets of nodes, in the first P cells.
+unfoldable pub dealtRows : Topology → ℕ → List ℕ → List ℕ
+dealtRows t s l = put 0 (λ p. maskOf (beginning t s p) (nodesOf t)) (partitions t) l
+
+-- What lent cells hold afterwards: the same cells where the cluster has a fault or they are too few.
 unfoldable pub dealtIn : Cluster → ℕ → List ℕ → List ℕ
-dealtIn c s l =
-    pick (eqb (faultOf c) 0 && leb (partitions (topology c)) (length l))
-    (put 0 (λ p. maskOf (beginning (topology c) s p) (nodesOf (topology c))) (partitions (topology c)) l) l
+dealtIn c s l = pick (eqb (faultOf c) 0 && leb (partitions (topology c)) (length l)) (dealtRows (topology c) s l) l

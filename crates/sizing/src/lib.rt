@@ -1,12 +1,13 @@
 // The size of a cluster and the layout that planning begins with. Every function is total: a cluster with a fault has the size 0, and
 // nothing is dealt for it.
 ghost use mathlib.Core.Path.{_≡_};
+ghost use Prim.Native.Nat.{_≤_};
 ghost use lib.ListN.{length};
 ghost use Rattle.cluster.specs.Terms.{topology, partitions};
 ghost use Rattle.cluster.specs.Faults.{faultOf};
 ghost use Rattle.cluster.specs.Tie.{zoneIndex, capAt};
 ghost use Rattle.dealing.specs.Deal.{fits};
-ghost use Rattle.sizing.specs.Model.{zoneCells, mateCells, capCells, sizeOf, sizeIn};
+ghost use Rattle.sizing.specs.Model.{zoneCells, mateCells, capCells, sizeOf, sizeIn, dealtRows, dealtIn};
 use cluster::Cluster;
 
 mod copies;
@@ -88,4 +89,30 @@ pub fn size(c: Cluster) -> u32
     ensures { λ r. ⌜ r ≡ sizeIn c ⌝ }
 {
     if c.fault() == 0 { bisected(c) } else { 0 }
+}
+
+// Deals the layout of a cluster without fault into the first P cells.
+fn begin(c: Cluster, size: u32, rows: &mut [u32])
+    requires { ⌜ (faultOf c ≡ 0) × (partitions (topology c) ≤ length (now rows)) ⌝ }
+    ensures { λ _. ⌜ now (rows .exit) ≡ dealtRows (topology c) size (now (rows .entry)) ⌝ }
+{
+    let n = nodes::used(c);
+    let most = nodes::partitions(c.bits);
+    let zones = zones(c);
+    let caps = caps(c, size);
+    let copies = copies::given(&zones, &caps, n, most, c.replication);
+    let starts = line::starts(&zones, &copies, n, most);
+    line::deal(rows, &starts, &copies, n, most);
+}
+
+// Deals the layout that planning begins with at a size: each of the first P cells becomes the set of the nodes of its partition's row.
+// Nothing is written where the cluster has a fault or there are fewer than P cells.
+pub fn deal(c: Cluster, size: u32, rows: &mut [u32])
+    ensures { λ _. ⌜ now (rows .exit) ≡ dealtIn c size (now (rows .entry)) ⌝ }
+{
+    if c.fault() == 0 {
+        if nodes::partitions(c.bits) as usize <= rows.len() {
+            begin(c, size, rows);
+        }
+    }
 }
