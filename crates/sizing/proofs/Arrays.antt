@@ -16,10 +16,10 @@ use Rattle.dealing.specs.Deal.{fits}
 use Rattle.sizing.specs.Columns.{cell, column, AtMost}
 use Rattle.sizing.specs.Model.{nodesOf, zoneCells, capCells}
 use Rattle.sizing.proofs.Columns.{cell-column, length-column}
-use Rattle.sizing.proofs.Agree.{Agree, fits-agree}
+use Rattle.sizing.proofs.Agree.{SameBelow, fits-agree}
 
 -- The cells of an array that is a column.
-pub cells-agree : (f : ℕ → ℕ) (n : ℕ) (l : List ℕ) → n ≤ 32 → l ≡ column f n → Agree n (cell l) f
+pub cells-agree : (f : ℕ → ℕ) (n : ℕ) (l : List ℕ) → n ≤ 32 → l ≡ column f n → SameBelow n (cell l) f
 cells-agree f n l h e b m = ap (λ (k : List ℕ). cell k b) e ∙ cell-column f n b h m
 
 -- An array that is a column has 32 cells.
@@ -32,7 +32,7 @@ partitions-few t a = (pow-pos (t .bits), pow-mono {i = t .bits} {j = mostBits} (
 
 module _ (t : Topology) (few : nodesOf t ≤ 32) where
   -- The array of zones holds the zone indices.
-  pub zones-hold : (l : List ℕ) → l ≡ zoneCells t → Agree (nodesOf t) (cell l) (zoneIndex t)
+  pub zones-hold : (l : List ℕ) → l ≡ zoneCells t → SameBelow (nodesOf t) (cell l) (zoneIndex t)
   unfolding zoneCells
   zones-hold l e = cells-agree (zoneIndex t) (nodesOf t) l few e
 
@@ -46,7 +46,7 @@ module _ (t : Topology) (few : nodesOf t ≤ 32) where
 
   module _ (s : ℕ) where
     -- The array of caps holds the caps.
-    pub caps-hold : (l : List ℕ) → l ≡ capCells t s → Agree (nodesOf t) (cell l) (capAt t s)
+    pub caps-hold : (l : List ℕ) → l ≡ capCells t s → SameBelow (nodesOf t) (cell l) (capAt t s)
     unfolding capCells
     caps-hold l e = cells-agree (capAt t s) (nodesOf t) l few e
 

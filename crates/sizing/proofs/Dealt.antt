@@ -16,7 +16,7 @@ use Rattle.sizing.specs.Columns.{cell, column, AtMost}
 use Rattle.sizing.specs.Line.{reaches}
 use Rattle.sizing.specs.Model.{nodesOf, zoneCells, capCells, beginning, dealtRows}
 use Rattle.sizing.proofs.Columns.{put-cong}
-use Rattle.sizing.proofs.Agree.{Agree, given-agree, start-agree, dealt-agree}
+use Rattle.sizing.proofs.Agree.{SameBelow, given-agree, start-agree, dealt-agree}
 use Rattle.sizing.proofs.Arrays.{cells-agree, zones-hold, caps-hold}
 
 -- What is given is at most the caps.
@@ -32,10 +32,10 @@ starts-low P n f starts few some e b l = omega (arith, cells-agree (λ b. f b % 
 module _ (P n R : ℕ) (zone cap : ℕ → ℕ) (few : n ≤ 32) (copies starts : List ℕ) (c : copies ≡ column (given P n R zone cap) n)
     (s : starts ≡ column (λ b. start P n zone (cell copies) b % P) n) where
   -- The arrays of copies and starts deal the rows.
-  pub cells-deal : (p : ℕ) → Agree n (λ b. reaches P (cell starts b) (cell copies b) p) (dealt P n R zone cap p)
+  pub cells-deal : (p : ℕ) → SameBelow n (λ b. reaches P (cell starts b) (cell copies b) p) (dealt P n R zone cap p)
   unfolding dealt among reaches
   cells-deal p b l =
-      let e : Agree n (cell copies) (given P n R zone cap) = cells-agree (given P n R zone cap) n copies few c in
+      let e : SameBelow n (cell copies) (given P n R zone cap) = cells-agree (given P n R zone cap) n copies few c in
       ap₂ (λ (x k : ℕ). reaches P x k p) (cells-agree (λ b. start P n zone (cell copies) b % P) n starts few s b l) (e b l)
       ∙ ap (λ (x : ℕ). among P x (given P n R zone cap b) p) (start-agree n zone zone (λ b m. refl) P (cell copies) (given P n R zone cap) e b l)
 

@@ -10,12 +10,12 @@ use Rattle.dealing.specs.Deal.{pour, zoned, first, more, given}
 use Rattle.dealing.proofs.Given.{first-le}
 use Rattle.sizing.specs.Columns.{cell, column, AtMost}
 use Rattle.sizing.proofs.Columns.{column-cong}
-use Rattle.sizing.proofs.Agree.{Agree, pour-agree}
+use Rattle.sizing.proofs.Agree.{SameBelow, pour-agree}
 use Rattle.sizing.proofs.Arrays.{cells-agree}
 
 module _ (P n R : ℕ) (zone cap : ℕ → ℕ) (few : n ≤ 32) (firsts : List ℕ) (e : firsts ≡ column (pour (R * P) (zoned P zone cap)) n) where
   -- The array of the first pass holds the first pass.
-  first-holds : Agree n (cell firsts) (first P R zone cap)
+  first-holds : SameBelow n (cell firsts) (first P R zone cap)
   unfolding first
   first-holds = cells-agree (pour (R * P) (zoned P zone cap)) n firsts few e
 

@@ -10,3 +10,4 @@ pub mod Pouring
 pub mod Lining
 pub mod Giving
 pub mod Dealt
+pub mod Sizes

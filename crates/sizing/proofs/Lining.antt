@@ -15,7 +15,7 @@ use Rattle.dealing.specs.Deal.{inZone, light, heavy, zoneStart, start}
 use Rattle.sizing.specs.Columns.{cell, column, AtMost}
 use Rattle.sizing.specs.Line.{lightOf, heavyOf, zoneBegins, reaches}
 use Rattle.sizing.proofs.Adding.{sum-bound, zone-bound}
-use Rattle.sizing.proofs.Agree.{Agree}
+use Rattle.sizing.proofs.Agree.{SameBelow}
 use Rattle.sizing.proofs.Arrays.{cells-agree}
 
 module _ (P : ℕ) (sums : ℕ → ℕ) (z : ℕ) where
@@ -73,7 +73,7 @@ begins-bound P sums n z few low h =
     lights m l = light-bound P sums m 8192 (λ x k. h x (omega arith))
 
 -- It depends on the copies of the zones alone.
-pub begins-agree : (P : ℕ) (f g : ℕ → ℕ) (n z : ℕ) → n ≤ 32 → z < 32 → Agree 32 f g → zoneBegins P n f z ≡ zoneBegins P n g z
+pub begins-agree : (P : ℕ) (f g : ℕ → ℕ) (n z : ℕ) → n ≤ 32 → z < 32 → SameBelow 32 f g → zoneBegins P n f z ≡ zoneBegins P n g z
 unfolding zoneBegins lightOf heavyOf
 begins-agree P f g n z few low h =
     ap₂ (λ (t u : ℕ). cond (ltb (f z) P) t u) (lights z (omega arith)) (ap₂ _+_ (lights n few) heavies)
