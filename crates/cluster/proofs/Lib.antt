@@ -1,5 +1,6 @@
 pub mod CellLayouts
 pub mod CellRows
+pub mod RowScans
 pub mod Scans
 pub mod Accepting
 pub mod Lists

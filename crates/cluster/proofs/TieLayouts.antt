@@ -1,31 +1,24 @@
 -- The terms and the theory of exchanges, both ways: a layout valid at a size is a layout of 0/1 rows within the caps of that size, and the other way round.
 -- Assumes nothing.
-use Prim.Native.Nat.{ℕ, _+_, _*_, _≤_, _<_, min}
-use mathlib.Core.Path.{_≡_, sym, ap, _∙_, subst}
+use Prim.Native.Nat.{ℕ, _+_, _*_, _≤_, _<_}
+use mathlib.Core.Path.{_≡_, refl, sym, ap, _∙_, subst}
 use mathlib.Core.List.{List, []}
 use mathlib.Core.Bool.{true}
 use native.Mathlib.Nat.{le-min, le-div-iff-mul-le}
 use native.Mathlib.Omega.{arith}
 use lib.ListN.{length, getD}
-use Rattle.sums.specs.Sum.{sumTo, one-if, is}
+use Rattle.sums.specs.Sum.{sumTo, one-if}
 use Rattle.sums.proofs.Sum.{sum-cong, sum-le, sum-const}
 use Rattle.cells.specs.Cells.{tab}
 use Rattle.cells.proofs.Cells.{length-tab, getD-tab, tab-cong, tab-getD}
-use Rattle.exchange.specs.Row.{zoneCount, cover, Valid, copies, weigh, Within}
+use Rattle.exchange.specs.Row.{Valid, copies, weigh, Within}
+use Rattle.exchange.proofs.Agreeing.{cover-cong, copies-cong, weigh-cong}
 use Rattle.cluster.specs.Terms.{Topology, partitions, noNode, nodeAt, idsOf, mem, rising, Layout, row, copiesIn, ValidRow, ValidAt, IsFormer, distance}
 use Rattle.cluster.specs.Tie.{zoneIndex, capAt, bitsOf, incidence, idsWhere, layoutOf, formerPairs}
 use Rattle.cluster.proofs.Lists.{one-if-le}
 use Rattle.cluster.proofs.TieRows.{row-length, copies-sum, where-known, where-rising, where-bits, where-row}
 use Rattle.cluster.proofs.TieZones.{zones-cover}
 use Rattle.cluster.proofs.TieDistance.{incidence-le, distance-law}
-
--- Rows with the same bits cover the same zones.
-pub cover-cong : (N : ℕ) (zone S T : ℕ → ℕ) → ((x : ℕ) → x < N → S x ≡ T x) → cover N zone S ≡ cover N zone T
-unfolding cover zoneCount
-cover-cong N zone S T h =
-    sum-cong N (λ z. min 1 (zoneCount N zone S z)) (λ z. min 1 (zoneCount N zone T z))
-    (λ z l. ap (min 1)
-    (sum-cong N (λ x. S x * is (zone x) z) (λ x. T x * is (zone x) z) (λ x k. ap (λ (n : ℕ). n * is (zone x) z) (h x k))))
 
 -- A layout made of 0/1 rows has a row for each partition.
 pub length-layout : (t : Topology) (S : ℕ → ℕ → ℕ) → length (layoutOf t S) ≡ partitions t
@@ -121,9 +114,9 @@ module _ (t : Topology) (ids : rising (idsOf (t .nodes)) ≡ true) where
       }
     where
       same : (b : ℕ) → b < length (t .nodes) → copies (partitions t) (incidence t (layoutOf t S)) b ≡ copies (partitions t) S b
-      same b h =
-          unfold copies in
-          sum-cong (partitions t) (λ p. incidence t (layoutOf t S) p b) (λ p. S p b) (λ p k. incidence-layout S p b k h (w .rows p k .bits b h))
+      same =
+          copies-cong (partitions t) (length (t .nodes)) (incidence t (layoutOf t S)) S
+          (λ p k b h. incidence-layout S p b k h (w .rows p k .bits b h))
 
       held : (b : ℕ) → b < length (t .nodes) → copies (partitions t) S b * s ≤ nodeAt t b .capacity
       held b h = le-div-iff-mul-le l .0 (unfold capAt in omega (arith, w .caps b h))
@@ -139,8 +132,5 @@ module _ (t : Topology) (ids : rising (idsOf (t .nodes)) ≡ true) where
     where
       same : weigh (partitions t) (length (t .nodes)) (incidence t F) (incidence t (layoutOf t S)) ≡ weigh (partitions t) (length (t .nodes)) (incidence t F) S
       same =
-          unfold weigh in
-          sum-cong (partitions t) (λ p. sumTo (length (t .nodes)) (λ b. incidence t (layoutOf t S) p b * incidence t F p b))
-          (λ p. sumTo (length (t .nodes)) (λ b. S p b * incidence t F p b))
-          (λ p h. sum-cong (length (t .nodes)) (λ b. incidence t (layoutOf t S) p b * incidence t F p b) (λ b. S p b * incidence t F p b)
-          (λ b k. ap (λ (n : ℕ). n * incidence t F p b) (incidence-layout S p b h k (v p h .bits b k))))
+          weigh-cong (partitions t) (length (t .nodes)) (incidence t F) (incidence t F) (incidence t (layoutOf t S)) S
+          (λ p h b k. refl) (λ p h b k. incidence-layout S p b h k (v p h .bits b k))

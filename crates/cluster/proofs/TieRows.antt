@@ -11,17 +11,11 @@ use lib.Dec.{eqb}
 use lib.ListN.{length, getD, length-map, List·getD-map}
 use borrow.Author.Tests.{eqb-true, eqb-false}
 use Rattle.sums.specs.Sum.{sumTo, one-if, pick}
-use Rattle.sums.proofs.Sum.{sum-cong}
+use Rattle.sums.proofs.Sum.{sum-cong, sum-first}
 use Rattle.cluster.specs.Terms.{noNode, idsOf, mem, risingFrom, Layout, row, copiesIn}
 use Rattle.cluster.specs.Tie.{bitsOf, idsWhere}
 use Rattle.cluster.specs.declared.Node.{Node}
 use Rattle.cluster.proofs.Lists.{same-test, mem-head, mem-skip, mem-tail, mem-cases, mem-index, index-mem, rising-head, rising-tail, rising-cons, rising-down, rising-above, rising-fresh, rising-same, over, over-length, over-within}
-
--- The first term, then the others.
-pub sum-first : (n : ℕ) (f : ℕ → ℕ) → sumTo (suc n) f ≡ f 0 + sumTo n (λ i. f (suc i))
-unfolding sumTo
-sum-first zero f = omega arith
-sum-first (suc n) f = omega (arith, sum-first n f)
 
 -- ---- the ids of the nodes
 

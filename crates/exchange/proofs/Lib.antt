@@ -8,3 +8,5 @@ pub mod Uncross
 pub mod Walk
 pub mod Levels
 pub mod Search
+pub mod Join
+pub mod Agreeing

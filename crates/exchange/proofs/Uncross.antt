@@ -9,28 +9,12 @@ use native.Mathlib.Omega.{arith}
 use lib.Dec.{ltb, eqb}
 use borrow.Author.Tests.{ltb-true, ltb-false, lt-ltb, le-ltb, le-leb, lt-leb, eqb-true, eq-eqb}
 use Rattle.sums.specs.Sum.{sumTo}
-use Rattle.sums.proofs.Sum.{lt-or-ge, eq-or-ne, sum-cong, sum-split}
+use Rattle.sums.proofs.Sum.{lt-or-ge, eq-or-ne, sum-cong, sum-part, sum-but-one}
 use Rattle.exchange.specs.Row.{Within}
 use Rattle.exchange.specs.Circuit.{cost, Allowed, Crossed, Uncrossed, Better}
 use Rattle.exchange.specs.Uncross.{Walk, crosses, partner, first, skip, wrap, part, inner, outer, walk-costs, split, uncross, improved, Round, Right}
 use Rattle.exchange.proofs.Search.{first-cases, first-some, first-none}
 use Rattle.exchange.proofs.Circuit.{cost-row, exchange, turn-better}
-
--- ---- sums
-
--- The first a terms, then the other b.
-sum-part : (n a b : ℕ) (f : ℕ → ℕ) → a + b ≡ n → sumTo n f ≡ sumTo a f + sumTo b (λ t. f (a + t))
-sum-part n a b f e = ap (λ (k : ℕ). sumTo k f) (sym e) ∙ sum-split a b f
-
--- Two sums whose terms differ at one index only.
-sum-but-one : (n s : ℕ) (f h : ℕ → ℕ) → s < n → ((t : ℕ) → t < n → (t ≡ s → ⊥) → f t ≡ h t) → sumTo n f + h s ≡ sumTo n h + f s
-unfolding sumTo
-sum-but-one zero s f h l e = absurd (omega arith)
-sum-but-one (suc n) s f h l e =
-    ⊎-elim (λ a. omega (arith, sum-but-one n s f h a (λ t k d. e t (omega arith) d), e n (omega arith) (λ d. omega arith)))
-    (λ b. let d : n ≡ s = omega arith in
-    omega (arith, sum-cong n f h (λ t k. e t (omega arith) (λ x. omega arith)), ap f d, ap h d))
-    (lt-or-ge s n)
 
 -- ---- where the entries of the two parts stand
 

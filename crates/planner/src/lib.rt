@@ -1,0 +1,2 @@
+// Planning: the size, the beginning, the run of improvements, and the plan.
+pub fn nothing() {}
