@@ -1,0 +1,26 @@
+-- `swaps::targets` meets its contract. Assumes nothing.
+use borrow.Author.Needs.{needs}
+use Rattle.swaps.specs.ModelSwaps.{targetsOf}
+use Rattle.swaps.proofs.targets.Statement.{statement}
+use Rattle.swaps.proofs.targets.Tie as tie
+use Rattle.swaps.proofs.targets.Reads as reads
+use Rattle.swaps.proofs.targets.Lts as lts
+use Rattle.swaps.proofs.cell.Reads as cell-reads
+use Rattle.swaps.proofs.targets_in.Reads as targets-in-reads
+use Rattle.swaps.proofs.touched.Reads as touched-reads
+
+touched-requires : tie.Need-touched-requires
+touched-requires c κs = search needs
+
+cell-requires : tie.Need-cell-requires
+cell-requires c κs = search needs
+
+targets-in-requires : tie.Need-targets-in-requires
+targets-in-requires c κs = search needs
+
+returns : tie.Need-returns
+unfolding targetsOf
+returns c = cc
+
+pub targets-spec : {M : Type 1} → statement M
+targets-spec = tie.close (tie.spec touched-requires cell-requires targets-in-requires returns)

@@ -1,0 +1,77 @@
+-- `swaps::targets_in` meets its contract. Assumes nothing.
+use Prim.Native.Nat.{ℕ}
+use mathlib.Core.Path.{_≡_, sym, _∙_}
+use Rattle.sets.specs.Bits.{withoutOf, unionOf, meetOf, differenceOf, leastOf}
+use Rattle.sets.proofs.Laws.{meet-lt}
+use Rattle.swaps.proofs.Steps.{two-members, one-member, targets-spare, targets-crowded, targets-few}
+use borrow.Author.Needs.{needs}
+use native.Mathlib.Omega.{arith}
+use Rattle.swaps.proofs.targets_in.Statement.{statement}
+use Rattle.swaps.proofs.targets_in.Tie as tie
+use Rattle.swaps.proofs.targets_in.Reads as reads
+use Rattle.swaps.proofs.targets_in.Lts as lts
+use Rattle.sets.proofs.difference.Reads as difference-reads
+use Rattle.sets.proofs.least.Reads as least-reads
+use Rattle.sets.proofs.meet.Reads as meet-reads
+use Rattle.sets.proofs.union.Reads as union-reads
+use Rattle.sets.proofs.without.Reads as without-reads
+
+-- The nodes of the row in the zone, without the least.
+abbrev gone : ℕ → ℕ → ℕ
+gone row mate = withoutOf (meetOf row mate) (leastOf (meetOf row mate))
+
+difference-requires : tie.Need-difference-requires
+difference-requires c κs = search needs
+
+returns : tie.Need-returns
+returns c =
+    let a = c .before .before .args in
+    c .before .difference .ensures ∙ sym (targets-spare (a .all) (a .row) (a .mate) (a .spare) (a .covered) (c .if1 .taken))
+
+meet-requires : tie.Need-meet-requires
+meet-requires c κs = search needs
+
+least-requires : tie.Need-least-requires
+least-requires c κs = search needs
+
+without-requires : tie.Need-without-requires
+without-requires c κs = search needs
+
+returns-2 : tie.Need-returns-2
+returns-2 c =
+    let a = c .before .before .before .before .before .before .args in
+    let e : c .before .without .result ≡ gone (a .row) (a .mate) = cc in
+    c .before .before .before .before .before .difference .ensures
+    ∙ sym (targets-crowded (a .all) (a .row) (a .mate) (a .spare) (a .covered) (c .before .before .before .before .if1 .left) (two-members (meetOf (a .row) (a .mate)) (meet-lt (a .row) (a .mate)) (λ z. c .if2 .taken (e ∙ z))))
+
+difference-requires-2 : tie.Need-difference-requires-2
+difference-requires-2 c κs = search needs
+
+union-requires : tie.Need-union-requires
+union-requires c κs = search needs
+
+meet-requires-2 : tie.Need-meet-requires-2
+meet-requires-2 c κs = search needs
+
+returns-3 : tie.Need-returns-3
+returns-3 c =
+    let a = c .before .before .before .before .before .before .before .before .before .args in
+    let d = c .before .before .before in
+    let e : d .before .without .result ≡ gone (a .row) (a .mate) = cc in
+    let r : c .meet2 .result ≡ meetOf (differenceOf (a .all) (a .row)) (unionOf (a .mate) (differenceOf (a .all) (a .covered))) = cc in
+    r ∙ sym (targets-few (a .all) (a .row) (a .mate) (a .spare) (a .covered) (d .before .before .before .before .if1 .left) (one-member (meetOf (a .row) (a .mate)) (meet-lt (a .row) (a .mate)) (sym e ∙ d .if2 .left)))
+
+pub targets-in-spec : {M : Type 1} → statement M
+targets-in-spec =
+    tie.close
+    (tie.spec
+    difference-requires
+    returns
+    meet-requires
+    least-requires
+    without-requires
+    returns-2
+    difference-requires-2
+    union-requires
+    meet-requires-2
+    returns-3)

@@ -1,0 +1,114 @@
+-- `swaps::touched` meets its contract. The loop's invariant: the zones of the row are those counted and those of the nodes that are left.
+-- The measure is the number of nodes that are left. Assumes nothing.
+use Prim.Native.Nat.{ℕ, _+_, _-_, _^_, _≤_, _<_}
+use mathlib.Core.Path.{_≡_, sym, refl, ap, ap₂, _∙_}
+use lib.ListN.{getD}
+use Rattle.sets.specs.Bits.{countOf, unionOf, leastOf}
+use Rattle.sets.proofs.Laws.{difference-lt, count-le}
+use Rattle.swaps.specs.ModelSwaps.{restOf, coverOf, coveredOf, coverIn, coveredIn}
+use Rattle.swaps.proofs.Steps.{fuel, cover-more, cover-done, covered-more, covered-done, rest-count, some-count}
+use borrow.Author.Needs.{needs}
+use native.Mathlib.Omega.{arith}
+use Rattle.swaps.proofs.touched.Statement.{statement}
+use Rattle.swaps.proofs.touched.Tie as tie
+use Rattle.swaps.proofs.touched.Reads as reads
+use Rattle.swaps.proofs.touched.Lts as lts
+use Rattle.sets.proofs.difference.Reads as difference-reads
+use Rattle.sets.proofs.least.Reads as least-reads
+use Rattle.sets.proofs.union.Reads as union-reads
+use Rattle.sets.proofs.without.Reads as without-reads
+use Rattle.swaps.proofs.cell.Reads as cell-reads
+
+abbrev Inv-loop : tie.InvT-loop
+Inv-loop mates row left₀ count₀ nodes₀ left count nodes =
+    (left < 2 ^ 32)
+    × (countOf left + count ≤ 32)
+    × (coverOf mates row ≡ coverIn (32 - count) mates left count)
+    × (coveredOf mates row ≡ coveredIn (32 - count) mates left nodes)
+
+abbrev μ-loop : tie.MeasureT-loop
+μ-loop mates row left₀ count₀ nodes₀ left count nodes = countOf left
+
+loop-holds : tie.Need-loop-holds Inv-loop μ-loop
+unfolding coverOf coveredOf
+loop-holds c = (search needs, omega (arith, count-le 32 (c .before .args .row) (omega arith) (search needs)), refl, refl)
+
+least-requires : tie.Need-least-requires Inv-loop μ-loop
+least-requires c κs = search needs
+
+cast-cell : tie.Need-cast-cell Inv-loop μ-loop
+cast-cell c = search needs
+
+cell-requires : tie.Need-cell-requires Inv-loop μ-loop
+cell-requires c κs = search needs
+
+without-requires : tie.Need-without-requires Inv-loop μ-loop
+without-requires c κs = search needs
+
+difference-requires : tie.Need-difference-requires Inv-loop μ-loop
+difference-requires c κs = search needs
+
+union-requires : tie.Need-union-requires Inv-loop μ-loop
+union-requires c κs = search needs
+
+-- What the turn leaves.
+rest : (c : tie.After-difference Inv-loop μ-loop)
+    → c .difference .result ≡ restOf (c .before .before .before .before .before .before .before .args .mates .now) (c .before .before .before .before .before .loop .left)
+unfolding restOf
+rest c = cc
+
+-- The count is below 32 within a turn, and what is left counts less.
+falls : (c : tie.After-difference Inv-loop μ-loop)
+    → (countOf (c .difference .result) + 1 ≤ countOf (c .before .before .before .before .before .loop .left))
+    × (c .before .before .before .before .before .loop .count < 32)
+falls c =
+    let k = c .before .before .before .before .before in
+    let f : (k .loop .left ≡ 0 → ⊥) = c .before .before .before .before .loop-test .taken in
+    let m = rest-count (k .before .before .args .mates .now) (k .loop .left) (k .loop .inv .0) f in
+    omega (arith, m, ap countOf (rest c))
+
+add-count : tie.Need-add-count Inv-loop μ-loop
+add-count c = omega (arith, falls (c .before))
+
+loop-less : tie.Need-loop-less Inv-loop μ-loop
+loop-less c = omega (arith, falls (c .before))
+
+loop-again : tie.Need-loop-again Inv-loop μ-loop
+loop-again c =
+    let k = c .before .before .before .before .before .before in
+    let f : (k .loop .left ≡ 0 → ⊥) = c .before .before .before .before .before .loop-test .taken in
+    let m = k .before .before .args .mates .now in
+    let u : unionOf (k .loop .nodes) (getD m (leastOf (k .loop .left)) 0) ≡ c .union .result = cc in (
+      omega (arith, c .before .difference .ensures, difference-lt (c .before .before .without .result) (c .before .before .before .cell .result)),
+      omega (arith, falls (c .before)),
+      k .loop .inv .2 ∙ (cover-more (32 - k .loop .count) (32 - (k .loop .count + 1)) m (k .loop .left) (k .loop .count) (fuel (k .loop .count) (falls (c .before) .1)) f ∙ ap (λ (x : ℕ). coverIn (32 - (k .loop .count + 1)) m x (k .loop .count + 1)) (sym (rest (c .before)))),
+      k .loop .inv .3 ∙ (covered-more (32 - k .loop .count) (32 - (k .loop .count + 1)) m (k .loop .left) (k .loop .nodes) (fuel (k .loop .count) (falls (c .before) .1)) f
+          ∙ ap₂ (λ (x y : ℕ). coveredIn (32 - (k .loop .count + 1)) m x y) (sym (rest (c .before))) u),
+    )
+
+returns : tie.Need-returns Inv-loop μ-loop
+returns c =
+    let k = c .before in
+    let e : k .loop .left ≡ 0 = omega arith in
+    let m = k .before .before .args .mates .now in (
+      sym (k .loop .inv .2 ∙ cover-done (32 - k .loop .count) m (k .loop .left) (k .loop .count) e),
+      sym (k .loop .inv .3 ∙ covered-done (32 - k .loop .count) m (k .loop .left) (k .loop .nodes) e),
+    )
+
+pub touched-spec : {M : Type 1} → statement M
+touched-spec =
+    tie.close
+    (tie.spec
+    Inv-loop
+    μ-loop
+    loop-holds
+    least-requires
+    cast-cell
+    cell-requires
+    without-requires
+    difference-requires
+    union-requires
+    add-count
+    loop-less
+    loop-again
+    returns)

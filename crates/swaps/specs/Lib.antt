@@ -1,0 +1,2 @@
+pub mod ModelSwaps
+pub mod Mates
