@@ -1,4 +1,0 @@
-pub mod Firsts
-pub mod Offers
-pub mod Parts
-pub mod Sweeps

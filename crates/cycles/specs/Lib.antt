@@ -1,3 +1,0 @@
-pub mod ModelGraph
-pub mod ModelFound
-pub mod Turns
