@@ -1,9 +1,9 @@
 -- The steps of the loops, over plain lists and numbers: scans for a first index, cells that are written or shifted, parts of a walk, and the
 -- exchanges of a walk.
 -- Assumes nothing.
-use Prim.Native.Nat.{ℕ, zero, suc, _+_, _-_, _*_, _≤_, _<_}
-use mathlib.Core.Path.{_≡_, refl, sym, ap, ap₂, _∙_, subst}
-use mathlib.Core.Bool.{Bool, true, false, cond}
+use Prim.Native.Nat.{ℕ, zero, suc, _+_, _-_, _≤_, _<_}
+use mathlib.Core.Path.{_≡_, refl, sym, ap, _∙_, subst}
+use mathlib.Core.Bool.{Bool, true, false}
 use mathlib.Core.List.{List}
 use mathlib.Core.Logic.{⊎-elim}
 use native.Mathlib.Nat.{mul-one, zero-add}
@@ -15,12 +15,13 @@ use lib.Seq.{getD-set-same, getD-set-other}
 use borrow.Author.Tests.{lt-ltb, le-ltb}
 use Rattle.sums.specs.Sum.{sumTo, pick}
 use Rattle.sums.proofs.Sum.{lt-or-ge}
-use Rattle.sets.specs.Bits.{withOf, withoutOf}
+use Rattle.sets.specs.Bits.{memberOf, withOf, withoutOf}
+use Rattle.swaps.specs.ModelSwaps.{targetsOf}
 use Rattle.cells.specs.Cells.{put}
 use Rattle.cells.proofs.Cells.{put-more, length-put, getD-put-in, getD-put-out}
 use Rattle.exchange.specs.Levels.{firstFrom}
 use Rattle.exchange.specs.Circuit.{cost}
-use Rattle.exchange.specs.Uncross.{Walk, walk, Same, partner, first, skip, wrap, inner, outer, walk-costs, split, uncross}
+use Rattle.exchange.specs.Uncross.{Walk, Same, partner, first, wrap, inner, outer, split, uncross}
 use Rattle.exchange.proofs.Uncross.{skip-low, skip-high, wrap-low, wrap-end, first-pair}
 use Rattle.exchange.proofs.Walk.{uncross-stop, uncross-go, uncross-same, same-trans}
 use Rattle.circuits.specs.ModelCircuits.{bitsOf, okOf, witnessOf, witnessIn, walkIn, innerGains, cycleOf, freedOf, exchanged, walkedOf}
@@ -43,6 +44,15 @@ module _ (t : ℕ → Bool) (n i : ℕ) where
   unfolding firstFrom
   first-end l = let d : n - i ≡ 0 = omega arith in rw d
 
+-- The test for an exchange, as the code runs it: at the node after j in the cells ys.
+pub ok-at : (rows mates ys : List ℕ) (all z p j b to : ℕ) (r : Bool) → r ≡ memberOf to b → to ≡ targetsOf mates all z (getD rows p 0) (getD ys (j + 1) 0)
+    → r ≡ okOf rows mates all z p (getD ys (suc j) 0) b
+unfolding okOf
+ok-at rows mates ys all z p j b to r e f =
+    e
+    ∙ (ap (λ (x : ℕ). memberOf x b) f
+    ∙ ap (λ (k : ℕ). memberOf (targetsOf mates all z (getD rows p 0) (getD ys k 0)) b) (add-one j))
+
 -- ---- cells
 
 -- One cell more from the beginning.
@@ -56,7 +66,7 @@ getD-first f n l i a b = ap (λ (k : ℕ). getD (put 0 f n l) k 0) (sym (zero-ad
 -- One cell more that gives way to the one k further on.
 pub shift-more : (l : List ℕ) (b k t : ℕ)
     → set (put b (λ s. getD l (b + s + k) 0) t l) (b + t) (getD (put b (λ s. getD l (b + s + k) 0) t l) (b + t + k) 0)
-      ≡ put b (λ s. getD l (b + s + k) 0) (t + 1) l
+    ≡ put b (λ s. getD l (b + s + k) 0) (t + 1) l
 shift-more l b k t =
     ap (λ (v : ℕ). set (put b (λ s. getD l (b + s + k) 0) t l) (b + t) v)
     (getD-put-out b (λ s. getD l (b + s + k) 0) t l (b + t + k) 0 (λ j m e. omega arith))
@@ -193,7 +203,7 @@ module _ (P : ℕ) (y q : ℕ → ℕ) (rows : List ℕ) where
     where
       go : length (exchanged P y q i rows) ≡ length rows → (b : Bool)
           → length (pick b (set (exchanged P y q i rows) (q i) (withOf (withoutOf (getD (exchanged P y q i rows) (q i) 0) (y (suc i))) (y i))) (exchanged P y q i rows))
-            ≡ length rows
+          ≡ length rows
       go e true = length-set (exchanged P y q i rows) (q i) (withOf (withoutOf (getD (exchanged P y q i rows) (q i) 0) (y (suc i))) (y i)) ∙ e
       go e false = e
 

@@ -9,6 +9,7 @@ use lib.Dec.{eqb, ltb}
 use Rattle.sums.specs.Sum.{pick}
 use Rattle.sets.specs.Bits.{bit, memberOf, withOf, withoutOf}
 use Rattle.swaps.specs.ModelSwaps.{targetsOf}
+use Rattle.cycles.specs.ModelGraph.{weightOf}
 use Rattle.exchange.specs.Levels.{firstFrom}
 use Rattle.exchange.specs.Uncross.{Walk, walk, inner, walk-costs, uncross}
 
@@ -19,10 +20,6 @@ bitsOf rows p b = bit (getD rows p 0) b
 -- Whether node a of row p may give way to node b.
 unfoldable pub okOf : List ℕ → List ℕ → ℕ → ℕ → ℕ → ℕ → ℕ → Bool
 okOf rows mates all z p a b = memberOf (targetsOf mates all z (getD rows p 0) a) b
-
--- The weight of the arc from u to v, more by 1: 0 where the first 32 cells have it, 1 where the next 32 have it, else 2.
-unfoldable pub weightOf : List ℕ → ℕ → ℕ → ℕ
-weightOf arcs u v = pick (memberOf (getD arcs u 0) v) 0 (pick (memberOf (getD arcs (32 + u) 0) v) 1 2)
 
 -- Whether the exchange of u for v is one of the row, at the weight w, where the partition had the row old.
 unfoldable pub suitsOf : List ℕ → ℕ → ℕ → ℕ → ℕ → ℕ → ℕ → ℕ → Bool

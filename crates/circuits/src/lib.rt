@@ -8,7 +8,8 @@ ghost use Rattle.sets.specs.Bits.{bit};
 ghost use Rattle.cells.specs.Cells.{put};
 ghost use Rattle.exchange.specs.Circuit.{cost};
 ghost use Rattle.exchange.specs.Uncross.{crosses, partner, first, wrap, inner, walk-costs, split, uncross, Same};
-ghost use Rattle.circuits.specs.ModelCircuits.{bitsOf, okOf, weightOf, suitsOf, witnessOf, witnessIn, walkIn, innerGains, cycleOf, freedOf, walkedOf, turnedOf};
+ghost use Rattle.cycles.specs.ModelGraph.{weightOf};
+ghost use Rattle.circuits.specs.ModelCircuits.{bitsOf, okOf, suitsOf, witnessOf, witnessIn, walkIn, innerGains, cycleOf, freedOf, walkedOf, turnedOf};
 
 // Digit i of s.
 fn digit(s: u32, i: u32) -> u32
@@ -48,7 +49,17 @@ fn suits(mates: &[u32], all: u32, z: u32, row: u32, old: u32, w: u32, u: u32, v:
 }
 
 // The first partition with the exchange of u for v at the arc's weight.
-fn witness(rows: &[u32], former: &[u32], partitions: usize, mates: &[u32], arcs: &[u32], all: u32, z: u32, u: u32, v: u32) -> usize
+fn witness(
+    rows: &[u32],
+    former: &[u32],
+    partitions: usize,
+    mates: &[u32],
+    arcs: &[u32],
+    all: u32,
+    z: u32,
+    u: u32,
+    v: u32,
+) -> usize
     requires { ⌜ (partitions ≤ length (now rows)) × (partitions ≤ length (now former)) ⌝ }
     ensures { λ r. ⌜ r ≡ witnessOf (now (rows .entry)) (now (former .entry)) partitions (now (mates .entry)) (now (arcs .entry)) all z u v ⌝ }
 {
@@ -76,29 +87,54 @@ fn copy(y: &mut [u32], walk: &[u32], n: usize)
 }
 
 // The witnesses of its arcs into q.
-fn look_up(q: &mut [usize], walk: &[u32], m: usize, rows: &[u32], former: &[u32], partitions: usize, mates: &[u32], arcs: &[u32], all: u32, z: u32)
-    requires {
-        ⌜ (m ≤ length (now q)) × (m < length (now walk)) × (partitions ≤ length (now rows)) × (partitions ≤ length (now former)) ⌝
-    }
-    ensures {
-        λ _. ⌜ now (q .exit)
-        ≡ put 0 (witnessIn (now (walk .entry)) (now (rows .entry)) (now (former .entry)) partitions (now (mates .entry)) (now (arcs .entry)) all z) m (now (q .entry)) ⌝
-    }
+fn look_up(
+    q: &mut [usize],
+    walk: &[u32],
+    m: usize,
+    rows: &[u32],
+    former: &[u32],
+    partitions: usize,
+    mates: &[u32],
+    arcs: &[u32],
+    all: u32,
+    z: u32,
+)
+    requires { ⌜ (m ≤ length (now q)) × (m < length (now walk)) × (partitions ≤ length (now rows)) × (partitions ≤ length (now former)) ⌝ }
+    ensures { λ _. ⌜ now (q .exit)
+        ≡ put 0 (witnessIn (now (walk .entry)) (now (rows .entry)) (now (former .entry)) partitions (now (mates .entry)) (now (arcs .entry)) all z) m (now (q .entry)) ⌝ }
 {
     let mut t = 0;
     while t < m {
-        q[t] = witness(rows, former, partitions, mates, arcs, all, z, walk[t + 1], walk[t]);
+        q[t] = witness(
+            rows,
+            former,
+            partitions,
+            mates,
+            arcs,
+            all,
+            z,
+            walk[t + 1],
+            walk[t],
+        );
         t += 1;
     }
 }
 
 // Whether the arcs i and j of the walk can be crossed.
-fn crossed(y: &[u32], q: &[usize], i: usize, j: usize, rows: &[u32], partitions: usize, mates: &[u32], all: u32, z: u32) -> bool
+fn crossed(
+    y: &[u32],
+    q: &[usize],
+    i: usize,
+    j: usize,
+    rows: &[u32],
+    partitions: usize,
+    mates: &[u32],
+    all: u32,
+    z: u32,
+) -> bool
     requires { ⌜ (i + 1 < length (now y)) × (j + 1 < length (now y)) × (i < length (now q)) × (j < length (now q)) × (partitions ≤ length (now rows)) ⌝ }
-    ensures {
-        λ r. ⌜ r
-        ≡ crosses partitions (okOf (now (rows .entry)) (now (mates .entry)) all z) (λ t. getD (now (y .entry)) t 0) (λ t. getD (now (q .entry)) t 0) i j ⌝
-    }
+    ensures { λ r. ⌜ r
+        ≡ crosses partitions (okOf (now (rows .entry)) (now (mates .entry)) all z) (λ t. getD (now (y .entry)) t 0) (λ t. getD (now (q .entry)) t 0) i j ⌝ }
 {
     let p = q[i];
     if partitions <= p {
@@ -115,11 +151,19 @@ fn crossed(y: &[u32], q: &[usize], i: usize, j: usize, rows: &[u32], partitions:
 }
 
 // The first arc after i that can be crossed with it.
-fn later(y: &[u32], q: &[usize], m: usize, i: usize, rows: &[u32], partitions: usize, mates: &[u32], all: u32, z: u32) -> usize
+fn later(
+    y: &[u32],
+    q: &[usize],
+    m: usize,
+    i: usize,
+    rows: &[u32],
+    partitions: usize,
+    mates: &[u32],
+    all: u32,
+    z: u32,
+) -> usize
     requires { ⌜ (i < m) × (m < length (now y)) × (m ≤ length (now q)) × (partitions ≤ length (now rows)) ⌝ }
-    ensures {
-        λ r. ⌜ r ≡ partner partitions (okOf (now (rows .entry)) (now (mates .entry)) all z) (walkIn m (now (y .entry)) (now (q .entry))) i ⌝
-    }
+    ensures { λ r. ⌜ r ≡ partner partitions (okOf (now (rows .entry)) (now (mates .entry)) all z) (walkIn m (now (y .entry)) (now (q .entry))) i ⌝ }
 {
     let mut j = i + 1;
     while j < m {
@@ -132,11 +176,18 @@ fn later(y: &[u32], q: &[usize], m: usize, i: usize, rows: &[u32], partitions: u
 }
 
 // The first arc that can be crossed with a later one.
-fn earlier(y: &[u32], q: &[usize], m: usize, rows: &[u32], partitions: usize, mates: &[u32], all: u32, z: u32) -> usize
+fn earlier(
+    y: &[u32],
+    q: &[usize],
+    m: usize,
+    rows: &[u32],
+    partitions: usize,
+    mates: &[u32],
+    all: u32,
+    z: u32,
+) -> usize
     requires { ⌜ (m < length (now y)) × (m ≤ length (now q)) × (partitions ≤ length (now rows)) ⌝ }
-    ensures {
-        λ r. ⌜ r ≡ first partitions (okOf (now (rows .entry)) (now (mates .entry)) all z) (walkIn m (now (y .entry)) (now (q .entry))) ⌝
-    }
+    ensures { λ r. ⌜ r ≡ first partitions (okOf (now (rows .entry)) (now (mates .entry)) all z) (walkIn m (now (y .entry)) (now (q .entry))) ⌝ }
 {
     let mut i = 0;
     while i < m {
@@ -170,12 +221,8 @@ fn place(i: usize, k: usize, t: usize) -> usize
 
 // Whether the inner part of the walk, at the arcs i and j, gains.
 fn gains(y: &[u32], q: &[usize], i: usize, j: usize, former: &[u32], partitions: usize) -> bool
-    requires {
-        ⌜ (i < j) × (j < 32) × (j < length (now y)) × (j < length (now q)) × (partitions ≤ length (now former)) ⌝
-    }
-    ensures {
-        λ r. ⌜ r ≡ innerGains partitions (bitsOf (now (former .entry))) (walkIn (j + 1) (now (y .entry)) (now (q .entry))) i j ⌝
-    }
+    requires { ⌜ (i < j) × (j < 32) × (j < length (now y)) × (j < length (now q)) × (partitions ≤ length (now former)) ⌝ }
+    ensures { λ r. ⌜ r ≡ innerGains partitions (bitsOf (now (former .entry))) (walkIn (j + 1) (now (y .entry)) (now (q .entry))) i j ⌝ }
 {
     let k = j - i;
     let mut sum = 0;
@@ -214,14 +261,18 @@ fn shift_partitions(q: &mut [usize], start: usize, k: usize, n: usize)
 }
 
 // The walk goes on with the inner part at the arcs i and j if it gains, else with the outer part. Its new length is answered.
-fn divide(y: &mut [u32], q: &mut [usize], m: usize, i: usize, j: usize, former: &[u32], partitions: usize) -> usize
-    requires {
-        ⌜ (i < j) × (j < m) × (m ≤ 32) × (m < length (now y)) × (m ≤ length (now q)) × (partitions ≤ length (now former)) ⌝
-    }
-    ensures {
-        λ r. ⌜ (r ≤ m) × (length (now (y .exit)) ≡ length (now (y .entry))) × (length (now (q .exit)) ≡ length (now (q .entry)))
-        × Same (split partitions 1 (bitsOf (now (former .entry))) (walkIn m (now (y .entry)) (now (q .entry))) i j) (walkIn r (now (y .exit)) (now (q .exit))) ⌝
-    }
+fn divide(
+    y: &mut [u32],
+    q: &mut [usize],
+    m: usize,
+    i: usize,
+    j: usize,
+    former: &[u32],
+    partitions: usize,
+) -> usize
+    requires { ⌜ (i < j) × (j < m) × (m ≤ 32) × (m < length (now y)) × (m ≤ length (now q)) × (partitions ≤ length (now former)) ⌝ }
+    ensures { λ r. ⌜ (r ≤ m) × (length (now (y .exit)) ≡ length (now (y .entry))) × (length (now (q .exit)) ≡ length (now (q .entry)))
+        × Same (split partitions 1 (bitsOf (now (former .entry))) (walkIn m (now (y .entry)) (now (q .entry))) i j) (walkIn r (now (y .exit)) (now (q .exit))) ⌝ }
 {
     let k = j - i;
     if gains(y, q, i, j, former, partitions) {
@@ -236,15 +287,21 @@ fn divide(y: &mut [u32], q: &mut [usize], m: usize, i: usize, j: usize, former: 
 }
 
 // The walk is freed of crossed pairs. Its new length is answered.
-fn free(y: &mut [u32], q: &mut [usize], m: usize, rows: &[u32], former: &[u32], partitions: usize, mates: &[u32], all: u32, z: u32) -> usize
-    requires {
-        ⌜ (m ≤ 32) × (m < length (now y)) × (m ≤ length (now q)) × (partitions ≤ length (now rows)) × (partitions ≤ length (now former)) ⌝
-    }
-    ensures {
-        λ r. ⌜ (r ≤ m) × (length (now (y .exit)) ≡ length (now (y .entry))) × (length (now (q .exit)) ≡ length (now (q .entry)))
+fn free(
+    y: &mut [u32],
+    q: &mut [usize],
+    m: usize,
+    rows: &[u32],
+    former: &[u32],
+    partitions: usize,
+    mates: &[u32],
+    all: u32,
+    z: u32,
+) -> usize
+    requires { ⌜ (m ≤ 32) × (m < length (now y)) × (m ≤ length (now q)) × (partitions ≤ length (now rows)) × (partitions ≤ length (now former)) ⌝ }
+    ensures { λ r. ⌜ (r ≤ m) × (length (now (y .exit)) ≡ length (now (y .entry))) × (length (now (q .exit)) ≡ length (now (q .entry)))
         × Same (uncross m partitions 1 (bitsOf (now (former .entry))) (okOf (now (rows .entry)) (now (mates .entry)) all z) (walkIn m (now (y .entry)) (now (q .entry))))
-        (walkIn r (now (y .exit)) (now (q .exit))) ⌝
-    }
+        (walkIn r (now (y .exit)) (now (q .exit))) ⌝ }
 {
     let mut len = m;
     let mut left = m;
@@ -276,30 +333,57 @@ fn make(rows: &mut [u32], partitions: usize, y: &[u32], q: &[usize], m: usize)
 }
 
 // The cycle of the m arcs over the nodes of `walk`, where all lengths are right.
-fn turn_all(rows: &mut [u32], former: &[u32], partitions: usize, mates: &[u32], arcs: &[u32], all: u32, z: u32, walk: &[u32], m: usize)
+fn turn_all(
+    rows: &mut [u32],
+    former: &[u32],
+    partitions: usize,
+    mates: &[u32],
+    arcs: &[u32],
+    all: u32,
+    z: u32,
+    walk: &[u32],
+    m: usize,
+)
     requires { ⌜ (m ≤ 32) × (partitions ≤ length (now rows)) × (partitions ≤ length (now former)) × (m < length (now walk)) ⌝ }
-    ensures {
-        λ _. ⌜ now (rows .exit)
+    ensures { λ _. ⌜ now (rows .exit)
         ≡ walkedOf partitions
         (freedOf (now (rows .entry)) (now (former .entry)) partitions (now (mates .entry)) (now (arcs .entry)) all z (now (walk .entry)) m)
-        (now (rows .entry)) ⌝
-    }
+        (now (rows .entry)) ⌝ }
 {
     let mut y = [0u32; 33];
     let mut q = [0usize; 33];
     copy(&mut y, walk, m + 1);
-    look_up(&mut q, walk, m, rows, former, partitions, mates, arcs, all, z);
+    look_up(
+        &mut q,
+        walk,
+        m,
+        rows,
+        former,
+        partitions,
+        mates,
+        arcs,
+        all,
+        z,
+    );
     let n = free(&mut y, &mut q, m, rows, former, partitions, mates, all, z);
     make(rows, partitions, &y, &q, n);
 }
 
 // The exchanges of a cycle of m arcs over the nodes of `walk` (arc i goes from walk[i + 1] to walk[i]), freed of crossed pairs, are made in the
 // rows. `arcs` holds the exchange graph. Where a slice is too short, or there are more than 32 arcs or 256 partitions, the rows are kept.
-pub fn turn(rows: &mut [u32], former: &[u32], partitions: usize, mates: &[u32], arcs: &[u32], all: u32, z: u32, walk: &[u32], m: u32)
-    ensures {
-        λ _. ⌜ now (rows .exit)
-        ≡ turnedOf (now (rows .entry)) (now (former .entry)) partitions (now (mates .entry)) (now (arcs .entry)) all z (now (walk .entry)) m ⌝
-    }
+pub fn turn(
+    rows: &mut [u32],
+    former: &[u32],
+    partitions: usize,
+    mates: &[u32],
+    arcs: &[u32],
+    all: u32,
+    z: u32,
+    walk: &[u32],
+    m: u32,
+)
+    ensures { λ _. ⌜ now (rows .exit)
+        ≡ turnedOf (now (rows .entry)) (now (former .entry)) partitions (now (mates .entry)) (now (arcs .entry)) all z (now (walk .entry)) m ⌝ }
 {
     if 32 < m {
         return;

@@ -7,12 +7,8 @@ use lib.Dec.{ltb}
 use mathlib.Core.Bool.{true}
 use mathlib.Core.Path.{_≡_}
 use Rattle.exchange.specs.Circuit.{cost}
-use mathlib.Core.Path.{sym, ap, _∙_}
 use Rattle.circuits.proofs.arc_cost.Statement.{statement}
 use Rattle.circuits.proofs.arc_cost.Tie as tie
-use Rattle.circuits.proofs.arc_cost.Reads as reads
-use Rattle.circuits.proofs.arc_cost.Lts as lts
-use Rattle.circuits.proofs.digit.Reads as digit-reads
 
 mul-old : tie.Need-mul-old
 mul-old c = search needs

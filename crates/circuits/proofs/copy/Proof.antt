@@ -10,8 +10,6 @@ use mathlib.Core.Path.{_≡_, ap, _∙_}
 use Prim.Native.Nat.{ℕ, _≤_, _-_}
 use Rattle.circuits.proofs.copy.Statement.{statement}
 use Rattle.circuits.proofs.copy.Tie as tie
-use Rattle.circuits.proofs.copy.Reads as reads
-use Rattle.circuits.proofs.copy.Lts as lts
 
 abbrev Inv-loop : tie.InvT-loop
 Inv-loop y₀ walk n t₀ y t = (t ≤ n) × (length y ≡ length y₀) × (y ≡ put 0 (λ s. getD walk s 0) t y₀)
@@ -42,11 +40,11 @@ loop-less c = search needs
 
 loop-again : tie.Need-loop-again Inv-loop μ-loop
 loop-again c = let k = c .before .before in (
-      search needs,
-      search needs,
-      ap (λ (l : List ℕ). set l (k .loop .t) (getD (k .before .args .walk .now) (k .loop .t) 0)) (k .loop .inv .2)
-          ∙ put-first (λ s. getD (k .before .args .walk .now) s 0) (k .loop .t) (k .before .args .y .now),
-    )
+  search needs,
+  search needs,
+  ap (λ (l : List ℕ). set l (k .loop .t) (getD (k .before .args .walk .now) (k .loop .t) 0)) (k .loop .inv .2)
+      ∙ put-first (λ s. getD (k .before .args .walk .now) s 0) (k .loop .t) (k .before .args .y .now),
+)
 
 same-length : tie.Need-same-length Inv-loop μ-loop
 same-length c = search needs

@@ -1,22 +1,13 @@
 -- `circuits::crossed` meets its contract. Assumes nothing.
 use borrow.Author.Needs.{needs}
 use native.Mathlib.Omega.{arith}
-use Rattle.circuits.specs.ModelCircuits.{okOf}
+use Rattle.circuits.proofs.Steps.{ok-at}
+use mathlib.Core.Path.{sym, _∙_}
 use Rattle.exchange.specs.Uncross.{crosses}
-use Rattle.swaps.specs.ModelSwaps.{targetsOf}
-use Rattle.sets.specs.Bits.{memberOf}
 use borrow.Author.Tests.{lt-ltb, le-ltb, eq-eqb, ne-eqb, not-true, not-false}
 use lib.ListN.{getD}
-use native.Mathlib.Numerals.{add-one}
-use mathlib.Core.Bool.{true, false}
-use mathlib.Core.Path.{_≡_}
-use Prim.Native.Nat.{suc}
 use Rattle.circuits.proofs.crossed.Statement.{statement}
 use Rattle.circuits.proofs.crossed.Tie as tie
-use Rattle.circuits.proofs.crossed.Reads as reads
-use Rattle.circuits.proofs.crossed.Lts as lts
-use Rattle.sets.proofs.member.Reads as member-reads
-use Rattle.swaps.proofs.targets.Reads as targets-reads
 
 mul-p : tie.Need-mul-p
 mul-p c = search needs
@@ -26,7 +17,8 @@ shared-slice-read-p c = search needs
 
 returns : tie.Need-returns
 unfolding crosses
-returns c = let a = c .before .before .before .before .before .before .args in rw (le-ltb (getD (a .q .now) (a .i) 0) (a .partitions) (c .if1 .taken))
+returns c = let a = c .before .before .before .before .before .before .args in
+    rw (le-ltb (getD (a .q .now) (a .i) 0) (a .partitions) (c .if1 .taken))
 
 mul-if2 : tie.Need-mul-if2
 mul-if2 c = search needs
@@ -70,14 +62,16 @@ member-requires : tie.Need-member-requires
 member-requires c κs = search needs
 
 returns-3 : tie.Need-returns-3
-unfolding crosses okOf
-returns-3 c = let a = c .before .before .before .before .before .before .before .before .before .before .before .before .before .before .args in
-    let f : c .before .member .result ≡ false = not-true (c .before .member .result) (c .if3 .taken) in
-    let e : okOf (a .rows .now) (a .mates .now) (a .all) (a .z) (getD (a .q .now) (a .i) 0) (getD (a .y .now) (suc (a .j)) 0) (getD (a .y .now) (a .i) 0) ≡ false = cc (add-one (a .j)) in
+unfolding crosses
+returns-3 c = let k = c .before in
+    let t = k .before .before in
+    let a = t .before .before .before .before .before .before .before .before .before .before .before .args in
+    let p = getD (a .q .now) (a .i) 0 in
+    let e = ok-at (a .rows .now) (a .mates .now) (a .y .now) (a .all) (a .z) p (a .j) (getD (a .y .now) (a .i) 0) (t .targets .result) (k .member .result) (k .member .ensures) (t .targets .ensures) in
     rw (
-      lt-ltb (getD (a .q .now) (a .i) 0) (a .partitions) (c .before .before .before .before .before .before .before .before .if1 .left),
-      eq-eqb (getD (a .q .now) (a .i) 0) (getD (a .q .now) (a .j) 0) (omega arith),
-      e,
+      lt-ltb p (a .partitions) (t .before .before .before .before .before .if1 .left),
+      eq-eqb p (getD (a .q .now) (a .j) 0) (omega arith),
+      sym e ∙ not-true (k .member .result) (c .if3 .taken),
     )
 
 add-targets-2 : tie.Need-add-targets-2
@@ -102,17 +96,18 @@ member-requires-2 : tie.Need-member-requires-2
 member-requires-2 c κs = search needs
 
 returns-4 : tie.Need-returns-4
-unfolding crosses okOf
-returns-4 c = let a = c .before .before .before .before .before .before .before .before .before .before .before .before .before .before .before .before .before .before .args in
-    let f : c .before .before .before .before .before .member .result ≡ true = not-false (c .before .before .before .before .before .member .result) (c .before .before .before .before .if3 .left) in
-    let e : okOf (a .rows .now) (a .mates .now) (a .all) (a .z) (getD (a .q .now) (a .i) 0) (getD (a .y .now) (suc (a .j)) 0) (getD (a .y .now) (a .i) 0) ≡ true =
-        cc (add-one (a .j), c .before .before .before .before .before .member .ensures, c .before .before .before .before .before .before .before .targets .ensures) in
-    let d : c .member2 .result ≡ okOf (a .rows .now) (a .mates .now) (a .all) (a .z) (getD (a .q .now) (a .i) 0) (getD (a .y .now) (suc (a .i)) 0) (getD (a .y .now) (a .j) 0) =
-        cc (add-one (a .i)) in
+unfolding crosses
+returns-4 c = let u = c .before .before in
+    let k = u .before .before .before in
+    let t = k .before .before in
+    let a = t .before .before .before .before .before .before .before .before .before .before .before .args in
+    let p = getD (a .q .now) (a .i) 0 in
+    let e = ok-at (a .rows .now) (a .mates .now) (a .y .now) (a .all) (a .z) p (a .j) (getD (a .y .now) (a .i) 0) (t .targets .result) (k .member .result) (k .member .ensures) (t .targets .ensures) in
+    let d = ok-at (a .rows .now) (a .mates .now) (a .y .now) (a .all) (a .z) p (a .i) (getD (a .y .now) (a .j) 0) (u .targets2 .result) (c .member2 .result) (c .member2 .ensures) (u .targets2 .ensures) in
     rw (
-      lt-ltb (getD (a .q .now) (a .i) 0) (a .partitions) (c .before .before .before .before .before .before .before .before .before .before .before .before .if1 .left),
-      eq-eqb (getD (a .q .now) (a .i) 0) (getD (a .q .now) (a .j) 0) (omega arith),
-      e,
+      lt-ltb p (a .partitions) (t .before .before .before .before .before .if1 .left),
+      eq-eqb p (getD (a .q .now) (a .j) 0) (omega arith),
+      sym e ∙ not-false (k .member .result) (u .before .before .if3 .left),
     )
     d
 

@@ -1,14 +1,9 @@
 -- `circuits::digit` meets its contract. Assumes nothing.
 use borrow.Author.Needs.{needs}
-use native.Mathlib.Omega.{arith}
 use mathlib.Core.Path.{sym, _∙_}
-use borrow.Author.Tests.{not-true}
 use Rattle.sets.proofs.Laws.{member-true, member-false}
 use Rattle.circuits.proofs.digit.Statement.{statement}
 use Rattle.circuits.proofs.digit.Tie as tie
-use Rattle.circuits.proofs.digit.Reads as reads
-use Rattle.circuits.proofs.digit.Lts as lts
-use Rattle.sets.proofs.member.Reads as member-reads
 
 member-requires : tie.Need-member-requires
 member-requires c κs = search needs

@@ -1,19 +1,10 @@
 -- `circuits::divide` meets its contract. Assumes nothing.
 use borrow.Author.Needs.{needs}
-use native.Mathlib.Omega.{arith}
 use Rattle.circuits.proofs.Steps.{inner-in, outer-in, split-inner, split-outer}
-use Rattle.circuits.specs.ModelCircuits.{bitsOf, walkIn}
-use Rattle.exchange.specs.Uncross.{Same}
-use mathlib.Core.List.{List}
-use mathlib.Core.Path.{_≡_, sym, ap, _∙_, subst}
-use Prim.Native.Nat.{ℕ}
+use Rattle.circuits.specs.ModelCircuits.{bitsOf}
+use mathlib.Core.Path.{sym, _∙_}
 use Rattle.circuits.proofs.divide.Statement.{statement}
 use Rattle.circuits.proofs.divide.Tie as tie
-use Rattle.circuits.proofs.divide.Reads as reads
-use Rattle.circuits.proofs.divide.Lts as lts
-use Rattle.circuits.proofs.gains.Reads as gains-reads
-use Rattle.circuits.proofs.shift_nodes.Reads as shift-nodes-reads
-use Rattle.circuits.proofs.shift_partitions.Reads as shift-partitions-reads
 
 sub-k : tie.Need-sub-k
 sub-k c = search needs
@@ -49,16 +40,19 @@ same-length-2 : tie.Need-same-length-2
 same-length-2 c = search needs
 
 returns : tie.Need-returns
-returns c = let a = c .before .before .before .before .before .before .before .before .before .before .before .before .before .before .before .before .args in
+returns c = let k = c .before .before .before .before .before .before .before in
+    let t = k .before .before in
+    let a = t .before .before .before .before .before .before .before .args in
     let i = a .i in
-    let j = a .j in (
+    let j = a .j in
+    let g = bitsOf (a .former .now) in (
       search needs,
       search needs,
       search needs,
-      split-inner (a .partitions) (a .m) i j (bitsOf (a .former .now)) (a .y .now) (a .q .now) (search needs) (search needs) (search needs) (search needs)
-          (sym (c .before .before .before .before .before .before .before .before .before .before .gains .ensures) ∙ c .before .before .before .before .before .before .before .before .before .if1 .taken)
-          (inner-in (a .partitions) (a .m) i j (bitsOf (a .former .now)) (a .y .now) (a .q .now) (search needs) (search needs) (search needs) (search needs)
-          (c .before .before .before .before .before .before .before .shift-nodes .last .0) (c .before .before .before .shift-partitions .last .0) (c .before .before .before .before .before .before .before .shift-nodes .ensures) (c .before .before .before .shift-partitions .ensures)),
+      split-inner (a .partitions) (a .m) i j g (a .y .now) (a .q .now) (search needs) (search needs) (search needs) (search needs)
+          (sym (t .before .gains .ensures) ∙ t .if1 .taken)
+          (inner-in (a .partitions) (a .m) i j g (a .y .now) (a .q .now) (search needs) (search needs) (search needs) (search needs)
+          (k .shift-nodes .last .0) (c .before .before .before .shift-partitions .last .0) (k .shift-nodes .ensures) (c .before .before .before .shift-partitions .ensures)),
     )
 
 add-shift-nodes-2 : tie.Need-add-shift-nodes-2
@@ -92,16 +86,19 @@ same-length-4 : tie.Need-same-length-4
 same-length-4 c = search needs
 
 returns-2 : tie.Need-returns-2
-returns-2 c = let a = c .before .before .before .before .before .before .before .before .before .before .before .before .before .before .before .args in
+returns-2 c = let k = c .before .before .before .before .before .before in
+    let t = k .before .before in
+    let a = t .before .before .before .before .before .before .before .args in
     let i = a .i in
-    let j = a .j in (
+    let j = a .j in
+    let g = bitsOf (a .former .now) in (
       search needs,
       search needs,
       search needs,
-      split-outer (a .partitions) (a .m) i j (bitsOf (a .former .now)) (a .y .now) (a .q .now) (search needs) (search needs) (search needs) (search needs)
-          (sym (c .before .before .before .before .before .before .before .before .before .gains .ensures) ∙ c .before .before .before .before .before .before .before .before .if1 .left)
-          (outer-in (a .partitions) (a .m) i j (bitsOf (a .former .now)) (a .y .now) (a .q .now) (search needs) (search needs) (search needs) (search needs)
-          (c .before .before .before .before .before .before .shift-nodes2 .last .0) (c .before .before .shift-partitions2 .last .0) (c .before .before .before .before .before .before .shift-nodes2 .ensures) (c .before .before .shift-partitions2 .ensures)),
+      split-outer (a .partitions) (a .m) i j g (a .y .now) (a .q .now) (search needs) (search needs) (search needs) (search needs)
+          (sym (t .before .gains .ensures) ∙ t .if1 .left)
+          (outer-in (a .partitions) (a .m) i j g (a .y .now) (a .q .now) (search needs) (search needs) (search needs) (search needs)
+          (k .shift-nodes2 .last .0) (c .before .before .shift-partitions2 .last .0) (k .shift-nodes2 .ensures) (c .before .before .shift-partitions2 .ensures)),
     )
 
 pub divide-spec : {M : Type 1} → statement M

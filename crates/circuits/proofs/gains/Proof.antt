@@ -4,18 +4,11 @@ use native.Mathlib.Omega.{arith}
 use Rattle.circuits.proofs.Steps.{innerCost, gains-more}
 use lib.Dec.{ltb}
 use Rattle.circuits.specs.ModelCircuits.{bitsOf}
-use Rattle.exchange.specs.Uncross.{wrap}
-use Rattle.exchange.specs.Circuit.{cost}
 use Rattle.sums.specs.Sum.{sumTo}
-use lib.ListN.{getD}
-use mathlib.Core.Path.{_≡_, refl, sym, ap, _∙_}
-use Prim.Native.Nat.{ℕ, suc, _*_, _≤_, _-_}
+use mathlib.Core.Path.{_≡_, refl, ap, _∙_}
+use Prim.Native.Nat.{ℕ, _*_, _≤_, _-_}
 use Rattle.circuits.proofs.gains.Statement.{statement}
 use Rattle.circuits.proofs.gains.Tie as tie
-use Rattle.circuits.proofs.gains.Reads as reads
-use Rattle.circuits.proofs.gains.Lts as lts
-use Rattle.circuits.proofs.arc_cost.Reads as arc-cost-reads
-use Rattle.circuits.proofs.place.Reads as place-reads
 
 abbrev Inv-loop : tie.InvT-loop
 Inv-loop y q i j former partitions k sum₀ t₀ sum t = (t ≤ k) × (sum ≤ 2 * t) × (sum ≡ sumTo t (innerCost partitions (bitsOf former) y q i k))
@@ -70,12 +63,13 @@ loop-less : tie.Need-loop-less Inv-loop μ-loop
 loop-less c = search needs
 
 loop-again : tie.Need-loop-again Inv-loop μ-loop
-loop-again c = let k = c .before .before .before .before .before .before .before in
-    let a = c .before .before .before .before .before .before .before .before .before .before .before .args in (
+loop-again c = let p = c .before .before .before .before .before in
+    let k = p .before .before in
+    let a = k .before .before .before .before .args in (
       search needs,
       search needs,
       gains-more (a .partitions) (bitsOf (a .former .now)) (a .y .now) (a .q .now) (a .i) (a .j - a .i) (k .loop .t) (k .loop .sum) (c .arc-cost .result)
-          (c .before .before .before .before .before .place .result) (c .before .before .before .before .place2 .result) (k .loop .inv .2) (c .arc-cost .ensures .0) (c .before .before .before .before .before .place .ensures .0) (c .before .before .before .before .place2 .ensures .0),
+          (p .place .result) (c .before .before .before .before .place2 .result) (k .loop .inv .2) (c .arc-cost .ensures .0) (p .place .ensures .0) (c .before .before .before .before .place2 .ensures .0),
     )
 
 cast-result : tie.Need-cast-result Inv-loop μ-loop

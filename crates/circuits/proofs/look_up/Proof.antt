@@ -5,15 +5,12 @@ use Rattle.circuits.proofs.Steps.{put-first}
 use Rattle.circuits.specs.ModelCircuits.{witnessIn}
 use Rattle.cells.proofs.Cells.{put-none}
 use Rattle.cells.specs.Cells.{put}
-use lib.ListN.{length, getD, set}
+use lib.ListN.{length, set}
 use mathlib.Core.List.{List}
 use mathlib.Core.Path.{_≡_, ap, ap₂, _∙_}
-use Prim.Native.Nat.{ℕ, _+_, _≤_, _-_}
+use Prim.Native.Nat.{ℕ, _≤_, _-_}
 use Rattle.circuits.proofs.look_up.Statement.{statement}
 use Rattle.circuits.proofs.look_up.Tie as tie
-use Rattle.circuits.proofs.look_up.Reads as reads
-use Rattle.circuits.proofs.look_up.Lts as lts
-use Rattle.circuits.proofs.witness.Reads as witness-reads
 
 abbrev Inv-loop : tie.InvT-loop
 Inv-loop q₀ walk m rows former partitions mates arcs all z t₀ q t = (t ≤ m) × (length q ≡ length q₀) × (q ≡ put 0 (witnessIn walk rows former partitions mates arcs all z) t q₀)
@@ -23,7 +20,9 @@ abbrev μ-loop : tie.MeasureT-loop
 
 loop-holds : tie.Need-loop-holds Inv-loop μ-loop
 loop-holds c = let a = c .before .before .before .before .before .before .args in
-    (search needs, search needs, put-none 0 (witnessIn (a .walk .now) (a .rows .now) (a .former .now) (a .partitions) (a .mates .now) (a .arcs .now) (a .all) (a .z)) (a .q .now))
+    let w : ℕ → ℕ =
+    witnessIn (a .walk .now) (a .rows .now) (a .former .now) (a .partitions) (a .mates .now) (a .arcs .now) (a .all) (a .z) in
+    (search needs, search needs, put-none 0 w (a .q .now))
 
 add-witness : tie.Need-add-witness Inv-loop μ-loop
 add-witness c = search needs
@@ -57,11 +56,12 @@ loop-less c = search needs
 
 loop-again : tie.Need-loop-again Inv-loop μ-loop
 loop-again c = let k = c .before .before .before .before in
-    let a = c .before .before .before .before .before .before .before .before .before .before .before .args in (
+    let a = c .before .before .before .before .before .before .before .before .before .before .before .args in
+    let w : ℕ → ℕ =
+    witnessIn (a .walk .now) (a .rows .now) (a .former .now) (a .partitions) (a .mates .now) (a .arcs .now) (a .all) (a .z) in (
       search needs,
       search needs,
-      ap₂ (λ (l : List ℕ) (v : ℕ). set l (k .loop .t) v) (k .loop .inv .2) (c .witness .ensures)
-          ∙ put-first (witnessIn (a .walk .now) (a .rows .now) (a .former .now) (a .partitions) (a .mates .now) (a .arcs .now) (a .all) (a .z)) (k .loop .t) (a .q .now),
+      ap₂ (λ (l : List ℕ) (v : ℕ). set l (k .loop .t) v) (k .loop .inv .2) (c .witness .ensures) ∙ put-first w (k .loop .t) (a .q .now),
     )
 
 same-length : tie.Need-same-length Inv-loop μ-loop
@@ -70,9 +70,10 @@ same-length c = search needs
 returns : tie.Need-returns Inv-loop μ-loop
 returns c = let k = c .before in
     let a = c .before .before .before .before .before .before .before .before .args in
+    let w : ℕ → ℕ =
+    witnessIn (a .walk .now) (a .rows .now) (a .former .now) (a .partitions) (a .mates .now) (a .arcs .now) (a .all) (a .z) in
     let e : k .loop .t ≡ a .m = omega arith in
-    k .loop .inv .2
-    ∙ ap (λ (n : ℕ). put 0 (witnessIn (a .walk .now) (a .rows .now) (a .former .now) (a .partitions) (a .mates .now) (a .arcs .now) (a .all) (a .z)) n (a .q .now)) e
+    k .loop .inv .2 ∙ ap (λ (n : ℕ). put 0 w n (a .q .now)) e
 
 pub look-up-spec : {M : Type 1} → statement M
 look-up-spec =

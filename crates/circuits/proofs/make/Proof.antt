@@ -11,10 +11,6 @@ use mathlib.Core.Path.{_≡_, refl, ap, _∙_}
 use Prim.Native.Nat.{ℕ, _≤_, _-_}
 use Rattle.circuits.proofs.make.Statement.{statement}
 use Rattle.circuits.proofs.make.Tie as tie
-use Rattle.circuits.proofs.make.Reads as reads
-use Rattle.circuits.proofs.make.Lts as lts
-use Rattle.sets.proofs.with.Reads as with-reads
-use Rattle.sets.proofs.without.Reads as without-reads
 
 abbrev Inv-loop : tie.InvT-loop
 Inv-loop rows₀ partitions y q m i₀ rows i = (i ≤ m) × (length rows ≡ length rows₀) × (rows ≡ exchanged partitions (λ t. getD y t 0) (λ t. getD q t 0) i rows₀)
@@ -75,8 +71,7 @@ loop-again : tie.Need-loop-again Inv-loop μ-loop
 loop-again c = let k = c .before .before .before in
     let a = c .before .before .before .before .before .before .before .args in
     let y : ℕ → ℕ = λ t. getD (a .y .now) t 0 in
-    let q : ℕ → ℕ = λ t. getD (a .q .now) t 0 in
-    (
+    let q : ℕ → ℕ = λ t. getD (a .q .now) t 0 in (
       search needs,
       ⊎-elim (λ w. ap length (w .6) ∙ simp length-set (k .loop .inv .1)) (λ w. ap length (w .1) ∙ k .loop .inv .1) (c .if1 .came),
       ⊎-elim

@@ -3,11 +3,8 @@ use borrow.Author.Needs.{needs}
 use native.Mathlib.Omega.{arith}
 use borrow.Author.Tests.{lt-ltb, le-ltb}
 use Rattle.exchange.specs.Uncross.{wrap}
-use mathlib.Core.Path.{sym, ap, _∙_}
 use Rattle.circuits.proofs.place.Statement.{statement}
 use Rattle.circuits.proofs.place.Tie as tie
-use Rattle.circuits.proofs.place.Reads as reads
-use Rattle.circuits.proofs.place.Lts as lts
 
 add-result : tie.Need-add-result
 add-result c = search needs

@@ -10,8 +10,6 @@ use mathlib.Core.Path.{_≡_, ap, _∙_}
 use Prim.Native.Nat.{ℕ, _+_, _≤_, _-_}
 use Rattle.circuits.proofs.shift_nodes.Statement.{statement}
 use Rattle.circuits.proofs.shift_nodes.Tie as tie
-use Rattle.circuits.proofs.shift_nodes.Reads as reads
-use Rattle.circuits.proofs.shift_nodes.Lts as lts
 
 abbrev Inv-loop : tie.InvT-loop
 Inv-loop y₀ start k n t₀ y t = (t ≤ n) × (length y ≡ length y₀) × (y ≡ put start (λ s. getD y₀ (start + s + k) 0) t y₀)

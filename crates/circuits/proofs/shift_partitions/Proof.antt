@@ -10,8 +10,6 @@ use mathlib.Core.Path.{_≡_, ap, _∙_}
 use Prim.Native.Nat.{ℕ, _+_, _≤_, _-_}
 use Rattle.circuits.proofs.shift_partitions.Statement.{statement}
 use Rattle.circuits.proofs.shift_partitions.Tie as tie
-use Rattle.circuits.proofs.shift_partitions.Reads as reads
-use Rattle.circuits.proofs.shift_partitions.Lts as lts
 
 abbrev Inv-loop : tie.InvT-loop
 Inv-loop q₀ start k n t₀ q t = (t ≤ n) × (length q ≡ length q₀) × (q ≡ put start (λ s. getD q₀ (start + s + k) 0) t q₀)

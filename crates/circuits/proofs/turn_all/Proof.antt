@@ -8,12 +8,6 @@ use Prim.Native.Nat.{ℕ, _≤_}
 use mathlib.Core.Path.{_≡_, refl, _∙_}
 use Rattle.circuits.proofs.turn_all.Statement.{statement}
 use Rattle.circuits.proofs.turn_all.Tie as tie
-use Rattle.circuits.proofs.turn_all.Reads as reads
-use Rattle.circuits.proofs.turn_all.Lts as lts
-use Rattle.circuits.proofs.copy.Reads as copy-reads
-use Rattle.circuits.proofs.free.Reads as free-reads
-use Rattle.circuits.proofs.look_up.Reads as look-up-reads
-use Rattle.circuits.proofs.make.Reads as make-reads
 
 slice-aggregate-copy : tie.Need-slice-aggregate-copy
 slice-aggregate-copy c = search needs
@@ -52,15 +46,19 @@ same-length : tie.Need-same-length
 same-length c = search needs
 
 returns : tie.Need-returns
-returns c = let a = c .before .before .before .before .before .before .before .before .before .before .before .before .before .before .before .before .before .before .before .before .before .before .before .before .args in
+returns c = let f = c .before .before .before .before .before .before .before .before in
+    let l = f .before .before .before .before .before in
+    let k = l .before .before .before .before in
+    let s = k .before .before .before .before .before .before .before in
+    let a = s .args in
     let long : length (replicate {A = ℕ} 33 0) ≡ 33 = refl in
-    let few : a .m ≤ 32 = c .before .before .before .before .before .before .before .before .before .before .before .before .before .before .before .before .before .before .before .before .before .before .before .before .pre .0 in
+    let few : a .m ≤ 32 = s .pre .0 in
+    let cycle =
+    loaded (a .rows .now) (a .former .now) (a .partitions) (a .mates .now) (a .arcs .now) (a .all) (a .z) (a .walk .now) (a .m) (k .copy .last .0)
+    (l .look-up .last .0) (replicate 33 0) (replicate 33 0) (k .copy .ensures) (omega arith) (l .look-up .ensures) (omega arith) in
     c .before .before .make .ensures
     ∙ turned-in (a .rows .now) (a .former .now) (a .partitions) (a .mates .now) (a .arcs .now) (a .all) (a .z) (a .walk .now) (a .m)
-    (walkIn (a .m) (c .before .before .before .before .before .before .before .before .before .before .before .before .before .before .before .before .before .copy .last .0) (c .before .before .before .before .before .before .before .before .before .before .before .before .before .look-up .last .0)) (walkIn (c .before .before .before .before .before .before .before .before .free .result) (c .before .before .before .before .before .before .before .before .free .last .0) (c .before .before .before .before .before .before .before .before .free .last .1 .0))
-    (loaded (a .rows .now) (a .former .now) (a .partitions) (a .mates .now) (a .arcs .now) (a .all) (a .z) (a .walk .now) (a .m) (c .before .before .before .before .before .before .before .before .before .before .before .before .before .before .before .before .before .copy .last .0)
-    (c .before .before .before .before .before .before .before .before .before .before .before .before .before .look-up .last .0) (replicate 33 0) (replicate 33 0) (c .before .before .before .before .before .before .before .before .before .before .before .before .before .before .before .before .before .copy .ensures) (omega arith) (c .before .before .before .before .before .before .before .before .before .before .before .before .before .look-up .ensures) (omega arith))
-    (c .before .before .before .before .before .before .before .before .free .ensures .3)
+    (walkIn (a .m) (k .copy .last .0) (l .look-up .last .0)) (walkIn (f .free .result) (f .free .last .0) (f .free .last .1 .0)) cycle (f .free .ensures .3)
 
 pub turn-all-spec : {M : Type 1} → statement M
 turn-all-spec =

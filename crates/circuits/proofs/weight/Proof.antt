@@ -1,19 +1,13 @@
 -- `circuits::weight` meets its contract. Assumes nothing.
 use borrow.Author.Needs.{needs}
-use native.Mathlib.Omega.{arith}
 use lib.ListN.{getD}
 use mathlib.Core.Path.{_≡_}
 use Prim.Native.Nat.{_+_}
-use Rattle.circuits.specs.ModelCircuits.{weightOf}
+use Rattle.cycles.specs.ModelGraph.{weightOf}
 use Rattle.sets.specs.Bits.{memberOf}
-use mathlib.Core.Bool.{Bool, true, false}
-use mathlib.Core.Path.{sym, ap, _∙_}
+use mathlib.Core.Bool.{true, false}
 use Rattle.circuits.proofs.weight.Statement.{statement}
 use Rattle.circuits.proofs.weight.Tie as tie
-use Rattle.circuits.proofs.weight.Reads as reads
-use Rattle.circuits.proofs.weight.Lts as lts
-use Rattle.sets.proofs.member.Reads as member-reads
-use Rattle.swaps.proofs.cell.Reads as cell-reads
 
 cell-requires : tie.Need-cell-requires
 cell-requires c κs = search needs
