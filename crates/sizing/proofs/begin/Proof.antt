@@ -43,7 +43,7 @@ few c b l =
     let q = c .before .before in
     let s = q .before .before .before in
     let o = ok q in
-    let m = caps-most (topology (s .args .c)) (o .0 .few) (s .args .size) (c .caps .result) (c .caps .ensures) b (omega (arith, q .before .used .ensures)) in
+    let m = caps-most (topology (s .args .c)) (o .0 .few) (s .args .size) (c .caps .result) (c .caps .ensures .0) b (omega (arith, q .before .used .ensures)) in
     omega (arith, m, o .1, o .3)
 
 partitions-requires : tie.Need-partitions-requires
@@ -117,7 +117,7 @@ returns c =
     let n = q .before .used in
     d .deal .ensures
     ∙ arrays-deal (topology (s .args .c)) (s .args .size) (n .result) (q .partitions .result) (k .before .zones .result) (k .caps .result) (g .given .result) (t .starts .result) (s .args .rows .now)
-    (o .0 .few) (n .ensures .0) (o .1) (k .before .zones .ensures) (k .caps .ensures) (g .given .ensures) (t .starts .ensures)
+    (o .0 .few) (n .ensures .0) (o .1) (k .before .zones .ensures) (k .caps .ensures .0) (g .given .ensures) (t .starts .ensures)
 
 pub begin-spec : {M : Type 1} → statement M
 begin-spec =

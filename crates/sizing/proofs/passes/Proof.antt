@@ -40,12 +40,12 @@ fit-requires c κs =
     let p = partitions-few t a in
     (search needs,
     zones-long t (a .few) (s .args .zones .now) (s .pre .1),
-    caps-long t (a .few) (s .args .size) (k .result) (k .ensures),
+    caps-long t (a .few) (s .args .size) (k .result) (k .ensures .0),
     omega (arith, c .partitions .ensures, p),
     omega (arith, a .replication),
     omega (arith, a .redundancy, a .replication),
     λ b l. zones-most t (a .few) (s .args .zones .now) (s .pre .1) b (omega (arith, n .ensures)),
-    λ b l. omega (arith, c .partitions .ensures, p, caps-most t (a .few) (s .args .size) (k .result) (k .ensures) b (omega (arith, n .ensures))))
+    λ b l. omega (arith, c .partitions .ensures, p, caps-most t (a .few) (s .args .size) (k .result) (k .ensures .0) b (omega (arith, n .ensures))))
 
 returns : tie.Need-returns
 returns c =
@@ -57,7 +57,7 @@ returns c =
     let a : Accepted t = accepted (s .args .c) (s .pre .0) in
     c .fit .ensures
     ∙ arrays-fit t (a .few) (s .args .size) (n .result) (q .result) (s .args .zones .now) (k .result) (n .ensures .0)
-    (omega (arith, q .ensures, partitions-few t a)) (s .pre .1) (k .ensures)
+    (omega (arith, q .ensures, partitions-few t a)) (s .pre .1) (k .ensures .0)
 
 pub passes-spec : {M : Type 1} → statement M
 passes-spec =
