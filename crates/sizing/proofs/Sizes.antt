@@ -1,10 +1,9 @@
 -- The size and the beginning of a cluster in the terms of document 01.
 -- Assumes nothing.
-use Prim.Native.Nat.{ℕ, _*_, _/_, _^_, _≤_, _<_, min}
-use mathlib.Core.Path.{_≡_, sym, ap, _∙_}
+use Prim.Native.Nat.{ℕ, _/_, _^_, _≤_, _<_}
+use mathlib.Core.Path.{_≡_}
 use native.Mathlib.Nat.{le-div-iff-mul-le, div-mul-le-self, mul-le-mul-left, div-eq-of-lt}
 use native.Mathlib.Omega.{arith}
-use lib.ListN.{length}
 use lib.Pow.{pow-pos}
 use Rattle.exchange.specs.Row.{Within}
 use Rattle.cluster.specs.Terms.{Topology, partitions, nodeAt, Layout, ValidAt, IsSize}

@@ -57,14 +57,19 @@ pub fn caps(c: Cluster, size: u32) -> [u32; 32]
 // Whether the caps of a size have room for a layout.
 fn passes(c: Cluster, zones: &[u32], size: u32) -> bool
     requires { ⌜ (faultOf c ≡ 0) × (now zones ≡ zoneCells (topology c)) ⌝ }
-    ensures {
-        λ r. ⌜ r ≡ fits (partitions (topology c)) (length (topology c .nodes)) (c .replication) (c .redundancy) (zoneIndex (topology c))
-        (capAt (topology c) size) ⌝
-    }
+    ensures { λ r. ⌜ r ≡ fits (partitions (topology c)) (length (topology c .nodes)) (c .replication) (c .redundancy) (zoneIndex (topology c))
+        (capAt (topology c) size) ⌝ }
 {
     let n = nodes::used(c);
     let caps = caps(c, size);
-    totals::fit(zones, &caps, n, nodes::partitions(c.bits), c.replication, c.redundancy)
+    totals::fit(
+        zones,
+        &caps,
+        n,
+        nodes::partitions(c.bits),
+        c.replication,
+        c.redundancy,
+    )
 }
 
 // The size of a cluster without fault, from the highest bit down.

@@ -2,8 +2,8 @@
 -- Assumes nothing.
 use borrow.Author.Needs.{needs}
 use native.Mathlib.Omega.{arith}
-use Prim.Native.Nat.{ℕ, _/_, _^_, _≤_, _<_, min}
-use mathlib.Core.Path.{_≡_, sym, ap, _∙_, subst}
+use Prim.Native.Nat.{ℕ, _/_, _^_, _<_, min}
+use mathlib.Core.Path.{_≡_, ap, _∙_, subst}
 use mir.Val.{Fits}
 use mir.Syntax.{w32}
 use Rattle.cluster.specs.Terms.{topology, nodeAt}
@@ -14,11 +14,6 @@ use Rattle.sizing.proofs.Columns.{column-cong}
 use Rattle.sizing.proofs.Arrays.{cells-agree}
 use Rattle.sizing.proofs.caps.Statement.{statement}
 use Rattle.sizing.proofs.caps.Tie as tie
-use Rattle.sizing.proofs.caps.Reads as reads
-use Rattle.sizing.proofs.caps.Lts as lts
-use Rattle.sizing.proofs.nodes.capacities.Reads as capacities-reads
-use Rattle.sizing.proofs.nodes.caps_at.Reads as caps-at-reads
-use Rattle.sizing.proofs.nodes.used.Reads as used-reads
 
 used-requires : tie.Need-used-requires
 used-requires c κs = search needs
@@ -45,12 +40,13 @@ unfolding capCells capAt
 returns c =
     let k = c .before .before in
     let a = k .before .before .args in
-    let t = topology (a .c) in
-    (c .caps-at .ensures
-    ∙ (ap (column (λ b. min (2 ^ a .c .bits) (cell (k .capacities .result) b / a .size))) (k .before .used .ensures .0)
-    ∙ column-cong (λ b. min (2 ^ a .c .bits) (cell (k .capacities .result) b / a .size)) (capAt t (a .size)) (nodesOf t)
-    (λ b l. ap (λ (x : ℕ). min (2 ^ a .c .bits) (x / a .size)) (held k b l))),
-    λ b l. subst (λ (x : ℕ). x < 2 ^ 32) (held k b l) (low k b .fits))
+    let t = topology (a .c) in (
+      c .caps-at .ensures
+          ∙ (ap (column (λ b. min (2 ^ a .c .bits) (cell (k .capacities .result) b / a .size))) (k .before .used .ensures .0)
+          ∙ column-cong (λ b. min (2 ^ a .c .bits) (cell (k .capacities .result) b / a .size)) (capAt t (a .size)) (nodesOf t)
+          (λ b l. ap (λ (x : ℕ). min (2 ^ a .c .bits) (x / a .size)) (held k b l))),
+      λ b l. subst (λ (x : ℕ). x < 2 ^ 32) (held k b l) (low k b .fits),
+    )
 
 pub caps-spec : {M : Type 1} → statement M
 caps-spec =
