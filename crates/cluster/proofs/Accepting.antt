@@ -45,7 +45,7 @@ in-range t few ids e =
       replication = (pos (t .replication) (g .1), ltb-false 8 (t .replication) (f .1));
       redundancy = (pos (t .redundancy) (d .1), ltb-false (t .replication) (t .redundancy) (b .1));
       few = few;
-      ids = ids
+      ids = ids;
     }
   where
     pos : (n : ℕ) → eqb n 0 ≡ false → 1 ≤ n
@@ -58,12 +58,15 @@ accepted c e = go (ltb 32 (c .count)) refl e
   where
     t : Topology
     t = topology c
+
     order : c .count ≤ 32 → outOfRange t ≡ false → (r : Bool) → rising (idsOf (t .nodes)) ≡ r → _≡_ {A = ℕ} (pick r 0 5) 0 → Accepted t
     order few range true q h = in-range t (omega (arith, length-take (c .count) (c .nodes))) q range
     order few range false q h = absurd (omega arith)
+
     numbers : c .count ≤ 32 → (b : Bool) → outOfRange t ≡ b → _≡_ {A = ℕ} (pick b 4 (pick (rising (idsOf (t .nodes))) 0 5)) 0 → Accepted t
     numbers few true q h = absurd (omega arith)
     numbers few false q h = order few q (rising (idsOf (t .nodes))) refl h
+
     go : (b : Bool) → ltb 32 (c .count) ≡ b → _≡_ {A = ℕ} (pick b 6 (pick (outOfRange t) 4 (pick (rising (idsOf (t .nodes))) 0 5))) 0 → Accepted t
     go true q h = absurd (omega arith)
     go false q h = numbers (ltb-false 32 (c .count) q) (outOfRange t) refl h
@@ -73,7 +76,13 @@ pub no-fault : (c : Cluster) → c .count ≤ 32 → Accepted (topology c) → f
 unfolding faultOf outOfRange
 no-fault c few a =
     let t = topology c in
-    simp
-    (le-ltb 32 (c .count) few, le-ltb 8 (t .bits) (a .bits), ne-eqb (t .replication) 0 (λ e. omega (arith, a .replication)),
-    le-ltb 8 (t .replication) (a .replication .1), ne-eqb (t .redundancy) 0 (λ e. omega (arith, a .redundancy)),
-    le-ltb (t .replication) (t .redundancy) (a .redundancy .1), rising-no-zero 0 (idsOf (t .nodes)) (a .ids), a .ids)
+    simp (
+      le-ltb 32 (c .count) few,
+      le-ltb 8 (t .bits) (a .bits),
+      ne-eqb (t .replication) 0 (λ e. omega (arith, a .replication)),
+      le-ltb 8 (t .replication) (a .replication .1),
+      ne-eqb (t .redundancy) 0 (λ e. omega (arith, a .redundancy)),
+      le-ltb (t .replication) (t .redundancy) (a .redundancy .1),
+      rising-no-zero 0 (idsOf (t .nodes)) (a .ids),
+      a .ids,
+    )

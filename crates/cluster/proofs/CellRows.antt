@@ -3,7 +3,7 @@
 use Prim.Native.Nat.{ℕ, zero, suc, _-_, _≤_}
 use mathlib.Core.Path.{_≡_, refl, sym, ap, ap₂, _∙_}
 use mathlib.Core.List.{List, [], _∷_, _++_}
-use mathlib.Core.Bool.{Bool, true, false, _&&_}
+use mathlib.Core.Bool.{Bool, true, false, _&&_, false≢true}
 use native.Mathlib.Nat.{sub-zero}
 use native.Mathlib.Omega.{arith}
 use lib.Dec.{ltb, eqb, eqb·suc-zero}
@@ -15,10 +15,7 @@ use Rattle.cluster.specs.TermsCells.{idsIn, blank, formedFrom}
 -- What two tests together tell.
 pub both : (a b : Bool) → a && b ≡ true → (a ≡ true) × (b ≡ true)
 both true b h = (refl, h)
-both false b h = absurd (no h)
-  where
-    no : false ≡ true → ⊥
-    no e = let z : _≡_ {A = ℕ} 0 1 = cc in omega arith
+both false b h = absurd (false≢true h)
 
 -- Zeros after a list change no cell of it, read as 0 past the end.
 pub getD-zeros : (l : List ℕ) (n i : ℕ) → getD (l ++ replicate n 0) i 0 ≡ getD l i 0
@@ -30,11 +27,12 @@ getD-zeros [] (suc n) (suc i) = getD-zeros [] n i
 
 -- ---- the two kinds of cell
 
--- A cell that is not 0 is an id.
+-- A cell that is not 0 is an id, and the others' ids follow it.
 pub ids-more : (x : ℕ) (xs : List ℕ) → idsIn (suc x ∷ xs) ≡ suc x ∷ idsIn xs
 unfolding idsIn
 ids-more x xs = simp eqb·suc-zero
 
+-- Cells that start with an id are formed where it is above the last and the others are formed after it.
 pub formed-more : (k x : ℕ) (xs : List ℕ) → formedFrom k (suc x ∷ xs) ≡ (ltb k (suc x) && formedFrom (suc x) xs)
 unfolding formedFrom
 formed-more k x xs = simp eqb·suc-zero
@@ -64,6 +62,13 @@ unfolding idsIn
 blank-ids [] h = refl
 blank-ids (x ∷ xs) h = ap (λ (r : List ℕ). idsIn r) (blank-zeros (x ∷ xs) h)
 
+-- A blank row is formed, whatever id it follows.
+pub blank-formed : (k : ℕ) (l : List ℕ) → blank l ≡ true → formedFrom k l ≡ true
+unfolding blank formedFrom
+blank-formed k [] h = refl
+blank-formed k (zero ∷ xs) h = h
+blank-formed k (suc x ∷ xs) h = absurd (omega (arith, eqb-true (suc x) 0 (both (eqb (suc x) 0) (blank xs) h .0)))
+
 -- A row that is formed and has no ids is blank.
 pub no-ids-blank : (k : ℕ) (l : List ℕ) → formedFrom k l ≡ true → idsIn l ≡ [] → blank l ≡ true
 unfolding formedFrom blank
@@ -72,6 +77,10 @@ no-ids-blank k (zero ∷ xs) h e = h
 no-ids-blank k (suc x ∷ xs) h e = absurd (omega (arith, ap length (sym (ids-more x xs) ∙ e)))
 
 -- ---- formed rows
+
+-- The first id of a formed row is above the last, and the others follow it.
+formed-head : (k x : ℕ) (xs : List ℕ) → formedFrom k (suc x ∷ xs) ≡ true → (ltb k (suc x) ≡ true) × (formedFrom (suc x) xs ≡ true)
+formed-head k x xs h = both (ltb k (suc x)) (formedFrom (suc x) xs) (sym (formed-more k x xs) ∙ h)
 
 -- A row has at most as many ids as cells.
 pub ids-length : (l : List ℕ) → length (idsIn l) ≤ length l
@@ -86,7 +95,7 @@ unfolding idsIn risingFrom
 formed-rising k [] h = refl
 formed-rising k (zero ∷ xs) h = refl
 formed-rising k (suc x ∷ xs) h =
-    let b = both (ltb k (suc x)) (formedFrom (suc x) xs) (sym (formed-more k x xs) ∙ h) in
+    let b = formed-head k x xs h in
     ap (λ (r : List ℕ). risingFrom k r) (ids-more x xs)
     ∙ ap₂ _&&_ (b .0) (formed-rising (suc x) xs (b .1))
 
@@ -97,13 +106,13 @@ formed-cells k [] h = refl
 formed-cells k (zero ∷ xs) h =
     ap (λ (r : List ℕ). 0 ∷ r) (blank-zeros xs h) ∙ ap (λ (n : ℕ). replicate n 0) (sym (sub-zero (suc (length xs))))
 formed-cells k (suc x ∷ xs) h =
-    let b = both (ltb k (suc x)) (formedFrom (suc x) xs) (sym (formed-more k x xs) ∙ h) in
+    let b = formed-head k x xs h in
     let e : length xs - length (idsIn xs) ≡ suc (length xs) - suc (length (idsIn xs)) = omega arith in
     ap (λ (r : List ℕ). suc x ∷ r) (formed-cells (suc x) xs (b .1))
     ∙ (ap (λ (n : ℕ). suc x ∷ (idsIn xs ++ replicate n 0)) e
     ∙ ap (λ (r : List ℕ). r ++ replicate (suc (length xs) - length r) 0) (sym (ids-more x xs)))
 
--- So each cell is the id at its place, or 0 where there is none.
+-- Each cell of a formed row is the id at its place, or 0 where there is none.
 pub formed-cell : (k : ℕ) (l : List ℕ) (i : ℕ) → formedFrom k l ≡ true → getD (idsIn l) i 0 ≡ getD l i 0
 formed-cell k l i h =
     sym (ap (λ (r : List ℕ). getD r i 0) (formed-cells k l h) ∙ getD-zeros (idsIn l) (length l - length (idsIn l)) i)

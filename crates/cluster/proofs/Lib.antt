@@ -1,7 +1,11 @@
 pub mod CellLayouts
 pub mod CellRows
+pub mod RowScans
 pub mod Scans
 pub mod Accepting
 pub mod Lists
 pub mod TieRows
 pub mod TieZones
+pub mod TieDistance
+pub mod TieLayouts
+pub mod Examples

@@ -1,18 +1,19 @@
 -- Lists of numbers: members, rising lists, and sums over the numbers of a list.
 -- Assumes nothing.
 use Prim.Native.Nat.{ℕ, zero, suc, _+_, _*_, _≤_, _<_}
-use mathlib.Core.Path.{_≡_, refl, sym, ap, ap₂, _∙_, subst}
+use mathlib.Core.Path.{_≡_, refl, sym, ap, ap₂, _∙_}
 use mathlib.Core.List.{List, [], _∷_}
 use mathlib.Core.Bool.{Bool, true, false, not, _&&_, _||_, false≢true}
 use mathlib.Core.Logic.{_⊎_, inl, inr, ⊎-elim}
-use native.Mathlib.Nat.{zero-mul, one-mul, mul-one, mul-zero}
+use native.Mathlib.Nat.{zero-mul, one-mul, mul-one}
 use native.Mathlib.Omega.{arith}
-use lib.Dec.{ltb, eqb}
+use lib.Dec.{ltb}
 use lib.ListN.{length, getD}
 use borrow.Author.Tests.{ltb-true, lt-ltb, eq-eqb, ne-eqb}
 use Rattle.sums.specs.Sum.{is, one-if}
 use Rattle.sums.proofs.Sum.{eq-or-ne, is-eq, is-ne, is-sym}
 use Rattle.cluster.specs.Terms.{mem, risingFrom, onlyIn}
+use Rattle.cluster.proofs.CellRows.{both}
 
 -- ---- tests
 
@@ -27,15 +28,6 @@ same-test true b f g = sym (f refl)
 same-test false true f g = g refl
 same-test false false f g = refl
 
--- Both tests hold, and each of them.
-pub and-left : (a b : Bool) → a && b ≡ true → a ≡ true
-and-left true b e = refl
-and-left false b e = e
-
-pub and-right : (a b : Bool) → a && b ≡ true → b ≡ true
-and-right true b e = e
-and-right false b e = absurd (false≢true e)
-
 -- The indicator of a test is at most 1.
 pub one-if-le : (b : Bool) → one-if b ≤ 1
 unfolding one-if
@@ -44,17 +36,21 @@ one-if-le false = omega arith
 
 -- ---- members
 
+-- The first number is a member.
 pub mem-head : (i x : ℕ) (xs : List ℕ) → i ≡ x → mem i (x ∷ xs) ≡ true
 unfolding mem
 mem-head i x xs e = ap (λ (t : Bool). t || mem i xs) (eq-eqb i x e)
 
+-- Past a first number that is another one.
 pub mem-skip : (i x : ℕ) (xs : List ℕ) → (i ≡ x → ⊥) → mem i (x ∷ xs) ≡ mem i xs
 unfolding mem
 mem-skip i x xs h = ap (λ (t : Bool). t || mem i xs) (ne-eqb i x h)
 
+-- A member of the others is a member.
 pub mem-tail : (i x : ℕ) (xs : List ℕ) → mem i xs ≡ true → mem i (x ∷ xs) ≡ true
 mem-tail i x xs m = ⊎-elim (λ e. mem-head i x xs e) (λ n. mem-skip i x xs n ∙ m) (eq-or-ne i x)
 
+-- The empty list has no member.
 pub mem-none : (i : ℕ) → mem i [] ≡ true → ⊥
 unfolding mem
 mem-none i m = false≢true m
@@ -81,18 +77,22 @@ index-mem (x ∷ xs) (suc b) h = mem-tail (getD xs b 0) x xs (index-mem xs b (om
 
 -- ---- rising lists
 
+-- The first number of a list that rises from k is above k.
 pub rising-head : (k x : ℕ) (xs : List ℕ) → risingFrom k (x ∷ xs) ≡ true → k < x
 unfolding risingFrom
-rising-head k x xs e = ltb-true k x (and-left (ltb k x) (risingFrom x xs) e)
+rising-head k x xs e = ltb-true k x (both (ltb k x) (risingFrom x xs) e .0)
 
+-- The others rise from the first.
 pub rising-tail : (k x : ℕ) (xs : List ℕ) → risingFrom k (x ∷ xs) ≡ true → risingFrom x xs ≡ true
 unfolding risingFrom
-rising-tail k x xs e = and-right (ltb k x) (risingFrom x xs) e
+rising-tail k x xs e = both (ltb k x) (risingFrom x xs) e .1
 
+-- The empty list rises.
 pub rising-none : (k : ℕ) → risingFrom k [] ≡ true
 unfolding risingFrom
 rising-none k = refl
 
+-- A number above k, before what rises from it, rises from k.
 pub rising-cons : (k x : ℕ) (xs : List ℕ) → k < x → risingFrom x xs ≡ true → risingFrom k (x ∷ xs) ≡ true
 unfolding risingFrom
 rising-cons k x xs h e = ap (λ (t : Bool). t && risingFrom x xs) (lt-ltb k x h) ∙ e
@@ -150,11 +150,13 @@ unfolding over
 over-cong [] f g h = refl
 over-cong (x ∷ xs) f g h = ap₂ _+_ (h x (mem-head x x xs refl)) (over-cong xs f g (λ y m. h y (mem-tail y x xs m)))
 
+-- A sum of zeros.
 pub over-zero : (l : List ℕ) → over l (λ x. 0) ≡ 0
 unfolding over
 over-zero [] = refl
 over-zero (x ∷ xs) = omega (arith, over-zero xs)
 
+-- The sum of sums, term by term.
 pub over-add : (l : List ℕ) (f g : ℕ → ℕ) → over l (λ x. f x + g x) ≡ over l f + over l g
 unfolding over
 over-add [] f g = refl
@@ -167,6 +169,7 @@ over-swap [] r g = sym (over-zero r)
 over-swap (x ∷ xs) r g =
     ap (λ (n : ℕ). over r (λ y. g x y) + n) (over-swap xs r g) ∙ sym (over-add r (λ y. g x y) (λ y. over xs (λ z. g z y)))
 
+-- A sum of ones is the length.
 pub over-length : (l : List ℕ) → over l (λ x. 1) ≡ length l
 unfolding over
 over-length [] = refl

@@ -36,7 +36,7 @@ module _ (l : List Node) (n i : ℕ) (in-use : i < n) (long : n ≤ length l) wh
 
   -- A scan that meets an id above the last goes on from it.
   pub rises-here : (last : ℕ) → last < getD l i noNode .id
-    → risingFrom last (idsOf (take (n - i) (drop i l))) ≡ risingFrom (getD l i noNode .id) (idsOf (take (n - (i + 1)) (drop (i + 1) l)))
+      → risingFrom last (idsOf (take (n - i) (drop i l))) ≡ risingFrom (getD l i noNode .id) (idsOf (take (n - (i + 1)) (drop (i + 1) l)))
   unfolding risingFrom idsOf
   rises-here last h =
       ap (λ (r : List Node). risingFrom last (idsOf r)) (rest-cons l n i noNode in-use long)

@@ -1,27 +1,21 @@
 -- Rows of ids and rows of bits over the nodes: counts, and the row of ids with given bits.
 -- Assumes nothing.
-use Prim.Native.Nat.{ℕ, zero, suc, _+_, _*_, _≤_, _<_, min}
-use mathlib.Core.Path.{_≡_, refl, sym, ap, ap₂, _∙_, subst}
-use mathlib.Core.List.{List, [], _∷_, map}
-use mathlib.Core.Bool.{Bool, true, false, not, _&&_, _||_, false≢true}
-use mathlib.Core.Logic.{_⊎_, inl, inr, ⊎-elim}
+use Prim.Native.Nat.{ℕ, zero, suc, _+_, _*_, _≤_, _<_}
+use mathlib.Core.Path.{_≡_, refl, sym, ap, _∙_, subst}
+use mathlib.Core.List.{List, [], _∷_}
+use mathlib.Core.Bool.{Bool, true, false, not}
+use mathlib.Core.Logic.{⊎-elim}
 use native.Mathlib.Nat.{mul-one}
 use native.Mathlib.Omega.{arith}
 use lib.Dec.{eqb}
 use lib.ListN.{length, getD, length-map, List·getD-map}
-use borrow.Author.Tests.{eq-eqb, ne-eqb, eqb-true, eqb-false}
+use borrow.Author.Tests.{eqb-true, eqb-false}
 use Rattle.sums.specs.Sum.{sumTo, one-if, pick}
-use Rattle.sums.proofs.Sum.{sum-cong}
+use Rattle.sums.proofs.Sum.{sum-cong, sum-first}
 use Rattle.cluster.specs.Terms.{noNode, idsOf, mem, risingFrom, Layout, row, copiesIn}
 use Rattle.cluster.specs.Tie.{bitsOf, idsWhere}
 use Rattle.cluster.specs.declared.Node.{Node}
-use Rattle.cluster.proofs.Lists.{test-cases, same-test, mem-head, mem-skip, mem-tail, mem-none, mem-cases, mem-index, index-mem, rising-head, rising-tail, rising-none, rising-cons, rising-down, rising-above, rising-fresh, rising-same, over, over-cong, over-length, over-within}
-
--- The first term, then the others.
-pub sum-first : (n : ℕ) (f : ℕ → ℕ) → sumTo (suc n) f ≡ f 0 + sumTo n (λ i. f (suc i))
-unfolding sumTo
-sum-first zero f = omega arith
-sum-first (suc n) f = omega (arith, sum-first n f)
+use Rattle.cluster.proofs.Lists.{same-test, mem-head, mem-skip, mem-tail, mem-cases, mem-index, index-mem, rising-head, rising-tail, rising-cons, rising-down, rising-above, rising-fresh, rising-same, over, over-length, over-within}
 
 -- ---- the ids of the nodes
 
@@ -30,6 +24,7 @@ pub id-at : (ns : List Node) (b : ℕ) → getD (idsOf ns) b 0 ≡ getD ns b noN
 unfolding idsOf
 id-at ns b = List·getD-map (λ (n : Node). n .id) ns b noNode
 
+-- There are as many ids as nodes.
 pub length-ids : (ns : List Node) → length (idsOf ns) ≡ length ns
 unfolding idsOf
 length-ids ns = length-map ns (λ (n : Node). n .id)

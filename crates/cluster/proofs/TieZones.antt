@@ -1,23 +1,22 @@
 -- Zones as node indices: the first node of a zone names it, and the zones of a row are those that its bits cover.
 -- Assumes nothing.
 use Prim.Native.Nat.{ℕ, zero, suc, _+_, _*_, _≤_, _<_, min}
-use mathlib.Core.Path.{_≡_, refl, sym, ap, ap₂, _∙_, subst}
+use mathlib.Core.Path.{_≡_, refl, sym, ap, ap₂, _∙_}
 use mathlib.Core.List.{List, [], _∷_}
 use mathlib.Core.Bool.{Bool, true, false, not, false≢true}
 use mathlib.Core.Logic.{_⊎_, inl, inr, ⊎-elim}
-use native.Mathlib.Nat.{zero-mul, one-mul, mul-zero}
+use native.Mathlib.Nat.{mul-zero}
 use native.Mathlib.Omega.{arith}
 use lib.Dec.{eqb}
 use lib.ListN.{length, getD}
 use borrow.Author.Tests.{eqb-true, eq-eqb}
 use Rattle.sums.specs.Sum.{sumTo, one-if, is, pick}
-use Rattle.sums.proofs.Sum.{eq-or-ne, is-eq, is-ne, is-cases, sum-cong, sum-zero, sum-add, sum-is}
+use Rattle.sums.proofs.Sum.{eq-or-ne, is-eq, is-ne, is-cases, sum-cong, sum-zero, sum-add, sum-is, sum-first}
 use Rattle.exchange.specs.Row.{zoneCount, cover}
 use Rattle.cluster.specs.Terms.{Topology, noNode, nodeAt, mem, different, zonesNamed, zonesOf}
 use Rattle.cluster.specs.Tie.{firstIndex, zoneIndex, bitsOf}
 use Rattle.cluster.specs.declared.Node.{Node}
-use Rattle.cluster.proofs.Lists.{test-cases, mem-head, mem-skip, mem-tail, mem-none, mem-cases}
-use Rattle.cluster.proofs.TieRows.{sum-first}
+use Rattle.cluster.proofs.Lists.{mem-head, mem-skip, mem-tail, mem-none, mem-cases}
 
 -- The first index of which a test holds, where it holds of some k: below the bound, passes the test, and is at most k.
 pub first-passes : (n : ℕ) (f : ℕ → Bool) (k : ℕ) → k < n → f k ≡ true

@@ -1,9 +1,9 @@
 -- Between the terms and the theory of exchanges: a layout of ids as 0/1 rows of node indices, and back. Nobody has to believe this file:
 -- the theorems of proofs/ say what it achieves.
 -- Assumes nothing.
-use Prim.Native.Nat.{ℕ, zero, suc, _+_, _-_, _*_, _/_, _^_, min}
+use Prim.Native.Nat.{ℕ, zero, suc, _/_, min}
 use mathlib.Core.List.{List, [], _∷_}
-use mathlib.Core.Bool.{Bool, true, false}
+use mathlib.Core.Bool.{Bool}
 use lib.Dec.{eqb}
 use lib.ListN.{length, getD}
 use Rattle.sums.specs.Sum.{sumTo, one-if, pick}

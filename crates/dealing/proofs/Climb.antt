@@ -3,10 +3,10 @@
 use Prim.Native.Nat.{ℕ, zero, suc, _+_, _-_, _*_, _≤_, _<_, min}
 use mathlib.Core.Path.{_≡_, sym, ap, _∙_}
 use mathlib.Core.Logic.{⊎-elim}
-use native.Mathlib.Nat.{add-zero, zero-mul, one-mul, mul-le-mul-left}
+use native.Mathlib.Nat.{add-zero, mul-le-mul-left}
 use native.Mathlib.Omega.{arith}
 use Rattle.sums.specs.Sum.{sumTo, is}
-use Rattle.sums.proofs.Sum.{lt-or-ge, eq-or-ne, is-eq, is-ne, sum-cong, sum-le, sum-swap, sum-is}
+use Rattle.sums.proofs.Sum.{eq-or-ne, is-times, not-times, sum-cong, sum-le, sum-swap, sum-is}
 use Rattle.dealing.specs.Deal.{inZone, pour, zoned}
 
 -- A rising function.
@@ -32,14 +32,6 @@ climb-none g a f i e =
     let q : a + sumTo i f + f i ≡ a + sumTo i f = omega arith in
     omega (arith, ap g q)
 
--- A running sum with the next term is at most the whole sum.
-pub sum-upto : (n i : ℕ) (f : ℕ → ℕ) → i < n → sumTo i f + f i ≤ sumTo n f
-unfolding sumTo
-sum-upto zero i f l = absurd (omega arith)
-sum-upto (suc n) i f l =
-    ⊎-elim (λ a. omega (arith, sum-upto n i f a))
-    (λ b. let e : i ≡ n = omega arith in omega (arith, ap f e, ap (λ (t : ℕ). sumTo t f) e)) (lt-or-ge i n)
-
 -- ---- filling a room
 
 -- No more goes in than there is.
@@ -54,13 +46,6 @@ pour-sum room f zero = omega arith
 pour-sum room f (suc n) = omega (arith, pour-sum room f n)
 
 -- ---- sums by zones
-
--- The indicator as a factor, where it is 1 and where it is 0.
-pub is-times : {a b : ℕ} → a ≡ b → (x : ℕ) → is a b * x ≡ x
-is-times e x = ap (λ (t : ℕ). t * x) (is-eq e) ∙ one-mul x
-
-pub not-times : {a b : ℕ} → (a ≡ b → ⊥) → (x : ℕ) → is a b * x ≡ 0
-not-times h x = ap (λ (t : ℕ). t * x) (is-ne h) ∙ zero-mul x
 
 module _ (zone : ℕ → ℕ) where
   -- Zone by zone the sum is the sum over all nodes.

@@ -1,39 +1,20 @@
 -- Turning a circuit: all its exchanges at once, where no two of them can be crossed, lead to a layout that is within the caps, differs in free
 -- pairs only, and is heavier.
 -- Assumes nothing.
-use Prim.Native.Nat.{ℕ, zero, suc, _+_, _-_, _*_, _≤_, _<_}
-use mathlib.Core.Path.{_≡_, refl, sym, ap, _∙_, subst}
+use Prim.Native.Nat.{ℕ, suc, _+_, _-_, _*_, _≤_, _<_}
+use mathlib.Core.Path.{_≡_, sym, ap, _∙_, subst}
 use mathlib.Core.Bool.{Bool, cond}
 use mathlib.Core.Logic.{⊎-elim}
-use native.Mathlib.Nat.{zero-mul, mul-le-mul-right}
+use native.Mathlib.Nat.{mul-le-mul-right}
 use native.Mathlib.Omega.{arith}
 use borrow.Author.Tests.{lt-ltb, le-ltb}
 use Rattle.sums.specs.Sum.{sumTo, is, hits}
-use Rattle.sums.proofs.Sum.{lt-or-ge, is-ne, is-le, is-one, sum-cong, sum-le, sum-zero, sum-add, sum-const, sum-swap, sum-is, sum-witness}
+use Rattle.sums.proofs.Sum.{lt-or-ge, is-le, is-one, sum-le, sum-balance, sum-const, sum-swap, sum-first, sum-none, sum-is, sum-witness}
 use Rattle.sums.proofs.Count.{two-bits, pigeonhole}
 use Rattle.exchange.specs.Row.{Valid, Within, Agree, Exchange, swap, copies, weigh}
 use Rattle.exchange.specs.Circuit.{cost, costs, Circuit, Crossed, Uncrossed, Better, turn}
 use Rattle.exchange.proofs.Picked.{picked, picked-at, out-le, several-at, several-sum}
 use Rattle.exchange.proofs.Several.{several-valid}
-
--- ---- sums
-
--- Terms that balance have sums that balance.
-pub sum-balance : (n : ℕ) (f a h b : ℕ → ℕ) → ((i : ℕ) → i < n → f i + a i ≡ h i + b i)
-    → sumTo n f + sumTo n a ≡ sumTo n h + sumTo n b
-sum-balance n f a h b e =
-    sym (sum-add n f a) ∙ (sum-cong n (λ i. f i + a i) (λ i. h i + b i) e ∙ sum-add n h b)
-
--- The terms from 1 to n, with that of 0, are those from 0 to n.
-pub sum-next : (n : ℕ) (f : ℕ → ℕ) → sumTo n (λ i. f (suc i)) + f 0 ≡ sumTo n f + f n
-unfolding sumTo
-sum-next zero f = refl
-sum-next (suc n) f = omega (arith, sum-next n f)
-
--- The sum that picks one index picks nothing where that index is beyond it.
-sum-none : (n k : ℕ) (f : ℕ → ℕ) → n ≤ k → sumTo n (λ i. is k i * f i) ≡ 0
-sum-none n k f h =
-    sum-zero n (λ i. is k i * f i) (λ i l. ap (λ (t : ℕ). t * f i) (is-ne {a = k} {b = i} (λ e. omega arith)) ∙ zero-mul (f i))
 
 -- ---- the cost of an arc
 
@@ -102,8 +83,8 @@ module _ (P N R Z C : ℕ) (zone cap : ℕ → ℕ) (g free S : ℕ → ℕ → 
 
   -- A node is left as often as it is entered.
   left : (x : ℕ) → sumTo m (λ i. is (y (suc i)) x) ≡ hits m y x
-  unfolding hits
-  left x = omega (arith, sum-next m (λ i. is (y i) x), ap (λ (k : ℕ). is k x) (c .closed))
+  unfolding hits sumTo
+  left x = omega (arith, sum-first m (λ i. is (y i) x), ap (λ (k : ℕ). is k x) (c .closed))
 
   -- A circuit has at most as many arcs as there are nodes.
   pub at-most-nodes : m ≤ N

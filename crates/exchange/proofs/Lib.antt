@@ -3,8 +3,10 @@ pub mod RowOptimum
 pub mod Prices
 pub mod Picked
 pub mod Several
-pub mod Levels
-pub mod Search
 pub mod Circuit
 pub mod Uncross
 pub mod Walk
+pub mod Levels
+pub mod Search
+pub mod Join
+pub mod Agreeing

@@ -4,12 +4,11 @@
 use Prim.Native.Nat.{ℕ, _+_, _-_, _*_, _≤_, _<_}
 use mathlib.Core.Path.{_≡_, sym, ap, ap₂, _∙_}
 use mathlib.Core.Logic.{⊎-elim}
-use native.Mathlib.Nat.{mul-one, one-mul, zero-mul, mul-assoc, add-mul, mul-le-mul-left, mul-le-mul-right}
+use native.Mathlib.Nat.{mul-one, zero-mul, mul-assoc, add-mul, mul-le-mul-right}
 use native.Mathlib.Omega.{arith}
 use Rattle.sums.specs.Sum.{sumTo, is}
-use Rattle.sums.proofs.Sum.{lt-or-ge, is-eq, is-le, is-one, sum-cong, sum-le, sum-add, sum-scale, sum-swap, sum-is, sum-term}
-use Rattle.sums.proofs.Count.{sum-pos, two-bits}
-use Rattle.exchange.proofs.Row.{sum-scale-right}
+use Rattle.sums.proofs.Sum.{lt-or-ge, is-eq, is-le, is-one, sum-cong, sum-le, sum-add, sum-scale, sum-scale-right, sum-swap, sum-is, sum-term}
+use Rattle.sums.proofs.Count.{bit-times, bit-both, sum-pos, two-bits}
 
 -- How many picked arcs have x at the end f.
 abbrev pub picked : ℕ → (ℕ → ℕ) → (ℕ → ℕ) → ℕ → ℕ
@@ -18,16 +17,6 @@ picked m μ f x = sumTo m (λ i. μ i * is (f i) x)
 -- The row after all picked exchanges: the sources leave and the targets come in.
 abbrev pub several : ℕ → (ℕ → ℕ) → (ℕ → ℕ) → (ℕ → ℕ) → (ℕ → ℕ) → ℕ → ℕ
 several m μ a b S x = S x + picked m μ b x - picked m μ a x
-
--- ---- products of bits
-
--- The product of two bits is a bit.
-pub bit-le : {x y : ℕ} → x ≤ 1 → y ≤ 1 → x * y ≤ 1
-bit-le {x} {y} p q = omega (arith, mul-le-mul-right y p, one-mul y)
-
--- Where it is not 0, both are 1.
-pub bit-both : {x y : ℕ} → x ≤ 1 → y ≤ 1 → 1 ≤ x * y → (x ≡ 1) × (y ≡ 1)
-bit-both {x} {y} p q h = (omega (arith, mul-le-mul-left x q, mul-one x), omega (arith, mul-le-mul-right y p, one-mul y))
 
 -- ---- one end of the picked arcs
 
@@ -52,7 +41,7 @@ module _ (m : ℕ) (μ f : ℕ → ℕ) (bits : (i : ℕ) → i < m → μ i ≤
 
       two : 2 ≤ picked m μ f x → ⊥
       two g =
-          let w = two-bits m (λ i. μ i * is (f i) x) (λ i l. bit-le (bits i l) (is-le (f i) x)) g in
+          let w = two-bits m (λ i. μ i * is (f i) x) (λ i l. bit-times (bits i l) (is-le (f i) x)) g in
           let p = one (w .0) (omega (arith, w .2, w .3)) (w .4) in
           let q = one (w .1) (w .3) (w .5) in
           apart (w .0) (w .1) (w .2) (w .3) (p .0) (q .0) (p .1) (q .1)

@@ -7,11 +7,10 @@ use mathlib.Core.Logic.{⊎-elim}
 use native.Mathlib.Nat.{mul-le-mul-left, mul-le-mul-right, mul-add, mul-assoc}
 use native.Mathlib.Omega.{arith}
 use Rattle.sums.specs.Sum.{sumTo, maxTo}
-use Rattle.sums.proofs.Sum.{lt-or-ge, sum-cong, sum-le, sum-add, sum-const, sum-swap}
+use Rattle.sums.proofs.Sum.{lt-or-ge, sum-cong, sum-le, sum-add, sum-scale-right, sum-const, sum-swap}
 use Rattle.sums.proofs.Count.{max-ge, max-le}
 use Rattle.exchange.specs.Row.{Valid, swap, copies, weigh, Within, Agree}
 use Rattle.exchange.specs.Prices.{Prices, Potential}
-use Rattle.exchange.proofs.Row.{sum-scale-right}
 use Rattle.exchange.proofs.RowOptimum.{row-optimum}
 
 -- ---- one row

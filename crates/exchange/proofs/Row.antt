@@ -3,17 +3,12 @@
 use Prim.Native.Nat.{ℕ, _+_, _-_, _*_, _≤_, _<_, min}
 use mathlib.Core.Path.{_≡_, refl, sym, ap, _∙_}
 use mathlib.Core.Logic.{⊎-elim}
-use native.Mathlib.Nat.{mul-one, one-mul, add-mul, mul-comm, mul-assoc}
+use native.Mathlib.Nat.{mul-one, one-mul, add-mul, mul-assoc}
 use native.Mathlib.Omega.{arith}
 use Rattle.sums.specs.Sum.{sumTo, is}
-use Rattle.sums.proofs.Sum.{is-eq, is-ne, is-cases, sum-cong, sum-add, sum-scale, sum-swap, sum-is, sum-term}
+use Rattle.sums.proofs.Sum.{is-eq, is-ne, is-cases, sum-cong, sum-add, sum-scale, sum-scale-right, sum-swap, sum-is, sum-term}
 use Rattle.exchange.specs.Row.{zoneCount, cover, Valid, swap}
 use Rattle.exchange.specs.Swap.{fits}
-
--- A constant factor goes behind the sum.
-pub sum-scale-right : (n c : ℕ) (f : ℕ → ℕ) → sumTo n (λ i. f i * c) ≡ sumTo n f * c
-sum-scale-right n c f =
-    sum-cong n (λ i. f i * c) (λ i. c * f i) (λ i l. mul-comm (f i) c) ∙ (sum-scale n c f ∙ mul-comm c (sumTo n f))
 
 -- ---- zones of a row
 

@@ -8,11 +8,11 @@ use native.Mathlib.Nat.{mul-one, mul-le-mul-left, mul-le-mul-right}
 use native.Mathlib.Omega.{arith}
 use Rattle.sums.specs.Sum.{sumTo, is}
 use Rattle.sums.proofs.Sum.{lt-or-ge, is-eq, is-le, is-one, is-cases, sum-le, sum-add}
-use Rattle.sums.proofs.Count.{two-bits}
+use Rattle.sums.proofs.Count.{bit-times, bit-both, two-bits}
 use Rattle.exchange.specs.Row.{Valid, swap, zoneCount, cover}
 use Rattle.exchange.specs.Swap.{fits}
 use Rattle.exchange.proofs.Row.{fits-valid, valid-fits}
-use Rattle.exchange.proofs.Picked.{picked, several, bit-le, bit-both, picked-at, picked-pos, picked-le, picked-total, out-le, in-le, out-sum-le, several-bit, several-sum, several-size}
+use Rattle.exchange.proofs.Picked.{picked, several, picked-at, picked-pos, picked-le, picked-total, out-le, in-le, out-sum-le, several-bit, several-sum, several-size}
 
 module _ (N R Z : ℕ) (zone S : ℕ → ℕ) (zones : (x : ℕ) → x < N → zone x < N) (valid : Valid N R Z zone S) (m : ℕ) (μ a b : ℕ → ℕ)
     (bits : (i : ℕ) → i < m → μ i ≤ 1)
@@ -44,7 +44,7 @@ module _ (N R Z : ℕ) (zone S : ℕ → ℕ) (zones : (x : ℕ) → x < N → z
     target-zone i l e = zones (b i) (arcs i l e .1)
 
     gain-bits : (i : ℕ) → i < m → gain i ≤ 1
-    gain-bits i l = bit-le (bits i l) (is-le (before (target i)) 0)
+    gain-bits i l = bit-times (bits i l) (is-le (before (target i)) 0)
 
     gain-one : (i : ℕ) → i < m → gain i ≡ 1 → (μ i ≡ 1) × (before (target i) ≡ 0)
     gain-one i l e =

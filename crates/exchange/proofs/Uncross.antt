@@ -2,34 +2,19 @@
 -- Assumes nothing.
 use Prim.Native.Nat.{ℕ, zero, suc, _+_, _-_, _*_, _≤_, _<_}
 use mathlib.Core.Path.{_≡_, refl, sym, ap, ap₂, _∙_, subst}
-use mathlib.Core.Bool.{Bool, true, false, cond, _&&_, and-eq-true-iff, true≢false}
+use mathlib.Core.Bool.{Bool, true, false, _&&_, and-eq-true-iff, true≢false, cond}
 use mathlib.Core.Logic.{inl, ⊎-elim}
 use native.Mathlib.Nat.{add-mul}
 use native.Mathlib.Omega.{arith}
 use lib.Dec.{ltb, eqb}
 use borrow.Author.Tests.{ltb-true, ltb-false, lt-ltb, le-ltb, le-leb, lt-leb, eqb-true, eq-eqb}
 use Rattle.sums.specs.Sum.{sumTo}
-use Rattle.sums.proofs.Sum.{lt-or-ge, eq-or-ne, sum-cong, sum-split}
+use Rattle.sums.proofs.Sum.{lt-or-ge, eq-or-ne, sum-cong, sum-part, sum-but-one}
 use Rattle.exchange.specs.Row.{Within}
 use Rattle.exchange.specs.Circuit.{cost, Allowed, Crossed, Uncrossed, Better}
-use Rattle.exchange.specs.Uncross.{Walk, seek, crosses, partner, first, skip, wrap, part, inner, outer, walk-costs, split, uncross, improved, Round, Right}
+use Rattle.exchange.specs.Uncross.{Walk, crosses, partner, first, skip, wrap, part, inner, outer, walk-costs, split, uncross, improved, Round, Right}
+use Rattle.exchange.proofs.Search.{first-cases, first-some, first-none}
 use Rattle.exchange.proofs.Circuit.{cost-row, exchange, turn-better}
-
--- ---- sums
-
--- The first a terms, then the other b.
-sum-part : (n a b : ℕ) (f : ℕ → ℕ) → a + b ≡ n → sumTo n f ≡ sumTo a f + sumTo b (λ t. f (a + t))
-sum-part n a b f e = ap (λ (k : ℕ). sumTo k f) (sym e) ∙ sum-split a b f
-
--- Two sums whose terms differ at one index only.
-sum-but-one : (n s : ℕ) (f h : ℕ → ℕ) → s < n → ((t : ℕ) → t < n → (t ≡ s → ⊥) → f t ≡ h t) → sumTo n f + h s ≡ sumTo n h + f s
-unfolding sumTo
-sum-but-one zero s f h l e = absurd (omega arith)
-sum-but-one (suc n) s f h l e =
-    ⊎-elim (λ a. omega (arith, sum-but-one n s f h a (λ t k d. e t (omega arith) d), e n (omega arith) (λ d. omega arith)))
-    (λ b. let d : n ≡ s = omega arith in
-    omega (arith, sum-cong n f h (λ t k. e t (omega arith) (λ x. omega arith)), ap f d, ap h d))
-    (lt-or-ge s n)
 
 -- ---- where the entries of the two parts stand
 
@@ -221,39 +206,40 @@ split-shorter P C g w i j l h = go (ltb (walk-costs P C g (inner w i j)) ((j - i
 
 -- ---- the search
 
--- r is the first of the n numbers from t on that passes the test, or t + n.
-pub record Found (n : ℕ) (test : ℕ → Bool) (t r : ℕ) : Type 0 where
-  pub from : t ≤ r
-  pub to : r ≤ t + n
-  pub passes : r < t + n → test r ≡ true
-  pub fails : (u : ℕ) → t ≤ u → u < r → test u ≡ false
+module _ (P : ℕ) (ok : ℕ → ℕ → ℕ → Bool) (w : Walk) where
+  -- A partner that is found comes later and passes the test.
+  pub partner-some : (i : ℕ) → partner P ok w i < w .len
+      → (i < partner P ok w i) × (crosses P ok (w .node) (w .partition) i (partner P ok w i) ≡ true)
+  unfolding partner
+  partner-some i l =
+      ⊎-elim (λ s. (s .0, s .2)) (λ s. absurd (omega (arith, s .0)))
+      (first-cases (crosses P ok (w .node) (w .partition) i) (w .len - suc i) (suc i))
 
--- The search finds the first.
-pub seek-found : (n : ℕ) (test : ℕ → Bool) (t : ℕ) → Found n test t (seek n test t)
-unfolding seek
-seek-found zero test t = record { from = omega arith; to = omega arith; passes = λ l. absurd (omega arith); fails = λ u l h. absurd (omega arith) }
-seek-found (suc n) test t = go (seek n test (suc t)) (test t) refl (seek-found n test (suc t))
-  where
-    go : (r : ℕ) (b : Bool) → test t ≡ b → Found n test (suc t) r → Found (suc n) test t (cond b t r)
-    go r true e h = record { from = omega arith; to = omega arith; passes = λ l. e; fails = λ u l k. absurd (omega arith) }
-    go r false e h =
-        record {
-          from = omega arith;
-          to = omega arith;
-          passes = λ l. h .passes (omega arith);
-          fails = λ u l k.
-              ⊎-elim (λ a. h .fails u a k) (λ b. let d : t ≡ u = omega arith in subst (λ (v : ℕ). test v ≡ false) d e) (lt-or-ge t u);
-        }
+  -- Where none is found, no later arc passes.
+  pub partner-none : (i : ℕ) → w .len ≤ partner P ok w i → (j : ℕ) → i < j → j < w .len → crosses P ok (w .node) (w .partition) i j ≡ false
+  unfolding partner
+  partner-none i l j a b =
+      ⊎-elim (λ s. absurd (omega (arith, s .1))) (λ s. s .1 j a (omega arith))
+      (first-cases (crosses P ok (w .node) (w .partition) i) (w .len - suc i) (suc i))
 
--- What the two searches for a crossed pair find.
-pub partner-found : (P : ℕ) (ok : ℕ → ℕ → ℕ → Bool) (w : Walk) (i : ℕ)
-    → Found (w .len - suc i) (crosses P ok (w .node) (w .partition) i) (suc i) (partner P ok w i)
-unfolding partner
-partner-found P ok w i = seek-found (w .len - suc i) (crosses P ok (w .node) (w .partition) i) (suc i)
+  -- The pair that the search finds.
+  pub first-pair : first P ok w < w .len → (first P ok w < partner P ok w (first P ok w)) × (partner P ok w (first P ok w) < w .len)
+  first-pair l = let h = some in (partner-some (first P ok w) h .0, h)
+    where
+      some : partner P ok w (first P ok w) < w .len
+      some =
+          unfold first in
+          ltb-true (partner P ok w (first P ok w)) (w .len)
+          (first-some (λ i. ltb (partner P ok w i) (w .len)) (w .len) (lt-ltb (first P ok w) (w .len) l) .1)
 
-pub first-found : (P : ℕ) (ok : ℕ → ℕ → ℕ → Bool) (w : Walk) → Found (w .len) (λ i. ltb (partner P ok w i) (w .len)) 0 (first P ok w)
-unfolding first
-first-found P ok w = seek-found (w .len) (λ i. ltb (partner P ok w i) (w .len)) 0
+  -- Where it finds none, no two arcs pass.
+  pub first-none-pair : w .len ≤ first P ok w → (i j : ℕ) → i < j → j < w .len → crosses P ok (w .node) (w .partition) i j ≡ false
+  unfolding first
+  first-none-pair l i j a b =
+      partner-none i
+      (ltb-false (partner P ok w i) (w .len)
+      (first-none (λ i. ltb (partner P ok w i) (w .len)) (w .len) (le-ltb (first P ok w) (w .len) l) i (omega arith)))
+      j a b
 
 -- ---- no crossed pair is left
 
@@ -292,20 +278,7 @@ module _ (P N R Z C : ℕ) (zone cap : ℕ → ℕ) (g free S : ℕ → ℕ → 
   -- Where the search finds no pair, none is crossed.
   none-crossed : (w : Walk) → w .len ≤ first P ok w → Uncrossed P N R Z zone free S (w .len) (w .node) (w .partition)
   none-crossed w e i j l h x =
-      let n = ltb-false (partner P ok w i) (w .len) (first-found P ok w .fails i (omega arith) (omega arith)) in
-      true≢false (sym (crosses-complete (w .node) (w .partition) i j x) ∙ partner-found P ok w i .fails j (omega arith) (omega arith))
-
-  -- Where the search finds a pair, going on with a part of the circuit is going on with a shorter circuit.
-  pair-split : ((p b : ℕ) → g p b ≤ C) → (w : Walk) → Round P N R Z C zone cap g free S w → (i : ℕ) → i < w .len → ltb (partner P ok w i) (w .len) ≡ true
-      → Round P N R Z C zone cap g free S (split P C g w i (partner P ok w i)) × (split P C g w i (partner P ok w i) .len < w .len)
-  pair-split light w c i l e =
-      let j = partner P ok w i in
-      let f = partner-found P ok w i in
-      let h = ltb-true j (w .len) e in
-      let a : i < j = omega (arith, f .from) in (
-        split-circuit P N R Z C zone cap g free S w c i j a h (crosses-sound w c i j a h (f .passes (omega arith))) light,
-        split-shorter P C g w i j a h,
-      )
+      true≢false (sym (crosses-complete (w .node) (w .partition) i j x) ∙ first-none-pair P ok w e i j l h)
 
   -- With as many splits as the circuit is long, a circuit is left in which no pair is crossed.
   pub uncross-circuit : ((p b : ℕ) → g p b ≤ C) → (n : ℕ) (w : Walk) → w .len ≤ n → Round P N R Z C zone cap g free S w
@@ -323,9 +296,11 @@ module _ (P N R Z C : ℕ) (zone cap : ℕ → ℕ) (g free S : ℕ → ℕ → 
       go : ((v : Walk) → v .len ≤ n → Round P N R Z C zone cap g free S v → Done (uncross n P C g ok v)) → (t : Bool) → ltb (first P ok w) (w .len) ≡ t
           → Done (cond t (uncross n P C g ok next) w)
       go again true e =
-          let a = ltb-true (first P ok w) (w .len) e in
-          let s = pair-split light w c (first P ok w) a (first-found P ok w .passes (omega arith)) in
-          again next (omega (arith, s .1)) (s .0)
+          let i = first P ok w in
+          let j = partner P ok w i in
+          let (a, b) = first-pair P ok w (ltb-true i (w .len) e) in
+          again next (omega (arith, split-shorter P C g w i j a b))
+          (split-circuit P N R Z C zone cap g free S w c i j a b (crosses-sound w c i j a b (partner-some P ok w i b .1)) light)
       go again false e = (c, none-crossed w (ltb-false (first P ok w) (w .len) e))
 
   -- From a circuit of a layout to a better layout.

@@ -7,20 +7,15 @@ use mathlib.Core.Bool.{Bool, true, false, cond}
 use mathlib.Core.Logic.{⊎-elim}
 use native.Mathlib.Omega.{arith}
 use lib.Dec.{ltb, eqb}
-use borrow.Author.Tests.{ltb-true, lt-ltb, le-ltb}
+use borrow.Author.Tests.{lt-ltb, le-ltb}
 use Rattle.sums.specs.Sum.{sumTo, is, one-if}
 use Rattle.sums.proofs.Sum.{lt-or-ge, sum-cong}
+use Rattle.exchange.specs.Levels.{firstFrom}
 use Rattle.exchange.specs.Circuit.{cost, turn}
-use Rattle.exchange.specs.Uncross.{Walk, walk, Same, seek, crosses, partner, first, skip, wrap, part, inner, outer, walk-costs, split, uncross, improved}
-use Rattle.exchange.proofs.Uncross.{skip-le, wrap-low, wrap-end, partner-found, first-found}
+use Rattle.exchange.specs.Uncross.{Walk, walk, Same, crosses, partner, first, skip, wrap, part, inner, outer, walk-costs, split, uncross, improved}
+use Rattle.exchange.proofs.Uncross.{skip-le, wrap-low, wrap-end, first-pair}
 
 -- ---- the steps
-
--- The pair that the search finds.
-pub first-pair : (P : ℕ) (ok : ℕ → ℕ → ℕ → Bool) (w : Walk) → first P ok w < w .len
-    → (first P ok w < partner P ok w (first P ok w)) × (partner P ok w (first P ok w) < w .len)
-first-pair P ok w h =
-    (partner-found P ok w (first P ok w) .from, ltb-true (partner P ok w (first P ok w)) (w .len) (first-found P ok w .passes (omega arith)))
 
 module _ (P C : ℕ) (g : ℕ → ℕ → ℕ) (ok : ℕ → ℕ → ℕ → Bool) where
   -- Where the search finds no pair, the walk stays.
@@ -39,6 +34,7 @@ module _ (P C : ℕ) (g : ℕ → ℕ → ℕ) (ok : ℕ → ℕ → ℕ → Boo
 
 -- ---- walks that are the same
 
+-- A walk is the same as itself; what is the same as the same is the same.
 pub same-refl : (w : Walk) → Same w w
 same-refl w = record { lens = refl; nodes = λ t l. refl; partitions = λ t l. refl }
 
@@ -51,10 +47,11 @@ same-trans {w} {u} {v} a b =
     }
 
 -- Tests that agree find the same.
-seek-same : (n : ℕ) (f h : ℕ → Bool) (t : ℕ) → ((u : ℕ) → t ≤ u → u < t + n → f u ≡ h u) → seek n f t ≡ seek n h t
-unfolding seek
-seek-same zero f h t e = refl
-seek-same (suc n) f h t e = ap₂ (λ (b : Bool) (r : ℕ). cond b t r) (e t (omega arith) (omega arith)) (seek-same n f h (suc t) (λ u l k. e u (omega arith) (omega arith)))
+firstFrom-same : (f h : ℕ → Bool) (n t : ℕ) → ((u : ℕ) → t ≤ u → u < t + n → f u ≡ h u) → firstFrom f n t ≡ firstFrom h n t
+unfolding firstFrom
+firstFrom-same f h zero t e = refl
+firstFrom-same f h (suc n) t e =
+    ap₂ (λ (b : Bool) (r : ℕ). cond b t r) (e t (omega arith) (omega arith)) (firstFrom-same f h n (suc t) (λ u l k. e u (omega arith) (omega arith)))
 
 -- A sum over the arcs.
 sum-same : {w u : Walk} (f : ℕ → ℕ → ℕ → ℕ) → Same w u
@@ -88,16 +85,16 @@ module _ (P C : ℕ) (g : ℕ → ℕ → ℕ) (ok : ℕ → ℕ → ℕ → Boo
   partner-same : {w u : Walk} → Same w u → (i : ℕ) → i < w .len → partner P ok w i ≡ partner P ok u i
   unfolding partner
   partner-same {w} {u} s i l =
-      ap (λ (m : ℕ). seek (m - suc i) (crosses P ok (w .node) (w .partition) i) (suc i)) (s .lens)
-      ∙ seek-same (u .len - suc i) (crosses P ok (w .node) (w .partition) i) (crosses P ok (u .node) (u .partition) i) (suc i)
+      ap (λ (m : ℕ). firstFrom (crosses P ok (w .node) (w .partition) i) (m - suc i) (suc i)) (s .lens)
+      ∙ firstFrom-same (crosses P ok (w .node) (w .partition) i) (crosses P ok (u .node) (u .partition) i) (u .len - suc i) (suc i)
       (λ j a b. crosses-same s i j a (omega arith))
 
   first-same : {w u : Walk} → Same w u → first P ok w ≡ first P ok u
   unfolding first
   first-same {w} {u} s =
-      seek-same (w .len) (λ i. ltb (partner P ok w i) (w .len)) (λ i. ltb (partner P ok u i) (u .len)) 0
+      firstFrom-same (λ i. ltb (partner P ok w i) (w .len)) (λ i. ltb (partner P ok u i) (u .len)) (w .len) 0
       (λ i a b. ap₂ ltb (partner-same s i (omega arith)) (s .lens))
-      ∙ ap (λ (m : ℕ). seek m (λ i. ltb (partner P ok u i) (u .len)) 0) (s .lens)
+      ∙ ap (λ (m : ℕ). firstFrom (λ i. ltb (partner P ok u i) (u .len)) m 0) (s .lens)
 
   -- Parts of walks that are the same.
   part-same : {w u : Walk} → Same w u → (n k : ℕ) (f : ℕ → ℕ) → n ≡ k → ((t : ℕ) → t ≤ n → f t ≤ w .len) → ((t : ℕ) → t < n → f t < w .len)
@@ -159,11 +156,11 @@ around t = 3 * is t 1 + is t 2 + 2 * is t 3
 -- The exchanges 0 → 2 and 1 → 3 of partition 0 can be crossed, those of partition 1 not. The inner part, over 1 and 2, is taken if it gains ..
 inner-taken : let w = uncross 4 2 1 (λ p b. is p 0 * is b 2) (λ p a b. eqb p 0) (walk 4 around (λ t. (suc t) % 2)) in
     (w .len ≡ 2) × (w .node 0 ≡ 1) × (w .node 1 ≡ 2) × (w .node 2 ≡ 1) × (w .partition 0 ≡ 1) × (w .partition 1 ≡ 0)
-unfolding uncross first partner seek crosses split skip wrap cost sumTo is one-if around
+unfolding uncross first partner firstFrom crosses split skip wrap cost sumTo is one-if around
 inner-taken = (refl, refl, refl, refl, refl, refl)
 
 -- .. and else the outer part, over 0 and 3.
 outer-taken : let w = uncross 4 2 1 (λ p b. is p 0 * is b 3) (λ p a b. eqb p 0) (walk 4 around (λ t. (suc t) % 2)) in
     (w .len ≡ 2) × (w .node 0 ≡ 0) × (w .node 1 ≡ 3) × (w .node 2 ≡ 0) × (w .partition 0 ≡ 1) × (w .partition 1 ≡ 0)
-unfolding uncross first partner seek crosses split skip wrap cost sumTo is one-if around
+unfolding uncross first partner firstFrom crosses split skip wrap cost sumTo is one-if around
 outer-taken = (refl, refl, refl, refl, refl, refl)

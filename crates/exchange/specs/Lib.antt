@@ -4,3 +4,4 @@ pub mod Uncross
 pub mod Swap
 pub mod Prices
 pub mod Levels
+pub mod Join

@@ -4,9 +4,10 @@
 -- Assumes nothing.
 use Prim.Native.Nat.{ℕ, zero, suc, _+_, _-_, _*_, _≤_, _<_}
 use mathlib.Core.Path.{_≡_}
-use mathlib.Core.Bool.{Bool, true, cond, _&&_}
+use mathlib.Core.Bool.{Bool, true, _&&_, cond}
 use lib.Dec.{ltb, leb, eqb}
 use Rattle.exchange.specs.Row.{Exchange}
+use Rattle.exchange.specs.Levels.{firstFrom}
 use Rattle.exchange.specs.Circuit.{costs, turn, Circuit}
 
 -- A closed walk: its length, its nodes and the partitions of its arcs.
@@ -18,22 +19,17 @@ pub record Walk : Type 0 where
 abbrev pub walk : ℕ → (ℕ → ℕ) → (ℕ → ℕ) → Walk
 walk m y q = record { len = m; node = y; partition = q }
 
--- The first of the n numbers from t on that passes the test, or t + n where none does.
-unfoldable pub seek : ℕ → (ℕ → Bool) → ℕ → ℕ
-seek zero test t = t
-seek (suc n) test t = let r = seek n test (suc t) in cond (test t) t r
-
 -- Whether the arcs i and j can be crossed.
 unfoldable pub crosses : ℕ → (ℕ → ℕ → ℕ → Bool) → (ℕ → ℕ) → (ℕ → ℕ) → ℕ → ℕ → Bool
 crosses P ok y q i j = ltb (q i) P && eqb (q i) (q j) && ok (q i) (y (suc j)) (y i) && ok (q i) (y (suc i)) (y j)
 
 -- The first arc after i that can be crossed with it, or the length.
 unfoldable pub partner : ℕ → (ℕ → ℕ → ℕ → Bool) → Walk → ℕ → ℕ
-partner P ok w i = seek (w .len - suc i) (crosses P ok (w .node) (w .partition) i) (suc i)
+partner P ok w i = firstFrom (crosses P ok (w .node) (w .partition) i) (w .len - suc i) (suc i)
 
 -- The first arc that can be crossed with a later one, or the length.
 unfoldable pub first : ℕ → (ℕ → ℕ → ℕ → Bool) → Walk → ℕ
-first P ok w = seek (w .len) (λ i. ltb (partner P ok w i) (w .len)) 0
+first P ok w = firstFrom (λ i. ltb (partner P ok w i) (w .len)) (w .len) 0
 
 -- Where entry t of the outer circuit stands in the old one: the k entries after i are left out.
 unfoldable pub skip : ℕ → ℕ → ℕ → ℕ

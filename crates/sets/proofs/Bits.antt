@@ -9,7 +9,7 @@ use lib.Count.{ones, onesIn, ones-step, under}
 use lib.Dec.{eqb·suc-suc}
 use lib.Pow.{pow-pos}
 use Rattle.sums.specs.Sum.{sumTo, one-if, is}
-use Rattle.sums.proofs.Sum.{is-ne, sum-cong, sum-scale}
+use Rattle.sums.proofs.Sum.{is-ne, sum-cong, sum-scale, sum-first}
 use Rattle.sets.specs.Bits.{bit, maskOf, firstTo}
 
 -- ---- bits
@@ -93,12 +93,6 @@ bit-pow (suc i) (suc j) =
     ap (λ (x : ℕ). bit x j) (omega (arith, pow-suc 2 i)) ∙ (bit-pow i j ∙ ap one-if (sym (eqb·suc-suc i j)))
 
 -- ---- masks of functions
-
--- The first term, then the others.
-sum-first : (n : ℕ) (f : ℕ → ℕ) → sumTo (suc n) f ≡ f 0 + sumTo n (λ i. f (suc i))
-unfolding sumTo
-sum-first zero f = omega arith
-sum-first (suc n) f = omega (arith, sum-first n f)
 
 -- How many digits are set, as a sum of bits.
 pub ones-bits : (k m : ℕ) → m < 2 ^ k → ones m ≡ sumTo k (λ i. bit m i)

@@ -1,15 +1,13 @@
 -- Counting over the indices below a bound: a first index that passes a test, the largest value, two indices of bits, the pigeonhole.
 -- Assumes nothing.
-use Prim.Native.Nat.{ℕ, zero, suc, _+_, _-_, _*_, _≤_, _<_, max}
-use mathlib.Core.Path.{_≡_, refl, sym, ap, ap₂, _∙_, subst}
+use Prim.Native.Nat.{ℕ, zero, suc, _*_, _≤_, _<_, max}
+use mathlib.Core.Path.{_≡_, refl, sym, ap, _∙_, subst}
 use mathlib.Core.Bool.{Bool, true, false}
 use mathlib.Core.Logic.{_⊎_, inl, inr, ⊎-elim}
-use native.Mathlib.Nat.{mul-one}
+use native.Mathlib.Nat.{mul-one, one-mul, mul-le-mul-left, mul-le-mul-right}
 use native.Mathlib.Omega.{arith}
-use lib.Dec.{ltb, eqb}
-use borrow.Author.Tests.{eqb-true, eqb-false, eq-eqb}
 use Rattle.sums.specs.Sum.{sumTo, is, maxTo, hits}
-use Rattle.sums.proofs.Sum.{lt-or-ge, eq-or-ne, is-eq, is-ne, is-le, is-one, sum-le, sum-const, sum-zero, sum-swap, sum-is, sum-term, sum-witness, sum-cong}
+use Rattle.sums.proofs.Sum.{lt-or-ge, is-le, is-one, sum-const, sum-zero, sum-swap, sum-is, sum-witness, sum-cong}
 
 -- Where a test holds of some index below the bound, it holds of a first one; else it fails of each.
 pub first-index : (n : ℕ) (t : ℕ → Bool) → ((i : ℕ) × (i < n) × (t i ≡ true) × ((j : ℕ) → j < i → t j ≡ false)) ⊎ ((i : ℕ) → i < n → t i ≡ false)
@@ -54,6 +52,14 @@ max-at (suc n) f = go (max-at n f) (lt-or-ge (f n) (maxTo n f))
     go (inr w) (inr b) = inr (n, omega arith, omega arith)
 
 -- ---- bits
+
+-- The product of two bits is a bit.
+pub bit-times : {x y : ℕ} → x ≤ 1 → y ≤ 1 → x * y ≤ 1
+bit-times {x} {y} p q = omega (arith, mul-le-mul-right y p, one-mul y)
+
+-- Where it is not 0, both are 1.
+pub bit-both : {x y : ℕ} → x ≤ 1 → y ≤ 1 → 1 ≤ x * y → (x ≡ 1) × (y ≡ 1)
+bit-both {x} {y} p q h = (omega (arith, mul-le-mul-left x q, mul-one x), omega (arith, mul-le-mul-right y p, one-mul y))
 
 -- A sum that is not 0 has a term that is not 0.
 pub sum-pos : (n : ℕ) (f : ℕ → ℕ) → 1 ≤ sumTo n f → (i : ℕ) × (i < n) × (1 ≤ f i)

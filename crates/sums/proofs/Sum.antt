@@ -1,10 +1,10 @@
 -- The laws of finite sums and of the indicator.
 -- Assumes nothing.
 use Prim.Native.Nat.{ℕ, zero, suc, _+_, _-_, _*_, _≤_, _<_}
-use mathlib.Core.Path.{_≡_, refl, sym, ap, ap₂, _∙_, subst}
+use mathlib.Core.Path.{_≡_, refl, sym, ap, ap₂, _∙_}
 use mathlib.Core.Bool.{Bool, true, false}
 use mathlib.Core.Logic.{_⊎_, inl, inr, ⊎-elim}
-use native.Mathlib.Nat.{add-zero, add-suc, zero-add, zero-mul, suc-mul, one-mul, mul-zero, mul-add}
+use native.Mathlib.Nat.{add-zero, add-suc, zero-mul, suc-mul, one-mul, mul-zero, mul-add, mul-comm}
 use native.Mathlib.Omega.{arith}
 use lib.Dec.{ltb, eqb}
 use borrow.Author.Tests.{ltb-true, ltb-false, eqb-true, eqb-false, eq-eqb, ne-eqb}
@@ -51,6 +51,13 @@ is-cases a b = ⊎-elim (λ e. inl (e, is-eq e)) (λ h. inr (h, is-ne h)) (eq-or
 pub is-sym : (a b : ℕ) → is a b ≡ is b a
 is-sym a b = ⊎-elim (λ e. is-eq e ∙ sym (is-eq (sym e))) (λ h. is-ne h ∙ sym (is-ne (λ e. h (sym e)))) (eq-or-ne a b)
 
+-- The indicator as a factor: where it is 1, and where it is 0.
+pub is-times : {a b : ℕ} → a ≡ b → (x : ℕ) → is a b * x ≡ x
+is-times e x = ap (λ (t : ℕ). t * x) (is-eq e) ∙ one-mul x
+
+pub not-times : {a b : ℕ} → (a ≡ b → ⊥) → (x : ℕ) → is a b * x ≡ 0
+not-times h x = ap (λ (t : ℕ). t * x) (is-ne h) ∙ zero-mul x
+
 -- ---- sums
 
 -- Equal terms give equal sums.
@@ -84,11 +91,22 @@ unfolding sumTo
 sum-add zero f g = refl
 sum-add (suc n) f g = omega (arith, sum-add n f g)
 
+-- Terms that balance have sums that balance.
+pub sum-balance : (n : ℕ) (f a h b : ℕ → ℕ) → ((i : ℕ) → i < n → f i + a i ≡ h i + b i)
+    → sumTo n f + sumTo n a ≡ sumTo n h + sumTo n b
+sum-balance n f a h b e =
+    sym (sum-add n f a) ∙ (sum-cong n (λ i. f i + a i) (λ i. h i + b i) e ∙ sum-add n h b)
+
 -- A constant factor goes before the sum.
 pub sum-scale : (n c : ℕ) (f : ℕ → ℕ) → sumTo n (λ i. c * f i) ≡ c * sumTo n f
 unfolding sumTo
 sum-scale zero c f = sym (mul-zero c)
 sum-scale (suc n) c f = ap (λ (t : ℕ). t + c * f n) (sum-scale n c f) ∙ sym (mul-add c (sumTo n f) (f n))
+
+-- A constant factor goes behind the sum.
+pub sum-scale-right : (n c : ℕ) (f : ℕ → ℕ) → sumTo n (λ i. f i * c) ≡ sumTo n f * c
+sum-scale-right n c f =
+    sum-cong n (λ i. f i * c) (λ i. c * f i) (λ i l. mul-comm (f i) c) ∙ (sum-scale n c f ∙ mul-comm c (sumTo n f))
 
 -- n equal terms.
 pub sum-const : (n c : ℕ) → sumTo n (λ i. c) ≡ n * c
@@ -109,38 +127,55 @@ unfolding sumTo
 sum-split m zero f = ap (λ (k : ℕ). sumTo k f) (add-zero m) ∙ sym (add-zero (sumTo m f))
 sum-split m (suc n) f = ap (λ (k : ℕ). sumTo k f) (add-suc m n) ∙ omega (arith, sum-split m n f)
 
+-- The first a terms, then the other b.
+pub sum-part : (n a b : ℕ) (f : ℕ → ℕ) → a + b ≡ n → sumTo n f ≡ sumTo a f + sumTo b (λ t. f (a + t))
+sum-part n a b f e = ap (λ (k : ℕ). sumTo k f) (sym e) ∙ sum-split a b f
+
+-- The first term, then the others.
+pub sum-first : (n : ℕ) (f : ℕ → ℕ) → sumTo (suc n) f ≡ f 0 + sumTo n (λ i. f (suc i))
+unfolding sumTo
+sum-first zero f = omega arith
+sum-first (suc n) f = omega (arith, sum-first n f)
+
 -- A sum whose terms vanish from m on.
 pub sum-cut : (m n : ℕ) (f : ℕ → ℕ) → m ≤ n → ((i : ℕ) → m ≤ i → i < n → f i ≡ 0) → sumTo n f ≡ sumTo m f
-unfolding sumTo
 sum-cut m n f l h =
-    let e : m + (n - m) ≡ n = omega arith in
-    ap (λ (k : ℕ). sumTo k f) (sym e)
-    ∙ (sum-split m (n - m) f ∙ omega (arith, sum-zero (n - m) (λ i. f (m + i)) (λ i k. h (m + i) (omega arith) (omega arith))))
+    sum-part n m (n - m) f (omega arith)
+    ∙ omega (arith, sum-zero (n - m) (λ i. f (m + i)) (λ i k. h (m + i) (omega arith) (omega arith)))
 
--- The sum that picks one index, as a weighted sum of the indicator.
+-- The sum that picks one index, as a weighted sum of the indicator, picks nothing where that index is beyond it ..
+pub sum-none : (n k : ℕ) (f : ℕ → ℕ) → n ≤ k → sumTo n (λ i. is k i * f i) ≡ 0
+sum-none n k f h = sum-zero n (λ i. is k i * f i) (λ i l. not-times (λ e. omega arith) (f i))
+
+-- .. and else the value there.
 pub sum-is : (n k : ℕ) (f : ℕ → ℕ) → k < n → sumTo n (λ i. is k i * f i) ≡ f k
 unfolding sumTo
 sum-is zero k f l = absurd (omega arith)
-sum-is (suc n) k f l = go (λ a. sum-is n k f a) (lt-or-ge k n)
-  where
-    go : (k < n → sumTo n (λ i. is k i * f i) ≡ f k) → ((k < n) ⊎ (n ≤ k)) → sumTo n (λ i. is k i * f i) + is k n * f n ≡ f k
-    go r (inl a) =
-        ap₂ _+_ (r a) (ap (λ (t : ℕ). t * f n) (is-ne {a = k} {b = n} (λ e. omega arith)) ∙ zero-mul (f n)) ∙ add-zero (f k)
-    go r (inr b) =
-        let e : k ≡ n = omega arith in
-        ap₂ _+_ (sum-zero n (λ i. is k i * f i) (λ i m. ap (λ (t : ℕ). t * f i) (is-ne {a = k} {b = i} (λ q. omega arith)) ∙ zero-mul (f i)))
-        (ap (λ (t : ℕ). t * f n) (is-eq e) ∙ one-mul (f n))
-        ∙ (zero-add (f n) ∙ ap f (sym e))
+sum-is (suc n) k f l =
+    ⊎-elim (λ a. omega (arith, sum-is n k f a, not-times {a = k} {b = n} (λ e. omega arith) (f n)))
+    (λ b. let e : k ≡ n = omega arith in omega (arith, sum-none n k f b, is-times e (f n), ap f e)) (lt-or-ge k n)
+
+-- A running sum with the next term is at most the whole sum.
+pub sum-upto : (n i : ℕ) (f : ℕ → ℕ) → i < n → sumTo i f + f i ≤ sumTo n f
+unfolding sumTo
+sum-upto zero i f l = absurd (omega arith)
+sum-upto (suc n) i f l =
+    ⊎-elim (λ a. omega (arith, sum-upto n i f a))
+    (λ b. let e : i ≡ n = omega arith in omega (arith, ap f e, ap (λ (t : ℕ). sumTo t f) e)) (lt-or-ge i n)
 
 -- One term is at most the sum.
 pub sum-term : (n k : ℕ) (f : ℕ → ℕ) → k < n → f k ≤ sumTo n f
+sum-term n k f l = omega (arith, sum-upto n k f l)
+
+-- Two sums whose terms differ at one index only.
+pub sum-but-one : (n s : ℕ) (f h : ℕ → ℕ) → s < n → ((t : ℕ) → t < n → (t ≡ s → ⊥) → f t ≡ h t) → sumTo n f + h s ≡ sumTo n h + f s
 unfolding sumTo
-sum-term zero k f l = absurd (omega arith)
-sum-term (suc n) k f l =
-    ⊎-elim (λ a. omega (arith, sum-term n k f a)) (λ b. omega (arith, ap f (the-same b))) (lt-or-ge k n)
-  where
-    the-same : n ≤ k → n ≡ k
-    the-same b = omega arith
+sum-but-one zero s f h l e = absurd (omega arith)
+sum-but-one (suc n) s f h l e =
+    ⊎-elim (λ a. omega (arith, sum-but-one n s f h a (λ t k d. e t (omega arith) d), e n (omega arith) (λ d. omega arith)))
+    (λ b. let d : n ≡ s = omega arith in
+    omega (arith, sum-cong n f h (λ t k. e t (omega arith) (λ x. omega arith)), ap f d, ap h d))
+    (lt-or-ge s n)
 
 -- Where a sum is smaller than another, a term is.
 pub sum-witness : (n : ℕ) (f g : ℕ → ℕ) → sumTo n f < sumTo n g → (i : ℕ) × (i < n) × (f i < g i)

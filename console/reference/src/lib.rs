@@ -1,0 +1,69 @@
+//! Unverified programs that the proved planner is compared with, each written from the papers and from nothing else:
+//! a listing of all layouts, a planner by the report's own method, a planner by the method of exchanges, and a parser.
+
+pub mod exchanges;
+pub mod listing;
+pub mod random;
+pub mod records;
+pub mod report;
+
+/// One storage box.
+#[derive(Clone, Copy, Debug, PartialEq, Eq)]
+pub struct Node {
+    pub id: u32,
+    pub zone: u16,
+    pub capacity: u32,
+}
+
+/// A cluster as the papers define it; the nodes stand by rising id.
+#[derive(Clone, Debug, PartialEq, Eq)]
+pub struct Cluster {
+    pub bits: u32,
+    pub replication: usize,
+    pub redundancy: usize,
+    pub nodes: Vec<Node>,
+}
+
+impl Cluster {
+    pub fn partitions(&self) -> usize {
+        1 << self.bits
+    }
+
+    /// How many zones the nodes of these indices lie in.
+    pub fn zones_of(&self, row: &[usize]) -> usize {
+        let mut zones: Vec<u16> = row.iter().map(|&b| self.nodes[b].zone).collect();
+        zones.sort_unstable();
+        zones.dedup();
+        zones.len()
+    }
+}
+
+/// A row of ids for each partition, each by rising id.
+pub type Layout = Vec<Vec<u32>>;
+
+/// The number of pairs (id, partition) that stand in one of the two layouts and not in both.
+pub fn distance(a: &Layout, b: &Layout) -> usize {
+    a.iter()
+        .zip(b)
+        .map(|(x, y)| x.iter().filter(|i| !y.contains(i)).count() + y.iter().filter(|i| !x.contains(i)).count())
+        .sum()
+}
+
+/// Whether the layout is valid at the size, by the definition.
+pub fn is_valid(c: &Cluster, layout: &Layout, size: u64) -> bool {
+    if size == 0 || layout.len() != c.partitions() {
+        return false;
+    }
+    for row in layout {
+        if row.len() != c.replication || row.windows(2).any(|w| w[0] >= w[1]) {
+            return false;
+        }
+        let Some(indices) = row.iter().map(|id| c.nodes.iter().position(|n| n.id == *id)).collect::<Option<Vec<_>>>() else {
+            return false;
+        };
+        if c.zones_of(&indices) < c.redundancy {
+            return false;
+        }
+    }
+    c.nodes.iter().all(|n| layout.iter().filter(|r| r.contains(&n.id)).count() as u64 * size <= n.capacity as u64)
+}

@@ -1,0 +1,79 @@
+//! The size and the least distance of a small cluster by listing all its layouts.
+
+use crate::{distance, Cluster, Layout};
+
+/// What the listing finds: nothing where no layout is valid at size 1.
+#[derive(Clone, Debug, PartialEq, Eq)]
+pub struct Listed {
+    pub size: u64,
+    pub least_distance: usize,
+    pub layouts: usize,
+}
+
+/// All rows of the cluster: R different nodes in at least Z zones, as node indices.
+pub fn rows(c: &Cluster) -> Vec<Vec<usize>> {
+    let n = c.nodes.len();
+    (0u64..1 << n)
+        .filter(|m| m.count_ones() as usize == c.replication)
+        .map(|m| (0..n).filter(|b| m >> b & 1 == 1).collect::<Vec<_>>())
+        .filter(|row| c.zones_of(row) >= c.redundancy)
+        .collect()
+}
+
+/// Calls `f` with every layout of valid rows, whatever the capacities, as indices into `rows`.
+fn each(rows: usize, partitions: usize, f: &mut impl FnMut(&[usize])) {
+    if rows == 0 {
+        return;
+    }
+    let mut choice = vec![0; partitions];
+    loop {
+        f(&choice);
+        let mut p = 0;
+        while p < partitions && choice[p] + 1 == rows {
+            choice[p] = 0;
+            p += 1;
+        }
+        if p == partitions {
+            return;
+        }
+        choice[p] += 1;
+    }
+}
+
+/// The largest size of one layout: the least of capacity over copies, rounded down, over nodes with copies.
+fn size_of(c: &Cluster, rows: &[Vec<usize>], choice: &[usize]) -> u64 {
+    let mut copies = vec![0u64; c.nodes.len()];
+    for &r in choice {
+        for &b in &rows[r] {
+            copies[b] += 1;
+        }
+    }
+    (0..c.nodes.len()).filter(|&b| copies[b] > 0).map(|b| c.nodes[b].capacity as u64 / copies[b]).min().unwrap_or(0)
+}
+
+fn layout_of(c: &Cluster, rows: &[Vec<usize>], choice: &[usize]) -> Layout {
+    choice.iter().map(|&r| rows[r].iter().map(|&b| c.nodes[b].id).collect()).collect()
+}
+
+/// How many layouts there are to list: the caller keeps this small.
+pub fn effort(c: &Cluster) -> u64 {
+    (rows(c).len() as u64).saturating_pow(c.partitions() as u32)
+}
+
+/// The size of the cluster and the least distance of a layout valid at it.
+pub fn list(c: &Cluster, former: &Layout) -> Option<Listed> {
+    let rows = rows(c);
+    let mut size = 0;
+    each(rows.len(), c.partitions(), &mut |choice| size = size.max(size_of(c, &rows, choice)));
+    if size == 0 {
+        return None;
+    }
+    let mut found = Listed { size, least_distance: usize::MAX, layouts: 0 };
+    each(rows.len(), c.partitions(), &mut |choice| {
+        if size_of(c, &rows, choice) >= size {
+            found.layouts += 1;
+            found.least_distance = found.least_distance.min(distance(&layout_of(c, &rows, choice), former));
+        }
+    });
+    Some(found)
+}

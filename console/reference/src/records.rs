@@ -1,0 +1,219 @@
+//! A parser and a writer of both records, written from document 01.
+
+use crate::{Cluster, Layout, Node};
+
+/// A refusal: its number and the byte at which the field begins.
+pub type Refused = (u32, usize);
+
+/// The fields of a record, one after the other.
+struct Fields<'a> {
+    bytes: &'a [u8],
+    at: usize,
+}
+
+impl<'a> Fields<'a> {
+    fn done(&self) -> bool {
+        self.at == self.bytes.len()
+    }
+
+    /// The next field's tag, body and first byte; `legal` judges tag and length.
+    fn next(&mut self, tags: &[u8], legal: impl Fn(u8, usize) -> bool) -> Result<(u8, &'a [u8], usize), Refused> {
+        let at = self.at;
+        let rest = &self.bytes[at..];
+        if rest.len() < 3 {
+            return Err((1, at));
+        }
+        let (tag, len) = (rest[0], u16::from_be_bytes([rest[1], rest[2]]) as usize);
+        if !tags.contains(&tag) {
+            return Err((2, at));
+        }
+        if !legal(tag, len) {
+            return Err((3, at));
+        }
+        if rest.len() < 3 + len {
+            return Err((1, at));
+        }
+        self.at = at + 3 + len;
+        Ok((tag, &rest[3..3 + len], at))
+    }
+}
+
+fn number(bytes: &[u8]) -> u64 {
+    bytes.iter().fold(0, |n, b| n << 8 | *b as u64)
+}
+
+fn ids(bytes: &[u8]) -> Vec<u32> {
+    bytes.chunks(4).map(|c| number(c) as u32).collect()
+}
+
+fn rising(ids: &[u32]) -> bool {
+    ids.windows(2).all(|w| w[0] < w[1])
+}
+
+fn fixed(tag: u8, len: usize) -> bool {
+    len == match tag {
+        1 | 2 | 3 | 8 => 1,
+        4 => 10,
+        6 => 4,
+        7 | 9 => 2,
+        _ => return false,
+    }
+}
+
+fn rows(tag: u8, len: usize) -> bool {
+    if tag == 5 || tag == 10 {
+        len >= 6 && len <= 34 && (len - 2) % 4 == 0
+    } else {
+        fixed(tag, len)
+    }
+}
+
+/// Reads a cluster record: the cluster and its former layout, P rows.
+pub fn read_cluster(bytes: &[u8]) -> Result<(Cluster, Layout), Refused> {
+    let mut f = Fields { bytes, at: 0 };
+    let first = |tag: u8, most: u64, f: &mut Fields| -> Result<u64, Refused> {
+        if f.done() {
+            return Err((7, bytes.len()));
+        }
+        let (_, body, at) = f.next(&[tag], rows)?;
+        let v = number(body);
+        if (tag != 1 && v == 0) || v > most {
+            return Err((4, at));
+        }
+        Ok(v)
+    };
+    let bits = first(1, 8, &mut f)? as u32;
+    let replication = first(2, 8, &mut f)? as usize;
+    let redundancy = first(3, replication as u64, &mut f)? as usize;
+    let mut c = Cluster { bits, replication, redundancy, nodes: Vec::new() };
+    let mut former: Layout = vec![Vec::new(); c.partitions()];
+    let mut last_row: Option<u64> = None;
+    while !f.done() {
+        let tags: &[u8] = if last_row.is_some() { &[5] } else { &[4, 5] };
+        let (tag, body, at) = f.next(tags, rows)?;
+        if tag == 4 {
+            let node = Node { id: number(&body[..4]) as u32, zone: number(&body[4..6]) as u16, capacity: number(&body[6..]) as u32 };
+            if node.id == 0 {
+                return Err((4, at));
+            }
+            if c.nodes.last().map_or(false, |n| n.id >= node.id) {
+                return Err((5, at));
+            }
+            if c.nodes.len() == 32 {
+                return Err((6, at));
+            }
+            c.nodes.push(node);
+        } else {
+            let (p, row) = (number(&body[..2]), ids(&body[2..]));
+            if p >= c.partitions() as u64 || row.contains(&0) {
+                return Err((4, at));
+            }
+            if last_row.map_or(false, |q| q >= p) || !rising(&row) {
+                return Err((5, at));
+            }
+            last_row = Some(p);
+            former[p as usize] = row;
+        }
+    }
+    Ok((c, former))
+}
+
+/// The numbers of a layout record.
+#[derive(Clone, Copy, Debug, PartialEq, Eq)]
+pub struct Numbers {
+    pub bits: u32,
+    pub replication: u32,
+    pub size: u32,
+    pub distance: u32,
+    pub verdict: u32,
+    pub improvements: u32,
+}
+
+/// Reads a layout record.
+pub fn read_layout(bytes: &[u8]) -> Result<(Numbers, Layout), Refused> {
+    let mut f = Fields { bytes, at: 0 };
+    let first = |tag: u8, least: u64, most: u64, f: &mut Fields| -> Result<u32, Refused> {
+        if f.done() {
+            return Err((7, bytes.len()));
+        }
+        let (_, body, at) = f.next(&[tag], rows)?;
+        let v = number(body);
+        if v < least || v > most {
+            return Err((4, at));
+        }
+        Ok(v as u32)
+    };
+    let numbers = Numbers {
+        bits: first(1, 0, 8, &mut f)?,
+        replication: first(2, 1, 8, &mut f)?,
+        size: first(6, 1, u32::MAX as u64, &mut f)?,
+        distance: first(7, 0, 4096, &mut f)?,
+        verdict: first(8, 0, 1, &mut f)?,
+        improvements: first(9, 0, 2048, &mut f)?,
+    };
+    let partitions = 1usize << numbers.bits;
+    let mut layout: Layout = Vec::new();
+    while layout.len() < partitions {
+        if f.done() {
+            return Err((7, bytes.len()));
+        }
+        let (_, body, at) = f.next(&[10], |_, len| len == 2 + 4 * numbers.replication as usize)?;
+        let (p, row) = (number(&body[..2]), ids(&body[2..]));
+        if p >= partitions as u64 || row.contains(&0) {
+            return Err((4, at));
+        }
+        if p != layout.len() as u64 || !rising(&row) {
+            return Err((5, at));
+        }
+        layout.push(row);
+    }
+    if !f.done() {
+        f.next(&[], rows)?;
+    }
+    Ok((numbers, layout))
+}
+
+fn field(out: &mut Vec<u8>, tag: u8, body: &[u8]) {
+    out.push(tag);
+    out.extend((body.len() as u16).to_be_bytes());
+    out.extend(body);
+}
+
+fn row_body(p: usize, row: &[u32]) -> Vec<u8> {
+    let mut body = (p as u16).to_be_bytes().to_vec();
+    row.iter().for_each(|id| body.extend(id.to_be_bytes()));
+    body
+}
+
+/// The record of a cluster and its former layout.
+pub fn cluster_record(c: &Cluster, former: &Layout) -> Vec<u8> {
+    let mut out = Vec::new();
+    field(&mut out, 1, &[c.bits as u8]);
+    field(&mut out, 2, &[c.replication as u8]);
+    field(&mut out, 3, &[c.redundancy as u8]);
+    for n in &c.nodes {
+        let mut body = n.id.to_be_bytes().to_vec();
+        body.extend(n.zone.to_be_bytes());
+        body.extend(n.capacity.to_be_bytes());
+        field(&mut out, 4, &body);
+    }
+    for (p, row) in former.iter().enumerate().filter(|(_, r)| !r.is_empty()) {
+        field(&mut out, 5, &row_body(p, row));
+    }
+    out
+}
+
+/// The record of a layout.
+pub fn layout_record(n: &Numbers, layout: &Layout) -> Vec<u8> {
+    let mut out = Vec::new();
+    field(&mut out, 1, &[n.bits as u8]);
+    field(&mut out, 2, &[n.replication as u8]);
+    field(&mut out, 6, &n.size.to_be_bytes());
+    field(&mut out, 7, &(n.distance as u16).to_be_bytes());
+    field(&mut out, 8, &[n.verdict as u8]);
+    field(&mut out, 9, &(n.improvements as u16).to_be_bytes());
+    for (p, row) in layout.iter().enumerate() {
+        field(&mut out, 10, &row_body(p, row));
+    }
+    out
+}

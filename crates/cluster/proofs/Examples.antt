@@ -1,0 +1,100 @@
+-- The terms on small clusters of document 01's table, by computing: what the definitions say is what the paper says.
+-- Assumes nothing.
+use Prim.Native.Nat.{ℕ}
+use mathlib.Core.Path.{_≡_, refl}
+use mathlib.Core.Bool.{true, false}
+use mathlib.Core.List.{List, [], _∷_}
+use Rattle.sums.specs.Sum.{sumTo, one-if}
+use Rattle.cells.specs.Cells.{tab}
+use Rattle.cluster.specs.Terms.{Topology, mem, risingFrom, rising, different, zonesNamed, zonesOf, copiesIn, onlyIn, distance}
+use Rattle.cluster.specs.Tie.{firstIndex, zoneIndex, capAt, incidence, idsWhere, layoutOf}
+use Rattle.cluster.specs.declared.Node.{Node}
+
+abbrev node : ℕ → ℕ → ℕ → Node
+node i z c = record { id = i; zone = z; capacity = c }
+
+abbrev E : Topology
+E = record { bits = 1; replication = 1; redundancy = 1; nodes = node 1 1 10 ∷ node 2 1 4 ∷ [] }
+
+abbrev H : Topology
+H = record { bits = 0; replication = 1; redundancy = 1; nodes = node 1 1 10 ∷ [] }
+
+abbrev I : Topology
+I = record { bits = 0; replication = 1; redundancy = 1; nodes = node 1 1 5 ∷ node 2 1 5 ∷ [] }
+
+abbrev K : Topology
+K = record { bits = 0; replication = 3; redundancy = 2; nodes = node 1 1 9 ∷ node 2 1 9 ∷ node 3 1 9 ∷ node 4 2 1 ∷ [] }
+
+abbrev row123 : List ℕ
+row123 = 1 ∷ 2 ∷ 3 ∷ []
+
+abbrev row124 : List ℕ
+row124 = 1 ∷ 2 ∷ 4 ∷ []
+
+-- A row rises strictly, and has no id 0.
+rising-124 : rising row124 ≡ true
+unfolding risingFrom
+rising-124 = refl
+
+not-rising-114 : rising (1 ∷ 1 ∷ 4 ∷ []) ≡ false
+unfolding risingFrom
+not-rising-114 = refl
+
+not-rising-0 : rising (0 ∷ 1 ∷ []) ≡ false
+unfolding risingFrom
+not-rising-0 = refl
+
+-- A zone counts once.
+zones-123 : zonesOf (K .nodes) row123 ≡ 1
+unfolding different zonesNamed mem one-if
+zones-123 = refl
+
+zones-124 : zonesOf (K .nodes) row124 ≡ 2
+unfolding different zonesNamed mem one-if
+zones-124 = refl
+
+-- A gone node counts in the distance.
+distance-H : distance H ((1 ∷ []) ∷ []) ((9 ∷ []) ∷ []) ≡ 2
+unfolding distance sumTo onlyIn mem one-if
+distance-H = refl
+
+distance-E : distance E ((1 ∷ []) ∷ (1 ∷ []) ∷ []) ((2 ∷ []) ∷ (2 ∷ []) ∷ []) ≡ 4
+unfolding distance sumTo onlyIn mem one-if
+distance-E = refl
+
+distance-I : distance I ((1 ∷ []) ∷ []) ((1 ∷ 2 ∷ []) ∷ []) ≡ 1
+unfolding distance sumTo onlyIn mem one-if
+distance-I = refl
+
+distance-K : distance K (row124 ∷ []) (row123 ∷ []) ≡ 2
+unfolding distance sumTo onlyIn mem one-if
+distance-K = refl
+
+-- A partition without a former row had no former copies.
+distance-none : distance E ((1 ∷ []) ∷ (1 ∷ []) ∷ []) ([] ∷ [] ∷ []) ≡ 2
+unfolding distance sumTo onlyIn mem one-if
+distance-none = refl
+
+-- Node 1 of E holds two copies.
+copies-E : copiesIn ((1 ∷ []) ∷ (1 ∷ []) ∷ []) 1 ≡ 2
+unfolding copiesIn mem one-if
+copies-E = refl
+
+-- Node 3 of K lies in the zone that node 1 (index 0) names, and node 4 in a zone of its own.
+zone-index-K : tab (zoneIndex K) 4 ≡ 0 ∷ 0 ∷ 0 ∷ 3 ∷ []
+unfolding tab zoneIndex firstIndex
+zone-index-K = refl
+
+-- The caps of E at size 5: 10 / 5, and 4 / 5.
+caps-E : tab (capAt E 5) 2 ≡ 2 ∷ 0 ∷ []
+unfolding tab capAt
+caps-E = refl
+
+-- The bits of row 1 2 4, and the row of these bits.
+bits-124 : tab (incidence K (row124 ∷ []) 0) 4 ≡ 1 ∷ 1 ∷ 0 ∷ 1 ∷ []
+unfolding tab incidence mem one-if
+bits-124 = refl
+
+back-124 : layoutOf K (incidence K (row124 ∷ [])) ≡ row124 ∷ []
+unfolding tab incidence mem one-if layoutOf idsWhere
+back-124 = refl

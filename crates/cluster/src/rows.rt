@@ -1,0 +1,80 @@
+// Rows of lent cells: eight cells to a partition, rising ids first, then zeros.
+ghost use mathlib.Core.Path.{_≡_};
+ghost use Prim.Native.Nat.{_+_, _-_, _≤_};
+ghost use lib.ListN.{length, take, drop};
+ghost use Rattle.cluster.specs.Limits.{rowCells};
+ghost use Rattle.cluster.specs.TermsCells.{blank};
+ghost use Rattle.cluster.specs.RowScan.{idCount, rowIds, rowIsBlank};
+use super::Cluster;
+
+// The answer for a row that is not rising ids followed by zeros: one more than a row has cells.
+pub const ILL_FORMED: u32 = Cluster::ROW as u32 + 1;
+
+// Whether the cells from `from` up to `to` are zero.
+fn zeros(cells: &[u32], from: usize, to: usize) -> bool
+    requires { ⌜ (from ≤ to) × (to ≤ length (now cells)) ⌝ }
+    ensures { λ r. ⌜ r ≡ blank (take (to - from) (drop from (now (cells .entry)))) ⌝ }
+{
+    let mut i = from;
+    while i < to {
+        if cells[i] != 0 {
+            return false;
+        }
+        i += 1;
+    }
+    true
+}
+
+// How many ids the row that starts at cell `from` has.
+fn count_ids(cells: &[u32], from: usize) -> u32
+    requires { ⌜ from + rowCells ≤ length (now cells) ⌝ }
+    ensures { λ r. ⌜ r ≡ idCount (take rowCells (drop from (now (cells .entry)))) ⌝ }
+{
+    let to = from + Cluster::ROW;
+    let mut last = 0;
+    let mut i = from;
+    while i < to {
+        let id = cells[i];
+        if id == 0 {
+            if zeros(cells, i, to) {
+                return (i - from) as u32;
+            }
+            return ILL_FORMED;
+        }
+        if id <= last {
+            return ILL_FORMED;
+        }
+        last = id;
+        i += 1;
+    }
+    Cluster::ROW as u32
+}
+
+// How many ids row `partition` of the cells has, or ILL_FORMED where it is not rising ids followed by zeros or not there whole.
+pub fn row_ids(cells: &[u32], partition: usize) -> u32
+    ensures { λ r. ⌜ r ≡ rowIds (now (cells .entry)) partition ⌝ }
+{
+    if Cluster::PARTITIONS <= partition {
+        return ILL_FORMED;
+    }
+    let from = partition * Cluster::ROW;
+    if cells.len() < from + Cluster::ROW {
+        return ILL_FORMED;
+    }
+    count_ids(cells, from)
+}
+
+// Whether row `partition` of the cells is there whole, and all zeros.
+pub fn row_is_blank(cells: &[u32], partition: usize) -> bool
+    ensures { λ r. ⌜ r ≡ rowIsBlank (now (cells .entry)) partition ⌝ }
+{
+    if Cluster::PARTITIONS <= partition {
+        return false;
+    }
+    let from = partition * Cluster::ROW;
+    let to = from + Cluster::ROW;
+    if cells.len() < to {
+        return false;
+    }
+    zeros(cells, from, to)
+}

@@ -1,0 +1,277 @@
+-- The laws of fields: what the table of legal lengths says, what is known of a whole field, and that a field is read where it was written
+-- and written as it was read.
+-- Assumes nothing.
+use Prim.Native.Nat.{ℕ, zero, suc, _+_, _-_, _%_, _≤_, _<_}
+use mathlib.Core.Path.{_≡_, refl, sym, ap, ap₂, _∙_, subst}
+use mathlib.Core.Bool.{Bool, true, false, _&&_, _||_, and-true, or-true}
+use mathlib.Core.List.{List, [], _∷_, _++_, append-assoc}
+use mathlib.Core.Logic.{_⊎_, inl, inr, ⊎-elim}
+use native.Mathlib.Nat.{add-zero, div-one, mod-eq-of-lt}
+use native.Mathlib.Numerals.{add-one}
+use native.Mathlib.Omega.{arith}
+use lib.Dec.{leb, ltb, eqb}
+use lib.ListN.{length, take, drop, getD, length-append, length-drop, take-append-drop, List·getD-eq-default}
+use lib.Seq.{drop-cons, drop-drop, getD-drop, drop-append-seam, drop-at}
+use borrow.Author.Tests.{leb-true, le-leb, ltb-true, eqb-true, ne-eqb, eq-eqb}
+use Rattle.sums.proofs.Sum.{lt-or-ge, is-cases}
+use Rattle.sets.specs.Bits.{bit, memberOf, withOf}
+use Rattle.sets.proofs.Laws.{bit-high, bit-zero, bit-with, bit-true, member-true, with-lt}
+use Rattle.cluster.proofs.Lists.{and-left, and-right, test-cases}
+use Rattle.fields.specs.RecordField.{bytesOf, Bytes, part, numberAt, field, noLength, rules, ruleOf, legal, legalAs, judged, fieldAt, Whole, Within}
+use Rattle.fields.specs.declared.Rule.{Rule}
+use Rattle.fields.specs.declared.Field.{Field}
+use Rattle.fields.specs.declared.Field.the-variants.{Body, Refused}
+use Rattle.fields.proofs.Numbers.{length-bytes, has-true, has-false, number-byte, number-here, bytes-there, bytes-byte, bytes-join, length-part}
+
+-- ---- the table
+
+-- A test that each rule passes.
+abbrev every : (Rule → Bool) → List Rule → Bool
+every f [] = true
+every f (r ∷ l) = f r && every f l
+
+passes : (f : Rule → Bool) (l : List Rule) (d : Rule) → every f l ≡ true → f d ≡ true → (i : ℕ) → f (getD l i d) ≡ true
+passes f [] d h k i = k
+passes f (r ∷ l) d h k zero = and-left (f r) (every f l) h
+passes f (r ∷ l) d h k (suc i) = passes f l d (and-right (f r) (every f l) h) k i
+
+-- No rule has steps of 0.
+pub step-pos : (tag : ℕ) → 0 < ruleOf tag .step
+unfolding ruleOf
+step-pos tag = ltb-true 0 (ruleOf tag .step) (passes (λ r. ltb 0 (r .step)) rules noLength refl refl tag)
+
+-- A legal length has two bytes.
+pub greatest-lt : (tag : ℕ) → ruleOf tag .greatest < 65536
+unfolding ruleOf
+greatest-lt tag = ltb-true (ruleOf tag .greatest) 65536 (passes (λ r. ltb (r .greatest) 65536) rules noLength refl refl tag)
+
+-- The rule of a tag that the table has, whatever is said of other tags.
+pub rule-there : (tag : ℕ) (d : Rule) → tag < length rules → getD rules tag d ≡ ruleOf tag
+unfolding ruleOf
+rule-there tag d h = any rules tag h
+  where
+    any : (l : List Rule) (i : ℕ) → i < length l → getD l i d ≡ getD l i noLength
+    any [] i h = absurd (omega arith)
+    any (r ∷ l) zero h = refl
+    any (r ∷ l) (suc i) h = any l i (omega arith)
+
+-- A tag that the table does not have.
+pub rule-none : (tag : ℕ) → length rules ≤ tag → ruleOf tag ≡ noLength
+unfolding ruleOf
+rule-none tag h = List·getD-eq-default rules noLength h
+
+-- A legal length is at least the least, at most the greatest, and some steps above the least.
+pub legal-least : (tag len : ℕ) → legal tag len ≡ true → ruleOf tag .least ≤ len
+unfolding legal
+legal-least tag len h = leb-true (ruleOf tag .least) len (and-left (leb (ruleOf tag .least) len) (leb len (ruleOf tag .greatest) && eqb ((len - ruleOf tag .least) % ruleOf tag .step) 0) h)
+
+legal-rest : (tag len : ℕ) → legal tag len ≡ true → leb len (ruleOf tag .greatest) && eqb ((len - ruleOf tag .least) % ruleOf tag .step) 0 ≡ true
+unfolding legal
+legal-rest tag len h = and-right (leb (ruleOf tag .least) len) (leb len (ruleOf tag .greatest) && eqb ((len - ruleOf tag .least) % ruleOf tag .step) 0) h
+
+pub legal-greatest : (tag len : ℕ) → legal tag len ≡ true → len ≤ ruleOf tag .greatest
+legal-greatest tag len h = leb-true len (ruleOf tag .greatest) (and-left (leb len (ruleOf tag .greatest)) (eqb ((len - ruleOf tag .least) % ruleOf tag .step) 0) (legal-rest tag len h))
+
+pub legal-step : (tag len : ℕ) → legal tag len ≡ true → (len - ruleOf tag .least) % ruleOf tag .step ≡ 0
+legal-step tag len h =
+    eqb-true ((len - ruleOf tag .least) % ruleOf tag .step) 0 (and-right (leb len (ruleOf tag .greatest)) (eqb ((len - ruleOf tag .least) % ruleOf tag .step) 0) (legal-rest tag len h))
+
+-- What has these three is legal.
+pub legal-true : (tag len : ℕ) → ruleOf tag .least ≤ len → len ≤ ruleOf tag .greatest → (len - ruleOf tag .least) % ruleOf tag .step ≡ 0 → legal tag len ≡ true
+unfolding legal
+legal-true tag len a b e = simp (le-leb _ _ a, le-leb _ _ b, eq-eqb _ _ e)
+
+-- Tag 0, and a tag that the table does not have, have no legal length.
+pub legal-none : (tag len : ℕ) → ruleOf tag ≡ noLength → legal tag len ≡ false
+legal-none tag len e =
+    ⊎-elim
+    (λ t. absurd
+    (omega (arith, subst (λ (r : Rule). r .least ≤ len) e (legal-least tag len t), subst (λ (r : Rule). len ≤ r .greatest) e (legal-greatest tag len t))))
+    (λ f. f) (test-cases (legal tag len))
+
+-- Legal where no one length is asked for.
+pub legal-any : (tag len : ℕ) → legalAs 0 tag len ≡ legal tag len
+unfolding legalAs
+legal-any tag len = and-true (legal tag len)
+
+-- Legal where one length is asked for.
+pub legal-only : (tag len : ℕ) → legal tag len ≡ true → legalAs len tag len ≡ true
+unfolding legalAs
+legal-only tag len h = simp (h, eq-eqb len len refl, or-true)
+
+-- What is legal where one length is asked for is legal for the tag, and of that length.
+pub lawful : (exact tag len : ℕ) → legalAs exact tag len ≡ true → legal tag len ≡ true
+unfolding legalAs
+lawful exact tag len h = and-left (legal tag len) (eqb exact 0 || eqb len exact) h
+
+pub only : (exact tag len : ℕ) → legalAs exact tag len ≡ true → (exact ≡ 0 → ⊥) → len ≡ exact
+unfolding legalAs
+only exact tag len h k =
+    eqb-true len exact
+    (sym (ap (λ (t : Bool). t || eqb len exact) (ne-eqb exact 0 k)) ∙ and-right (legal tag len) (eqb exact 0 || eqb len exact) h)
+
+-- ---- sets of tags
+
+-- A tag of a set with one tag more is that one, or a tag of the set.
+pub with-tag : (m a t : ℕ) → memberOf (withOf m a) t ≡ true → (t ≡ a) ⊎ (memberOf m t ≡ true)
+with-tag m a t h =
+    let one : bit (withOf m a) t ≡ 1 = member-true (withOf m a) t h in
+    ⊎-elim (λ l. ⊎-elim (λ y. inl (sym (y .0))) (λ n. inr (bit-true m t (omega (arith, bit-with m a t l, n .1)))) (is-cases a t))
+    (λ g. absurd (omega (arith, bit-high 32 (withOf m a) t (with-lt m a) g)))
+    (lt-or-ge t 32)
+
+-- The empty set has no tag.
+pub no-tag : (t : ℕ) → memberOf 0 t ≡ true → ⊥
+no-tag t h = omega (arith, member-true 0 t h, bit-zero t)
+
+-- The tag of a set of one, and of a set of two.
+pub one-tag : (a t : ℕ) → memberOf (withOf 0 a) t ≡ true → t ≡ a
+one-tag a t h = ⊎-elim (λ e. e) (λ z. absurd (no-tag t z)) (with-tag 0 a t h)
+
+pub two-tags : (a b t : ℕ) → memberOf (withOf (withOf 0 a) b) t ≡ true → (t ≡ a) ⊎ (t ≡ b)
+two-tags a b t h = ⊎-elim (λ e. inr e) (λ r. inl (one-tag a t r)) (with-tag (withOf 0 a) b t h)
+
+-- ---- the field at a byte
+
+-- What is known of a field's answer, with the bytes that its tag and length are read from.
+abbrev Read : List ℕ → ℕ → Field → Type 0
+Read s at (Body tag start len) = (tag ≡ numberAt s at 1) × (len ≡ numberAt s (at + 1) 2)
+Read s at (Refused refusal byte) = Unit
+
+module _ (s : List ℕ) (at allowed exact : ℕ) where
+  -- The first fault decides, in the order of the paper; with none the field is whole.
+  pub field-cut : length s < at + 3 → fieldAt s at allowed exact ≡ Refused 1 at
+  unfolding fieldAt
+  field-cut h = simp (has-false (length s) at 3 h)
+
+  module _ (head : at + 3 ≤ length s) where
+    pub field-tag : memberOf allowed (numberAt s at 1) ≡ false → fieldAt s at allowed exact ≡ Refused 2 at
+    unfolding fieldAt judged
+    field-tag h = simp (has-true (length s) at 3 head, h)
+
+    module _ (tagged : memberOf allowed (numberAt s at 1) ≡ true) where
+      pub field-length : legalAs exact (numberAt s at 1) (numberAt s (at + 1) 2) ≡ false → fieldAt s at allowed exact ≡ Refused 3 at
+      unfolding fieldAt judged
+      field-length h = simp (has-true (length s) at 3 head, tagged, h)
+
+      module _ (long : legalAs exact (numberAt s at 1) (numberAt s (at + 1) 2) ≡ true) where
+        pub field-body : length s < at + 3 + numberAt s (at + 1) 2 → fieldAt s at allowed exact ≡ Refused 1 at
+        unfolding fieldAt judged
+        field-body h = simp (has-true (length s) at 3 head, tagged, long, has-false (length s) (at + 3) (numberAt s (at + 1) 2) h)
+
+        pub field-whole : at + 3 + numberAt s (at + 1) 2 ≤ length s → fieldAt s at allowed exact ≡ Body (numberAt s at 1) (at + 3) (numberAt s (at + 1) 2)
+        unfolding fieldAt judged
+        field-whole h = simp (has-true (length s) at 3 head, tagged, long, has-true (length s) (at + 3) (numberAt s (at + 1) 2) h)
+
+abbrev Known : List ℕ → ℕ → ℕ → ℕ → Field → Type 0
+Known s at allowed exact f = Within (length s) at allowed exact f × Read s at f
+
+-- The answer of a field has what is known of it.
+known : (s : List ℕ) (at allowed exact : ℕ) → Known s at allowed exact (fieldAt s at allowed exact)
+known s at allowed exact =
+    let tag = numberAt s at 1 in
+    let len = numberAt s (at + 1) 2 in
+    ⊎-elim (λ cut. subst (Known s at allowed exact) (sym (field-cut s at allowed exact cut)) (tt, tt))
+    (λ head. ⊎-elim
+    (λ t. ⊎-elim
+    (λ l. ⊎-elim (λ short. subst (Known s at allowed exact) (sym (field-body s at allowed exact head t l short)) (tt, tt))
+    (λ long. subst (Known s at allowed exact) (sym (field-whole s at allowed exact head t l long)) (whole-is tag len t l long, (refl, refl)))
+    (lt-or-ge (length s) (at + 3 + len)))
+    (λ l. subst (Known s at allowed exact) (sym (field-length s at allowed exact head t l)) (tt, tt)) (test-cases (legalAs exact tag len)))
+    (λ t. subst (Known s at allowed exact) (sym (field-tag s at allowed exact head t)) (tt, tt)) (test-cases (memberOf allowed tag)))
+    (lt-or-ge (length s) (at + 3))
+  where
+    whole-is : (tag len : ℕ) → memberOf allowed tag ≡ true → legalAs exact tag len ≡ true → at + 3 + len ≤ length s → Whole (length s) at allowed exact tag (at + 3) len
+    whole-is tag len t l long =
+        let k = lawful exact tag len l in
+        record { begins = refl; ends = long; member = t; least = legal-least tag len k; greatest = legal-greatest tag len k; step = legal-step tag len k; only = only exact tag len l }
+
+-- What is known of a whole field.
+pub within : (s : List ℕ) (at allowed exact : ℕ) → Within (length s) at allowed exact (fieldAt s at allowed exact)
+within s at allowed exact = known s at allowed exact .0
+
+module _ (s : List ℕ) (at allowed exact tag start len : ℕ) (e : fieldAt s at allowed exact ≡ Body tag start len) where
+  pub whole : Whole (length s) at allowed exact tag start len
+  whole = subst (Within (length s) at allowed exact) e (within s at allowed exact)
+
+  -- Its tag is the first byte.
+  pub tag-read : tag ≡ numberAt s at 1
+  tag-read = subst (Read s at) e (known s at allowed exact .1) .0
+
+  -- Its length is the number in the two bytes after that.
+  pub length-read : len ≡ numberAt s (at + 1) 2
+  length-read = subst (Read s at) e (known s at allowed exact .1) .1
+
+  -- Reading and writing again: from where it begins the record is the field, and then what stands after it.
+  pub field-back : Bytes s → drop at s ≡ field tag (part s start len) ++ drop (start + len) s
+  unfolding field
+  field-back b =
+      let w = whole in
+      let inside : at + 3 + len ≤ length s = omega arith in
+      let after = drop (at + 1) s in
+      let next : at + 1 + 2 ≡ start = omega arith in
+      let behind : drop 2 after ≡ part s start len ++ drop (start + len) s =
+      drop-drop 2 (at + 1) s
+      ∙ (ap (λ (k : ℕ). drop k s) next
+      ∙ (sym (take-append-drop len (drop start s)) ∙ ap (λ (l : List ℕ). part s start len ++ l) (drop-drop len start s)))
+      in
+      let head : take 2 after ≡ bytesOf 2 (length (part s start len)) =
+      sym (bytes-there s (at + 1) 2 b (omega arith)) ∙ ap (bytesOf 2) (sym length-read ∙ sym (length-part s start len (omega arith))) in
+      drop-cons s at 0 (omega arith)
+      ∙ ap₂ (λ (t : ℕ) (l : List ℕ). t ∷ l) (sym (number-byte s at) ∙ sym tag-read)
+      (ap (λ (k : ℕ). drop k s) (sym (add-one at))
+      ∙ (sym (take-append-drop 2 after)
+      ∙ (ap₂ (λ (x y : List ℕ). x ++ y) head behind
+      ∙ sym (append-assoc (bytesOf 2 (length (part s start len))) (part s start len) (drop (start + len) s)))))
+
+-- A field is three bytes longer than its body.
+pub length-field : (tag : ℕ) (body : List ℕ) → length (field tag body) ≡ 3 + length body
+unfolding field
+length-field tag body = omega (arith, length-append (bytesOf 2 (length body)) body, length-bytes 2 (length body))
+
+-- A field in its three parts, as it is written.
+pub field-bytes : (tag : ℕ) (body : List ℕ) → tag < 256 → field tag body ≡ bytesOf 1 tag ++ (bytesOf 2 (length body) ++ body)
+unfolding field bytesOf
+field-bytes tag body h = ap (λ (k : ℕ). k ∷ (bytesOf 2 (length body) ++ body)) (sym (ap (λ (k : ℕ). k % 256) (div-one tag) ∙ mod-eq-of-lt h))
+
+-- A field is made of bytes.
+pub bytes-field : (tag : ℕ) (body : List ℕ) → tag < 256 → Bytes body → Bytes (field tag body)
+bytes-field tag body h b =
+    subst Bytes (sym (field-bytes tag body h))
+    (bytes-join (bytesOf 1 tag) (bytesOf 2 (length body) ++ body) (bytes-byte 1 tag) (bytes-join (bytesOf 2 (length body)) body (bytes-byte 2 (length body)) b))
+
+module _ (s rest body : List ℕ) (at tag : ℕ) (e : drop at s ≡ field tag body ++ rest) where
+  -- After its tag a field has its length and its body.
+  head-here : drop (at + 1) s ≡ bytesOf 2 (length body) ++ (body ++ rest)
+  unfolding field
+  head-here = sym (drop-drop 1 at s) ∙ (ap (drop 1) e ∙ append-assoc (bytesOf 2 (length body)) body rest)
+
+  -- After its three bytes of tag and length it has its body.
+  pub body-here : drop (at + 3) s ≡ body ++ rest
+  body-here =
+      let next : at + 3 ≡ at + 1 + 2 = omega arith in
+      ap (λ (k : ℕ). drop k s) next
+      ∙ (sym (drop-drop 2 (at + 1) s) ∙ (ap (drop 2) head-here ∙ drop-at (bytesOf 2 (length body)) (body ++ rest) 2 (length-bytes 2 (length body))))
+
+  -- After its body stands the rest.
+  pub rest-here : drop (at + 3 + length body) s ≡ rest
+  rest-here = sym (drop-drop (length body) (at + 3) s) ∙ (ap (drop (length body)) body-here ∙ drop-append-seam body rest)
+
+  -- Writing and reading again: where a field stands that is allowed and has a legal length, it is read whole.
+  pub field-here : (allowed exact : ℕ) → memberOf allowed tag ≡ true → legalAs exact tag (length body) ≡ true
+      → fieldAt s at allowed exact ≡ Body tag (at + 3) (length body)
+  unfolding field
+  field-here allowed exact t l =
+      let long : length s - at ≡ 3 + length body + length rest = sym (length-drop at s) ∙ (ap length e ∙ (length-append (field tag body) rest ∙ ap (λ (k : ℕ). k + length rest) (length-field tag body))) in
+      let short : length body < 65536 = omega (arith, legal-greatest tag (length body) (lawful exact tag (length body) l), greatest-lt tag) in
+      let a : numberAt s at 1 ≡ tag =
+      number-byte s at ∙ (ap (λ (k : ℕ). getD s k 0) (sym (add-zero at)) ∙ (sym (getD-drop at s 0 0) ∙ ap (λ (r : List ℕ). getD r 0 0) e)) in
+      let n : numberAt s (at + 1) 2 ≡ length body = number-here s (body ++ rest) (at + 1) 2 (length body) head-here short in
+      field-whole s at allowed exact (omega arith) (ap (memberOf allowed) a ∙ t) (ap₂ (legalAs exact) a n ∙ l) (omega arith)
+      ∙ ap₂ (λ (x y : ℕ). Body x (at + 3) y) a n
+
+-- The same behind any bytes.
+pub field-front : (before body rest : List ℕ) (tag allowed exact : ℕ) → memberOf allowed tag ≡ true → legalAs exact tag (length body) ≡ true
+    → fieldAt (before ++ (field tag body ++ rest)) (length before) allowed exact ≡ Body tag (length before + 3) (length body)
+field-front before body rest tag allowed exact t l =
+    field-here (before ++ (field tag body ++ rest)) rest body (length before) tag (drop-append-seam before (field tag body ++ rest)) allowed exact t l

@@ -1,0 +1,133 @@
+-- Numbers and fields in the bytes of a record: a number in its bytes and back, the legal lengths by tag, and the field that stands at a byte.
+-- A byte is a number below 256; a set of tags is a mask, as in the crate `sets`.
+-- Assumes nothing.
+use Prim.Native.Nat.{ℕ, zero, suc, _+_, _-_, _*_, _/_, _%_, _^_, _≤_, _<_}
+use mathlib.Core.Path.{_≡_}
+use mathlib.Core.Bool.{Bool, true, not, _&&_, _||_}
+use mathlib.Core.List.{List, [], _∷_, _++_}
+use lib.Dec.{leb, eqb}
+use lib.ListN.{length, take, drop, getD}
+use Rattle.sums.specs.Sum.{pick}
+use Rattle.sets.specs.Bits.{memberOf}
+use Rattle.fields.specs.declared.Rule.{Rule}
+use Rattle.fields.specs.declared.Field.{Field}
+use Rattle.fields.specs.declared.Field.the-variants.{Body, Refused}
+
+-- "numbers are unsigned, high byte first": the number that some bytes are.
+unfoldable pub numberOf : List ℕ → ℕ
+numberOf [] = 0
+numberOf (b ∷ l) = b * 256 ^ length l + numberOf l
+
+-- The w bytes of a number, high byte first.
+unfoldable pub bytesOf : ℕ → ℕ → List ℕ
+bytesOf zero n = []
+bytesOf (suc w) n = n / 256 ^ w % 256 ∷ bytesOf w n
+
+-- Bytes are below 256.
+abbrev pub Bytes : List ℕ → Type 0
+Bytes l = (i : ℕ) → getD l i 0 < 256
+
+-- The n bytes of s from byte `at` on.
+abbrev pub part : List ℕ → ℕ → ℕ → List ℕ
+part s at n = take n (drop at s)
+
+-- Whether a record of n bytes has w bytes from byte `at` on.
+unfoldable pub has : ℕ → ℕ → ℕ → Bool
+has n at w = leb (at + w) n
+
+-- The number in the w bytes of s from byte `at` on; 0 where s does not have them all.
+unfoldable pub numberAt : List ℕ → ℕ → ℕ → ℕ
+numberAt s at w = pick (has (length s) at w) (numberOf (part s at w)) 0
+
+-- s with the bytes l in the place of its own from byte `at` on; s itself where it does not have as many there.
+unfoldable pub written : List ℕ → ℕ → List ℕ → List ℕ
+written s at l = pick (has (length s) at (length l)) (take at s ++ l ++ drop (at + length l) s) s
+
+-- The bytes p and then s from where they end: what a record p leaves in a buffer s.
+unfoldable pub over : List ℕ → List ℕ → List ℕ
+over p s = p ++ drop (length p) s
+
+-- "A record is fields of a one-byte tag, a two-byte length and a body": the bytes of one field.
+unfoldable pub field : ℕ → List ℕ → List ℕ
+field tag body = tag ∷ (bytesOf 2 (length body) ++ body)
+
+-- A rule for the length of a body: from the least to the greatest, in steps.
+abbrev pub rule : ℕ → ℕ → ℕ → Rule
+rule least greatest step = record { least = least; greatest = greatest; step = step }
+
+-- The rule by which no length is legal.
+abbrev pub noLength : Rule
+noLength = rule 1 0 1
+
+-- "The legal lengths by tag are one table": the rules of the tags 0, 1, 2 and on. There is no tag 0.
+abbrev pub rules : List Rule
+rules =
+    noLength
+    -- "1 bits (1 byte), 2 replication (1), 3 redundancy (1)"
+    ∷ rule 1 1 1
+    ∷ rule 1 1 1
+    ∷ rule 1 1 1
+    -- "4 box (10: id 4, zone 2, capacity 4)"
+    ∷ rule 10 10 1
+    -- "5 former row (2 + 4m: partition 2, then m rising ids, m from 1 to 8)"
+    ∷ rule 6 34 4
+    -- "6 size (4 bytes, at least 1), 7 distance (2, at most 4,096), 8 verdict (1: 1 finished, 0 stopped), 9 improvements (2, at most 2,048)"
+    ∷ rule 4 4 1
+    ∷ rule 2 2 1
+    ∷ rule 1 1 1
+    ∷ rule 2 2 1
+    -- "10 (2 + 4R: partition, R rising ids)", R from 1 to 8
+    ∷ rule 6 34 4
+    ∷ []
+
+-- The rule of a tag; a tag that the table does not have has no legal length.
+unfoldable pub ruleOf : ℕ → Rule
+ruleOf tag = getD rules tag noLength
+
+-- Whether a body of this length is legal for this tag.
+unfoldable pub legal : ℕ → ℕ → Bool
+legal tag len =
+    leb (ruleOf tag .least) len && (leb len (ruleOf tag .greatest) && eqb ((len - ruleOf tag .least) % ruleOf tag .step) 0)
+
+-- "for field 10 only 2 + 4R with this record's R is legal": legal for the tag and, where `exact` is not 0, of that length alone.
+unfoldable pub legalAs : ℕ → ℕ → ℕ → Bool
+legalAs exact tag len = legal tag len && (eqb exact 0 || eqb len exact)
+
+-- What is said of a field with its three bytes of tag and length there: "2, a tag not allowed next; 3, a length not legal for the tag;
+-- 1, body cut short"; else it is whole, and its body begins after the three bytes.
+unfoldable pub judged : ℕ → ℕ → ℕ → ℕ → ℕ → ℕ → Field
+judged end at allowed exact tag len =
+    pick (not (memberOf allowed tag)) (Refused 2 at)
+    (pick (not (legalAs exact tag len)) (Refused 3 at)
+    (pick (not (has end (at + 3) len)) (Refused 1 at) (Body tag (at + 3) len)))
+
+-- The field of s at byte `at`, where the tags `allowed` are allowed next: "1, one or two bytes left", then as above.
+-- "A field that cannot be taken whole ends the reading there, with the refusal and the byte at which the field begins."
+unfoldable pub fieldAt : List ℕ → ℕ → ℕ → ℕ → Field
+fieldAt s at allowed exact =
+    pick (not (has (length s) at 3)) (Refused 1 at) (judged (length s) at allowed exact (numberAt s at 1) (numberAt s (at + 1) 2))
+
+-- What is known of a whole field in a record of n bytes.
+pub record Whole (n at allowed exact tag start len : ℕ) : Type 0 where
+  pub begins : start ≡ at + 3
+  pub ends : start + len ≤ n
+  pub member : memberOf allowed tag ≡ true
+  pub least : ruleOf tag .least ≤ len
+  pub greatest : len ≤ ruleOf tag .greatest
+  pub step : (len - ruleOf tag .least) % ruleOf tag .step ≡ 0
+  pub only : (exact ≡ 0 → ⊥) → len ≡ exact
+
+-- The same of a field's answer: nothing is known of a refused one.
+abbrev pub Within : ℕ → ℕ → ℕ → ℕ → Field → Type 0
+Within n at allowed exact (Body tag start len) = Whole n at allowed exact tag start len
+Within n at allowed exact (Refused refusal byte) = Unit
+
+-- The refusal of a field that cannot be taken whole; 0 for a whole field.
+abbrev pub refusalOf : Field → ℕ
+refusalOf (Body tag start len) = 0
+refusalOf (Refused refusal byte) = refusal
+
+-- The byte given with a refusal; 0 for a whole field.
+abbrev pub placeOf : Field → ℕ
+placeOf (Body tag start len) = 0
+placeOf (Refused refusal byte) = byte

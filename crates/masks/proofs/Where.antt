@@ -1,0 +1,108 @@
+-- The ids of the nodes of a mask: the first of them is that of the least node, and the others are those of the mask without it.
+-- Assumes nothing.
+use Prim.Native.Nat.{ℕ, zero, suc, _+_, _≤_, _<_, min}
+use mathlib.Core.Path.{_≡_, refl, sym, ap, ap₂, _∙_}
+use mathlib.Core.List.{List, [], _∷_}
+use mathlib.Core.Bool.{Bool}
+use mathlib.Core.Logic.{⊎-elim}
+use native.Mathlib.Omega.{arith}
+use lib.Dec.{eqb}
+use lib.ListN.{length, take, drop, getD, List·getD-eq-default}
+use lib.Seq.{drop-drop, getD-take, getD-drop}
+use borrow.Author.Tests.{eq-eqb, ne-eqb}
+use Rattle.sums.specs.Sum.{sumTo, pick}
+use Rattle.sums.proofs.Sum.{lt-or-ge}
+use Rattle.sets.specs.Bits.{bit, withoutOf, leastOf}
+use Rattle.sets.proofs.Laws.{bit-zero, bit-without, bit-without-same, bit-without-other, least-before, least-at}
+use Rattle.cluster.specs.Terms.{noNode}
+use Rattle.cluster.specs.Tie.{idsWhere}
+use Rattle.cluster.specs.declared.Node.{Node}
+use Rattle.cluster.proofs.TieRows.{sum-first}
+
+-- A node in use has the id of its slot.
+pub slot-id : (slots : List Node) (count b : ℕ) → b < count → getD (take count slots) b noNode .id ≡ getD slots b noNode .id
+slot-id slots count b h = ap (λ (n : Node). n .id) (getD-take count slots b noNode h)
+
+-- Past the nodes the id is 0.
+pub past-id : (ns : List Node) (b : ℕ) → length ns ≤ b → getD ns b noNode .id ≡ 0
+past-id ns b h = ap (λ (n : Node). n .id) (List·getD-eq-default ns noNode h)
+
+-- A node at which f is 0 is left out,
+where-out : (n : Node) (ns : List Node) (f : ℕ → ℕ) → f 0 ≡ 0 → idsWhere (n ∷ ns) f ≡ idsWhere ns (λ b. f (suc b))
+unfolding idsWhere
+where-out n ns f e =
+    ap (λ (t : Bool). pick t (idsWhere ns (λ b. f (suc b))) (n .id ∷ idsWhere ns (λ b. f (suc b)))) (eq-eqb (f 0) 0 e)
+
+-- and any other is taken.
+where-in : (n : Node) (ns : List Node) (f : ℕ → ℕ) → 1 ≤ f 0 → idsWhere (n ∷ ns) f ≡ n .id ∷ idsWhere ns (λ b. f (suc b))
+unfolding idsWhere
+where-in n ns f h =
+    ap (λ (t : Bool). pick t (idsWhere ns (λ b. f (suc b))) (n .id ∷ idsWhere ns (λ b. f (suc b)))) (ne-eqb (f 0) 0 (λ e. omega arith))
+
+-- Functions that agree on the nodes give the same ids.
+pub where-cong : (ns : List Node) (f g : ℕ → ℕ) → ((b : ℕ) → b < length ns → f b ≡ g b) → idsWhere ns f ≡ idsWhere ns g
+unfolding idsWhere
+where-cong [] f g h = refl
+where-cong (n ∷ ns) f g h =
+    ap₂ (λ (v : ℕ) (r : List ℕ). pick (eqb v 0) r (n .id ∷ r)) (h 0 (omega arith))
+    (where-cong ns (λ b. f (suc b)) (λ b. g (suc b)) (λ b l. h (suc b) (omega arith)))
+
+-- A function that is 0 on the nodes gives no ids.
+pub where-none : (ns : List Node) (f : ℕ → ℕ) → ((b : ℕ) → b < length ns → f b ≡ 0) → idsWhere ns f ≡ []
+unfolding idsWhere
+where-none [] f h = refl
+where-none (n ∷ ns) f h = where-out n ns f (h 0 (omega arith)) ∙ where-none ns (λ b. f (suc b)) (λ b l. h (suc b) (omega arith))
+
+-- There are as many ids as nodes at which the function is not 0.
+pub where-length : (ns : List Node) (f : ℕ → ℕ) → length (idsWhere ns f) ≡ sumTo (length ns) (λ b. min 1 (f b))
+unfolding idsWhere sumTo
+where-length [] f = refl
+where-length (n ∷ ns) f =
+    ⊎-elim
+    (λ l. omega (arith, ap length (where-out n ns f (omega arith)), where-length ns (λ b. f (suc b)), sum-first (length ns) (λ b. min 1 (f b))))
+    (λ l. omega (arith, ap length (where-in n ns f l), where-length ns (λ b. f (suc b)), sum-first (length ns) (λ b. min 1 (f b))))
+    (lt-or-ge (f 0) 1)
+
+-- Where f is 0 before node b and not 0 at it, the first id is that of b, and the others are those of f without b.
+pub where-first : (ns : List Node) (f g : ℕ → ℕ) (b : ℕ) → b < length ns → ((j : ℕ) → j < b → f j ≡ 0) → 1 ≤ f b → g b ≡ 0
+    → ((j : ℕ) → j < length ns → (b ≡ j → ⊥) → g j ≡ f j) → idsWhere ns f ≡ getD ns b noNode .id ∷ idsWhere ns g
+where-first [] f g b l z h e s = absurd (omega arith)
+where-first (n ∷ ns) f g zero l z h e s =
+    where-in n ns f h
+    ∙ ap (λ (r : List ℕ). n .id ∷ r)
+    (where-cong ns (λ b. f (suc b)) (λ b. g (suc b)) (λ j k. sym (s (suc j) (omega arith) (λ q. omega arith))) ∙ sym (where-out n ns g e))
+where-first (n ∷ ns) f g (suc b) l z h e s =
+    where-out n ns f (z 0 (omega arith))
+    ∙ (where-first ns (λ j. f (suc j)) (λ j. g (suc j)) b (omega arith) (λ j k. z (suc j) (omega arith)) h e
+    (λ j k q. s (suc j) (omega arith) (λ r. q (omega arith)))
+    ∙ ap (λ (r : List ℕ). getD ns b noNode .id ∷ r) (sym (where-out n ns g (s 0 (omega arith) (λ q. omega arith) ∙ z 0 (omega arith)))))
+
+-- The empty mask gives no ids.
+pub where-empty : (ns : List Node) → idsWhere ns (bit 0) ≡ []
+where-empty ns = where-none ns (bit 0) (λ b l. bit-zero b)
+
+-- The ids of a mask: that of its least node, then those of the mask without it; none where it has no node.
+where-least : (ns : List Node) (s : ℕ) → length ns ≤ 32
+    → (getD (idsWhere ns (bit s)) 0 0 ≡ getD ns (leastOf s) noNode .id) × (drop 1 (idsWhere ns (bit s)) ≡ idsWhere ns (bit (withoutOf s (leastOf s))))
+where-least ns s few =
+    ⊎-elim
+    (λ l. let e : idsWhere ns (bit s) ≡ getD ns (leastOf s) noNode .id ∷ idsWhere ns (bit (withoutOf s (leastOf s))) =
+    where-first ns (bit s) (bit (withoutOf s (leastOf s))) (leastOf s) l (λ j k. least-before s j k) (omega (arith, least-at s (omega arith)))
+    (bit-without-same s (leastOf s) (omega arith)) (λ j k n. bit-without-other s (leastOf s) j (omega arith) n) in
+    (ap (λ (r : List ℕ). getD r 0 0) e, ap (λ (r : List ℕ). drop 1 r) e))
+    (λ l. let e : idsWhere ns (bit s) ≡ [] = where-none ns (bit s) (λ b k. least-before s b (omega arith)) in
+    let d : idsWhere ns (bit (withoutOf s (leastOf s))) ≡ [] =
+    where-none ns (bit (withoutOf s (leastOf s))) (λ b k. omega (arith, bit-without s (leastOf s) b (omega arith), least-before s b (omega arith))) in
+    (ap (λ (r : List ℕ). getD r 0 0) e ∙ sym (past-id ns (leastOf s) l), ap (λ (r : List ℕ). drop 1 r) e ∙ sym d))
+    (lt-or-ge (leastOf s) (length ns))
+
+module _ (ns : List Node) (r : List ℕ) (j s : ℕ) (few : length ns ≤ 32) (inv : drop j r ≡ idsWhere ns (bit s)) where
+  -- Where the ids from j on are those of a mask, id j is that of its least node,
+  pub where-next : getD ns (leastOf s) noNode .id ≡ getD r j 0
+  where-next =
+      let e : j + 0 ≡ j = omega arith in
+      sym (ap (λ (k : ℕ). getD r k 0) (sym e) ∙ (sym (getD-drop j r 0 0) ∙ (ap (λ (l : List ℕ). getD l 0 0) inv ∙ where-least ns s few .0)))
+
+  -- and those from j + 1 on are those of the mask without it.
+  pub where-others : drop (j + 1) r ≡ idsWhere ns (bit (withoutOf s (leastOf s)))
+  where-others = sym (drop-drop 1 j r) ∙ (ap (λ (l : List ℕ). drop 1 l) inv ∙ where-least ns s few .1)

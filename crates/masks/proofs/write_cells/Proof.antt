@@ -1,0 +1,108 @@
+-- `masks::write_cells` meets its contract. The loop's invariant: the cells of the rows passed are those of the layout.
+-- Assumes nothing.
+use borrow.Author.Needs.{needs}
+use native.Mathlib.Omega.{arith}
+use Prim.Native.Nat.{ℕ, _≤_, _+_, _-_, _*_, _/_, _%_}
+use mathlib.Core.Path.{_≡_, ap, _∙_}
+use mathlib.Core.List.{List, _++_}
+use lib.ListN.{length, drop, getD}
+use borrow.Author.Tests.{le-leb, lt-leb}
+use Rattle.cells.specs.Cells.{tab}
+use Rattle.cells.proofs.Cells.{tab-none}
+use Rattle.cluster.specs.Limits.{rowCells, bufferRows, layoutCells}
+use Rattle.cluster.specs.Terms.{topology, row}
+use Rattle.cluster.specs.TermsCells.{cellsOf}
+use Rattle.masks.specs.Model.{rowsWhere, cellsWritten}
+use Rattle.masks.proofs.Written.{row-written}
+use Rattle.masks.proofs.write_cells.Statement.{statement}
+use Rattle.masks.proofs.write_cells.Tie as tie
+
+abbrev Inv-loop : tie.InvT-loop
+Inv-loop c masks partitions cells₀ p₀ cells p =
+    (p ≤ bufferRows) × (partitions ≤ bufferRows) × (partitions ≤ length masks) × (layoutCells ≤ length cells₀) × (length cells ≡ length cells₀)
+    × (cells ≡ tab (λ i. getD (row (rowsWhere (topology c .nodes) masks partitions) (i / rowCells)) (i % rowCells) 0) (p * rowCells) ++ drop (p * rowCells) cells₀)
+
+abbrev μ-loop : tie.MeasureT-loop
+μ-loop c masks partitions cells₀ p₀ cells p = bufferRows - p
+
+returns : tie.Need-returns Inv-loop μ-loop
+unfolding cellsWritten
+returns c =
+    let a = c .before .before .before .args in
+    simp (lt-leb (a .partitions) bufferRows (c .if1 .taken))
+
+returns-2 : tie.Need-returns-2 Inv-loop μ-loop
+unfolding cellsWritten
+returns-2 c =
+    let a = c .before .before .before .before .args in
+    simp (le-leb (a .partitions) bufferRows (search needs), lt-leb (a .partitions) (length (a .masks .now)) (search needs))
+
+returns-3 : tie.Need-returns-3 Inv-loop μ-loop
+unfolding cellsWritten
+returns-3 c =
+    let a = c .before .before .before .before .before .args in
+    simp (le-leb (a .partitions) bufferRows (search needs), le-leb (a .partitions) (length (a .masks .now)) (search needs), lt-leb layoutCells (length (a .cells .now)) (search needs))
+
+loop-holds : tie.Need-loop-holds Inv-loop μ-loop
+loop-holds c = (search needs, search needs, search needs, search needs, search needs, tab-none _ _)
+
+mask-at-requires : tie.Need-mask-at-requires Inv-loop μ-loop
+mask-at-requires c κs = search needs
+
+mul-write-row : tie.Need-mul-write-row Inv-loop μ-loop
+mul-write-row c = search needs
+
+write-row-requires : tie.Need-write-row-requires Inv-loop μ-loop
+write-row-requires c κs = search needs
+
+add-p : tie.Need-add-p Inv-loop μ-loop
+add-p c = search needs
+
+loop-less : tie.Need-loop-less Inv-loop μ-loop
+loop-less c = search needs
+
+loop-again : tie.Need-loop-again Inv-loop μ-loop
+loop-again c =
+    let k = c .before .before .before .before .before .before in
+    let a = k .before .before .before .before .before .before .args in
+    let mask = c .before .before .before .before .mask-at in (
+      search needs,
+      search needs,
+      search needs,
+      search needs,
+      search needs,
+      c .before .before .write-row .ensures
+          ∙ row-written (topology (a .c) .nodes) (a .masks .now) (a .partitions) (k .loop .p) (mask .result) (a .cells .now) (k .loop .cells) (omega arith) (mask .ensures) (k .loop .inv .5),
+    )
+
+same-length : tie.Need-same-length Inv-loop μ-loop
+same-length c = search needs
+
+returns-4 : tie.Need-returns-4 Inv-loop μ-loop
+unfolding cellsWritten cellsOf
+returns-4 c =
+    let k = c .before in
+    let a = k .before .before .before .before .before .before .args in
+    let e : k .loop .p ≡ bufferRows = omega arith in
+    simp (le-leb (a .partitions) bufferRows (search needs), le-leb (a .partitions) (length (a .masks .now)) (search needs), le-leb layoutCells (length (a .cells .now)) (search needs))
+    (k .loop .inv .5
+    ∙ ap (λ (n : ℕ). tab (λ i. getD (row (rowsWhere (topology (a .c) .nodes) (a .masks .now) (a .partitions)) (i / rowCells)) (i % rowCells) 0) (n * rowCells) ++ drop (n * rowCells) (a .cells .now)) e)
+
+pub write-cells-spec : {M : Type 1} → statement M
+write-cells-spec =
+    tie.close
+    (tie.spec
+    Inv-loop
+    μ-loop
+    returns
+    returns-2
+    returns-3
+    loop-holds
+    mask-at-requires
+    mul-write-row
+    write-row-requires
+    add-p
+    loop-less
+    loop-again
+    same-length
+    returns-4)

@@ -1,0 +1,116 @@
+-- `masks::write_row` meets its contract. The loop's invariant: the ids before the cell are written, and those from it on are the ids of what
+-- is left of the mask.
+-- Assumes nothing.
+use borrow.Author.Needs.{needs}
+use native.Mathlib.Omega.{arith}
+use Prim.Native.Nat.{ℕ, _≤_, _+_, _-_}
+use mathlib.Core.Path.{_≡_, refl, sym, ap, ap₂, _∙_}
+use mathlib.Core.List.{List}
+use mathlib.Core.Logic.{⊎-elim}
+use lib.ListN.{length, drop, getD, set}
+use Rattle.sets.specs.Bits.{bit, withoutOf}
+use Rattle.cells.specs.Cells.{put}
+use Rattle.cells.proofs.Cells.{put-none, put-more}
+use Rattle.cluster.specs.Limits.{rowCells}
+use Rattle.cluster.specs.Terms.{topology, noNode}
+use Rattle.cluster.specs.Tie.{idsWhere}
+use Rattle.masks.proofs.Where.{slot-id, past-id, where-next, where-others}
+use Rattle.masks.proofs.write_row.Statement.{statement}
+use Rattle.masks.proofs.write_row.Tie as tie
+
+abbrev Inv-loop : tie.InvT-loop
+Inv-loop mask cells₀ from c n rest₀ j₀ cells rest j =
+    (j ≤ rowCells) × (length cells ≡ length cells₀)
+    × (cells ≡ put from (λ i. getD (idsWhere (topology c .nodes) (bit mask)) i 0) j cells₀)
+    × (drop j (idsWhere (topology c .nodes) (bit mask)) ≡ idsWhere (topology c .nodes) (bit rest))
+
+abbrev μ-loop : tie.MeasureT-loop
+μ-loop mask cells₀ from c n rest₀ j₀ cells rest j = rowCells - j
+
+used-requires : tie.Need-used-requires Inv-loop μ-loop
+used-requires c κs = search needs
+
+loop-holds : tie.Need-loop-holds Inv-loop μ-loop
+loop-holds c = (search needs, search needs, put-none _ _ _, refl)
+
+least-requires : tie.Need-least-requires Inv-loop μ-loop
+least-requires c κs = search needs
+
+cast-b : tie.Need-cast-b Inv-loop μ-loop
+cast-b c = search needs
+
+mul-id : tie.Need-mul-id Inv-loop μ-loop
+mul-id c = search needs
+
+element-copy-out-id : tie.Need-element-copy-out-id Inv-loop μ-loop
+element-copy-out-id c = search needs
+
+add-cells : tie.Need-add-cells Inv-loop μ-loop
+add-cells c = search needs
+
+mul-cells : tie.Need-mul-cells Inv-loop μ-loop
+mul-cells c = search needs
+
+slice-write-cells : tie.Need-slice-write-cells Inv-loop μ-loop
+slice-write-cells c = search needs
+
+without-requires : tie.Need-without-requires Inv-loop μ-loop
+without-requires c κs = search needs
+
+add-j : tie.Need-add-j Inv-loop μ-loop
+add-j c = search needs
+
+loop-less : tie.Need-loop-less Inv-loop μ-loop
+loop-less c = search needs
+
+loop-again : tie.Need-loop-again Inv-loop μ-loop
+loop-again c =
+    let k = c .before .before .before .before in
+    let a = k .before .before .before .args in
+    let ns = topology (a .t1) .nodes in
+    let least = c .before .before .least in
+    let few : length ns ≤ 32 = omega arith in
+    let id : c .before .if1 .id ≡ getD ns (least .result) noNode .id =
+    ⊎-elim (λ w. w .1 ∙ sym (slot-id (a .t1 .nodes) (a .t1 .count) (least .result) (omega arith))) (λ w. w .1 ∙ sym (past-id ns (least .result) (omega arith)))
+    (c .before .if1 .came) in (
+      search needs,
+      search needs,
+      ap₂ (λ (l : List ℕ) (v : ℕ). set l (a .from + k .loop .j) v) (k .loop .inv .2)
+          (id ∙ (ap (λ (b : ℕ). getD ns b noNode .id) (least .ensures)
+          ∙ where-next ns (idsWhere ns (bit (a .mask))) (k .loop .j) (k .loop .rest) few (k .loop .inv .3)))
+          ∙ put-more (a .from) (λ i. getD (idsWhere ns (bit (a .mask))) i 0) (k .loop .j) (a .cells .now),
+      where-others ns (idsWhere ns (bit (a .mask))) (k .loop .j) (k .loop .rest) few (k .loop .inv .3)
+          ∙ ap (λ (s : ℕ). idsWhere ns (bit s)) (sym (c .without .ensures ∙ ap (withoutOf (k .loop .rest)) (least .ensures))),
+    )
+
+same-length : tie.Need-same-length Inv-loop μ-loop
+same-length c = search needs
+
+returns : tie.Need-returns Inv-loop μ-loop
+returns c =
+    let k = c .before in
+    let a = k .before .before .before .args in
+    let e : k .loop .j ≡ rowCells = omega arith in
+    k .loop .inv .2 ∙ ap (λ (n : ℕ). put (a .from) (λ i. getD (idsWhere (topology (a .t1) .nodes) (bit (a .mask))) i 0) n (a .cells .now)) e
+
+pub write-row-spec : {M : Type 1} → statement M
+write-row-spec =
+    tie.close
+    (tie.spec
+    Inv-loop
+    μ-loop
+    used-requires
+    loop-holds
+    least-requires
+    cast-b
+    mul-id
+    element-copy-out-id
+    add-cells
+    mul-cells
+    slice-write-cells
+    without-requires
+    add-j
+    loop-less
+    loop-again
+    same-length
+    returns)

@@ -1,0 +1,172 @@
+// Between rows of ids in lent cells and sets of nodes, as masks over the indices of a cluster's nodes in use.
+ghost use mathlib.Core.Path.{_≡_};
+ghost use Prim.Native.Nat.{_+_, _<_, _≤_};
+ghost use lib.ListN.{length, take, drop, getD};
+ghost use lib.Dec.{ltb};
+ghost use Rattle.sums.specs.Sum.{pick};
+ghost use Rattle.sets.specs.Bits.{bit};
+ghost use Rattle.cells.specs.Cells.{put};
+ghost use Rattle.cluster.specs.Limits.{rowCells};
+ghost use Rattle.cluster.specs.Terms.{topology};
+ghost use Rattle.cluster.specs.TermsCells.{idsIn};
+ghost use Rattle.cluster.specs.Tie.{idsWhere};
+ghost use Rattle.masks.specs.Model.{named, rowMask, masksRead, cellsWritten, idsTotal, rowsFormed};
+use cluster::Cluster;
+use cluster::rows;
+
+// How many nodes are in use, of a cluster of any count.
+fn used(c: Cluster) -> usize
+    ensures { λ r. ⌜ (r ≡ length (topology c .nodes)) × (r ≤ 32) × (r ≤ c .count) ⌝ }
+{
+    if c.count < Cluster::NODES {
+        c.count
+    } else {
+        Cluster::NODES
+    }
+}
+
+// The nodes that the ids of the row that starts at cell `from` name: one walk over the nodes and the ids.
+fn walk_row(c: Cluster, cells: &[u32], from: usize) -> u32
+    requires { ⌜ from + rowCells ≤ length (now cells) ⌝ }
+    ensures { λ r. ⌜ r ≡ named (topology c .nodes) (idsIn (take rowCells (drop from (now (cells .entry))))) ⌝ }
+{
+    let n = used(c);
+    let to = from + Cluster::ROW;
+    let mut mask = 0;
+    let mut b = 0;
+    let mut i = from;
+    while b < n {
+        if to <= i {
+            return mask;
+        }
+        let id = cells[i];
+        if id == 0 {
+            return mask;
+        }
+        let node = c.nodes[b].id;
+        if id < node {
+            i += 1;
+        } else {
+            if id == node {
+                mask = sets::with(mask, b as u32);
+            }
+            b += 1;
+        }
+    }
+    mask
+}
+
+// The nodes that row `partition` of the cells names; none where the row is not there whole. Ids that no node has are left out.
+pub fn row_mask(c: Cluster, cells: &[u32], partition: usize) -> u32
+    ensures { λ r. ⌜ r ≡ rowMask (topology c .nodes) (now (cells .entry)) partition ⌝ }
+{
+    if Cluster::PARTITIONS <= partition {
+        return 0;
+    }
+    let from = partition * Cluster::ROW;
+    if cells.len() < from + Cluster::ROW {
+        return 0;
+    }
+    walk_row(c, cells, from)
+}
+
+// Rows 0 .. partitions - 1 of the cells as masks, into the first cells of `masks`. Nothing is written where `partitions` is more than
+// a buffer has rows or than `masks` has cells.
+pub fn read_masks(c: Cluster, cells: &[u32], partitions: usize, masks: &mut [u32])
+    ensures { λ _. ⌜ now (masks .exit) ≡ masksRead (topology c .nodes) (now (cells .entry)) partitions (now (masks .entry)) ⌝ }
+{
+    if Cluster::PARTITIONS < partitions {
+        return;
+    }
+    if masks.len() < partitions {
+        return;
+    }
+    let mut p = 0;
+    while p < partitions {
+        masks[p] = row_mask(c, cells, p);
+        p += 1;
+    }
+}
+
+// How many ids the first `partitions` rows have, each row that is ill formed or not there counted as nine; 0 where `partitions` is
+// more than a buffer has rows.
+pub fn count_ids(cells: &[u32], partitions: usize) -> u32
+    ensures { λ r. ⌜ r ≡ idsTotal (now (cells .entry)) partitions ⌝ }
+{
+    if Cluster::PARTITIONS < partitions {
+        return 0;
+    }
+    let mut total = 0;
+    let mut p = 0;
+    while p < partitions {
+        total += rows::row_ids(cells, p);
+        p += 1;
+    }
+    total
+}
+
+// Whether the first `partitions` rows are there, at most as many as a buffer has, and each is rising ids followed by zeros.
+pub fn rows_formed(cells: &[u32], partitions: usize) -> bool
+    ensures { λ r. ⌜ r ≡ rowsFormed (now (cells .entry)) partitions ⌝ }
+{
+    if Cluster::PARTITIONS < partitions {
+        return false;
+    }
+    let mut p = 0;
+    while p < partitions {
+        if rows::ILL_FORMED <= rows::row_ids(cells, p) {
+            return false;
+        }
+        p += 1;
+    }
+    true
+}
+
+// The mask of partition p where it is one of the first `partitions`, else the empty one.
+fn mask_at(masks: &[u32], partitions: usize, p: usize) -> u32
+    requires { ⌜ partitions ≤ length (now masks) ⌝ }
+    ensures { λ r. ⌜ r ≡ pick (ltb p partitions) (getD (now (masks .entry)) p 0) 0 ⌝ }
+{
+    if p < partitions { masks[p] } else { 0 }
+}
+
+// The ids of the first eight nodes of the mask, then zeros, into the row that starts at cell `from`.
+fn write_row(c: Cluster, mask: u32, cells: &mut [u32], from: usize)
+    requires { ⌜ from + rowCells ≤ length (now cells) ⌝ }
+    ensures { λ _. ⌜ now (cells .exit) ≡ put from (λ j. getD (idsWhere (topology c .nodes) (bit mask)) j 0) rowCells (now (cells .entry)) ⌝ }
+{
+    let n = used(c);
+    let mut rest = mask;
+    let mut j = 0;
+    while j < Cluster::ROW {
+        let least = sets::least(rest);
+        let b = least as usize;
+        let id = if b < n { c.nodes[b].id } else { 0 };
+        cells[from + j] = id;
+        rest = sets::without(rest, least);
+        j += 1;
+    }
+}
+
+// The layout whose row p has the ids of the nodes in masks[p], at most eight, for p below `partitions`, into the first cells: those of a
+// whole buffer, rows from `partitions` on zero. Nothing is written where the cells are fewer, or `partitions` is more than a buffer has
+// rows or than there are masks.
+pub fn write_cells(c: Cluster, masks: &[u32], partitions: usize, cells: &mut [u32])
+    ensures { λ _. ⌜ now (cells .exit) ≡ cellsWritten (topology c .nodes) (now (masks .entry)) partitions (now (cells .entry)) ⌝ }
+{
+    if Cluster::PARTITIONS < partitions {
+        return;
+    }
+    if masks.len() < partitions {
+        return;
+    }
+    if cells.len() < Cluster::CELLS {
+        return;
+    }
+    let mut p = 0;
+    while p < Cluster::PARTITIONS {
+        let mask = mask_at(masks, partitions, p);
+        write_row(c, mask, cells, p * Cluster::ROW);
+        p += 1;
+    }
+}

@@ -1,0 +1,142 @@
+-- What a run of improvements is, whatever is improved: its steps, its verdict, and that allowances past the least finishing one change nothing.
+-- Assumes nothing.
+use Prim.Native.Nat.{ℕ, zero, suc, _+_, _≤_, _<_}
+use mathlib.Core.Path.{_≡_, refl, sym, ap, _∙_, subst}
+use mathlib.Core.Bool.{Bool, true, false, not, cond}
+use mathlib.Core.Logic.{_⊎_, inl, inr, ⊎-elim}
+use native.Mathlib.Omega.{arith}
+use native.Mathlib.Numerals.{one-add}
+use Rattle.sums.proofs.Sum.{lt-or-ge}
+use Rattle.planner.specs.Run.{Ran, later, after, run}
+
+-- A test is not both true and false.
+pub not-both : (b : Bool) → b ≡ true → b ≡ false → ⊥
+not-both b p q = let z : _≡_ {A = ℕ} 0 1 = cc in omega arith
+
+pub true-or-false : (b : Bool) → (b ≡ true) ⊎ (b ≡ false)
+true-or-false true = inl refl
+true-or-false false = inr refl
+
+module _ {A : Type 0} (improves : A → Bool) (next : A → A) where
+  -- A run with allowance a from the state s: it made `steps` improvements, all that were possible, unless the allowance was spent.
+  pub record Run (a : ℕ) (s : A) (r : Ran A) : Type 0 where
+    pub few : r .steps ≤ a
+    pub there : r .state ≡ after improves next (r .steps) s
+    pub before : (j : ℕ) → j < r .steps → improves (after improves next j s) ≡ true
+    pub verdict : r .finished ≡ not (improves (r .state))
+    pub early : r .steps < a → improves (r .state) ≡ false
+
+  -- A run that improved once more at its start.
+  more : (a : ℕ) (s : A) (r : Ran A) → improves s ≡ true → Run a (next s) r → Run (suc a) s (later 1 r)
+  unfolding after
+  more a s r can x =
+      record {
+        few = omega (arith, x .few);
+        there = x .there ∙ ap (λ (n : ℕ). after improves next n s) (sym (one-add (r .steps)));
+        before = first;
+        verdict = x .verdict;
+        early = λ l. x .early (omega arith);
+      }
+    where
+      first : (j : ℕ) → j < 1 + r .steps → improves (after improves next j s) ≡ true
+      first zero l = can
+      first (suc j) l = x .before j (omega arith)
+
+  -- Every run is such a one.
+  pub run-is : (a : ℕ) (s : A) → Run a s (run improves next a s)
+  unfolding run after
+  run-is zero s = record { few = omega arith; there = refl; before = λ j l. absurd (omega arith); verdict = refl; early = λ l. absurd (omega arith) }
+  run-is (suc a) s = go (run-is a (next s)) (improves s) refl
+    where
+      go : Run a (next s) (run improves next a (next s)) → (b : Bool) → improves s ≡ b
+          → Run (suc a) s (cond b (later 1 (run improves next a (next s))) (record { state = s; finished = true; steps = 0 }))
+      go x true e = more a s (run improves next a (next s)) e x
+      go x false e =
+          record {
+            few = omega arith;
+            there = refl;
+            before = λ j l. absurd (omega arith);
+            verdict = ap not (sym e);
+            early = λ l. e;
+          }
+
+  -- The state after one improvement more.
+  pub after-next : (n : ℕ) (s : A) → after improves next (suc n) s ≡ next (after improves next n s)
+  unfolding after
+  after-next zero s = refl
+  after-next (suc n) s = after-next n (next s)
+
+  module _ (s : A) where
+    pub stopped-improves : (a : ℕ) → run improves next a s .finished ≡ false → improves (run improves next a s .state) ≡ true
+    stopped-improves a e =
+        ⊎-elim (λ y. y) (λ n. absurd (not-both (run improves next a s .finished) (run-is a s .verdict ∙ ap not n) e))
+        (true-or-false (improves (run improves next a s .state)))
+
+    pub finished-done : (a : ℕ) → run improves next a s .finished ≡ true → improves (run improves next a s .state) ≡ false
+    finished-done a e =
+        ⊎-elim (λ y. absurd (not-both (run improves next a s .finished) e (run-is a s .verdict ∙ ap not y))) (λ n. n)
+        (true-or-false (improves (run improves next a s .state)))
+
+    -- A stopped run has spent its allowance.
+    pub stopped-spent : (a : ℕ) → run improves next a s .finished ≡ false → run improves next a s .steps ≡ a
+    stopped-spent a e =
+        ⊎-elim (λ l. absurd (not-both (improves (run improves next a s .state)) (stopped-improves a e) (run-is a s .early l)))
+        (λ g. omega (arith, run-is a s .few)) (lt-or-ge (run improves next a s .steps) a)
+
+    -- Where a state that cannot be improved is reached first after m improvements, each allowance of m or more ends there.
+    ends-at : (m a : ℕ) → improves (after improves next m s) ≡ false → ((j : ℕ) → j < m → improves (after improves next j s) ≡ true) → m ≤ a
+        → run improves next a s .steps ≡ m
+    ends-at m a done before l =
+        ⊎-elim
+        (λ u. absurd (not-both (improves (after improves next (run improves next a s .steps) s)) (before (run improves next a s .steps) u)
+        (ap improves (sym (run-is a s .there)) ∙ run-is a s .early (omega arith))))
+        (λ v. ⊎-elim (λ w. absurd (not-both (improves (after improves next m s)) (run-is a s .before m w) done)) (λ z. omega arith)
+        (lt-or-ge m (run improves next a s .steps)))
+        (lt-or-ge (run improves next a s .steps) m)
+
+    same-run : (a b : ℕ) → run improves next a s .steps ≡ run improves next b s .steps → run improves next a s ≡ run improves next b s
+    same-run a b e =
+        let p : run improves next a s .state ≡ run improves next b s .state =
+        run-is a s .there ∙ (ap (λ (n : ℕ). after improves next n s) e ∙ sym (run-is b s .there)) in
+        let q : run improves next a s .finished ≡ run improves next b s .finished =
+        run-is a s .verdict ∙ (ap (λ (x : A). not (improves x)) p ∙ sym (run-is b s .verdict)) in
+        λ i. record { state = p i; finished = q i; steps = e i }
+
+    module _ (a : ℕ) (e : run improves next a s .finished ≡ true) where
+      -- An allowance of at least the improvements of a finished run ends in the same way.
+      pub finished-larger : (b : ℕ) → run improves next a s .steps ≤ b → run improves next b s ≡ run improves next a s
+      finished-larger b l =
+          same-run b a
+          (ends-at (run improves next a s .steps) b (ap improves (sym (run-is a s .there)) ∙ finished-done a e) (run-is a s .before) l)
+
+      -- Each allowance that finishes is at least the improvements of a finished run.
+      pub finished-smallest : (b : ℕ) → run improves next b s .finished ≡ true → run improves next a s .steps ≤ b
+      finished-smallest b f =
+          ⊎-elim
+          (λ l. absurd (not-both (improves (run improves next b s .state))
+          (ap improves (run-is b s .there) ∙ run-is a s .before (run improves next b s .steps) (omega (arith, run-is b s .few)))
+          (finished-done b f)))
+          (λ g. g) (lt-or-ge b (run improves next a s .steps))
+
+    -- After a stopped run an allowance one larger makes one improvement more.
+    pub stopped-next : (a : ℕ) → run improves next a s .finished ≡ false
+        → run improves next (suc a) s .state ≡ next (run improves next a s .state)
+    stopped-next a e =
+        let spent = stopped-spent a e in
+        let can = stopped-improves a e in
+        let here : improves (after improves next a s) ≡ true =
+        ap improves (ap (λ (n : ℕ). after improves next n s) (sym spent) ∙ sym (run-is a s .there)) ∙ can in
+        let steps : run improves next (suc a) s .steps ≡ suc a =
+        ⊎-elim
+        (λ l. absurd (not-both (improves (run improves next (suc a) s .state))
+        (ap improves (run-is (suc a) s .there) ∙ earlier a here spent (run improves next (suc a) s .steps) (omega arith))
+        (run-is (suc a) s .early l)))
+        (λ g. omega (arith, run-is (suc a) s .few)) (lt-or-ge (run improves next (suc a) s .steps) (suc a)) in
+        run-is (suc a) s .there ∙ (ap (λ (n : ℕ). after improves next n s) steps
+        ∙ (after-next a s ∙ ap next (ap (λ (n : ℕ). after improves next n s) (sym spent) ∙ sym (run-is a s .there))))
+      where
+        earlier : (a : ℕ) → improves (after improves next a s) ≡ true → run improves next a s .steps ≡ a → (j : ℕ) → j ≤ a
+            → improves (after improves next j s) ≡ true
+        earlier a here spent j l =
+            ⊎-elim (λ u. run-is a s .before j (omega arith)) (λ v. let q : a ≡ j = omega arith in subst (λ (n : ℕ). improves (after improves next n s) ≡ true) q here)
+            (lt-or-ge j a)

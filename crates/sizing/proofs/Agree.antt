@@ -1,0 +1,82 @@
+-- The test of caps and the dealt layout look at zones, caps and copies of the N nodes alone: what agrees below N gives the same.
+-- Assumes nothing.
+use Prim.Native.Nat.{ℕ, _+_, _-_, _*_, _≤_, _<_, min}
+use mathlib.Core.Path.{_≡_, refl, sym, ap, ap₂, _∙_}
+use mathlib.Core.Bool.{Bool, cond, _&&_}
+use native.Mathlib.Omega.{arith}
+use lib.Dec.{leb, ltb}
+use Rattle.sums.specs.Sum.{sumTo, is}
+use Rattle.sums.proofs.Sum.{sum-cong}
+use Rattle.dealing.specs.Deal.{inZone, fits, pour, zoned, first, more, given, light, heavy, zoneStart, start, among, dealt}
+
+-- Two functions agree below N.
+abbrev pub SameBelow : ℕ → (ℕ → ℕ) → (ℕ → ℕ) → Type 0
+SameBelow N f g = (b : ℕ) → b < N → f b ≡ g b
+
+-- What is poured.
+pub pour-agree : (N room : ℕ) (f g : ℕ → ℕ) → SameBelow N f g → SameBelow N (pour room f) (pour room g)
+unfolding pour
+pour-agree N room f g h b l = ap₂ (λ (x s : ℕ). min x (room - s)) (h b l) (sum-cong b f g (λ i m. h i (omega arith)))
+
+module _ (N : ℕ) (zone zone′ : ℕ → ℕ) (same : SameBelow N zone zone′) where
+  -- The sum of a zone.
+  pub inZone-agree : (f g : ℕ → ℕ) → SameBelow N f g → (z n : ℕ) → n ≤ N → inZone zone f z n ≡ inZone zone′ g z n
+  unfolding inZone
+  inZone-agree f g h z n l =
+      sum-cong n (λ x. is (zone x) z * f x) (λ x. is (zone′ x) z * g x)
+      (λ x m. ap₂ (λ (a b : ℕ). is a z * b) (same x (omega arith)) (h x (omega arith)))
+
+  -- The sum of a node's zone.
+  own-agree : (f g : ℕ → ℕ) → SameBelow N f g → (b n : ℕ) → b < N → n ≤ N → inZone zone f (zone b) n ≡ inZone zone′ g (zone′ b) n
+  own-agree f g h b n l m = inZone-agree f g h (zone b) n m ∙ ap (λ (z : ℕ). inZone zone′ g z n) (same b l)
+
+  -- The test.
+  pub fits-agree : (P R Z : ℕ) (f g : ℕ → ℕ) → SameBelow N f g → fits P N R Z zone f ≡ fits P N R Z zone′ g
+  unfolding fits
+  fits-agree P R Z f g h =
+      ap₂ (λ (a b : ℕ). leb (R * P) a && leb (Z * P) b) (sum-cong N f g h)
+      (sum-cong N (λ z. min P (inZone zone f z N)) (λ z. min P (inZone zone′ g z N))
+      (λ z l. ap (λ (x : ℕ). min P x) (inZone-agree f g h z N (omega arith))))
+
+  -- The first pass.
+  pub first-agree : (P R : ℕ) (f g : ℕ → ℕ) → SameBelow N f g → SameBelow N (first P R zone f) (first P R zone′ g)
+  unfolding first
+  first-agree P R f g h = pour-agree N (R * P) (zoned P zone f) (zoned P zone′ g) (λ b l. unfold zoned in
+      ap₂ (λ (x s : ℕ). min x (P - s)) (h b l) (own-agree f g h b b l (omega arith)))
+
+  -- The copies that are given.
+  pub given-agree : (P R : ℕ) (f g : ℕ → ℕ) → SameBelow N f g → SameBelow N (given P N R zone f) (given P N R zone′ g)
+  unfolding given more
+  given-agree P R f g h b l =
+      let e = first-agree P R f g h in
+      ap₂ _+_ (e b l)
+      (ap (λ (s : ℕ). pour (R * P - s) (λ c. f c - first P R zone f c) b) (sum-cong N (first P R zone f) (first P R zone′ g) e)
+      ∙ pour-agree N (R * P - sumTo N (first P R zone′ g)) (λ c. f c - first P R zone f c) (λ c. g c - first P R zone′ g c)
+      (λ c m. ap₂ _-_ (h c m) (e c m)) b l)
+
+  -- Where a node's copies begin.
+  pub start-agree : (P : ℕ) (f g : ℕ → ℕ) → SameBelow N f g → SameBelow N (start P N zone f) (start P N zone′ g)
+  unfolding start zoneStart light heavy
+  start-agree P f g h b l =
+      ap₂ _+_ (ap (λ (z : ℕ). zoneStart P N zone f z) (same b l) ∙ starts (zone′ b)) (own-agree f g h b b l (omega arith))
+    where
+      lights : (n : ℕ) → sumTo n (light P N zone f) ≡ sumTo n (light P N zone′ g)
+      lights n = sum-cong n (light P N zone f) (light P N zone′ g)
+          (λ z m. ap (λ (t : ℕ). cond (ltb t P) t 0) (inZone-agree f g h z N (omega arith)))
+
+      heavies : (n : ℕ) → sumTo n (heavy P N zone f) ≡ sumTo n (heavy P N zone′ g)
+      heavies n = sum-cong n (heavy P N zone f) (heavy P N zone′ g)
+          (λ z m. ap (λ (t : ℕ). cond (ltb t P) 0 t) (inZone-agree f g h z N (omega arith)))
+
+      starts : (z : ℕ) → zoneStart P N zone f z ≡ zoneStart P N zone′ g z
+      starts z =
+          ap (λ (t : ℕ). cond (ltb t P) (sumTo z (light P N zone f)) (sumTo N (light P N zone f) + sumTo z (heavy P N zone f)))
+          (inZone-agree f g h z N (omega arith))
+          ∙ ap₂ (λ (x y : ℕ). cond (ltb (inZone zone′ g z N) P) x y) (lights z) (ap₂ _+_ (lights N) (heavies z))
+
+  -- The dealt rows.
+  pub dealt-agree : (P R : ℕ) (f g : ℕ → ℕ) → SameBelow N f g → (p : ℕ) → SameBelow N (dealt P N R zone f p) (dealt P N R zone′ g p)
+  unfolding dealt
+  dealt-agree P R f g h p b l =
+      let e = given-agree P R f g h in
+      ap₂ (λ (x k : ℕ). among P x k p) (start-agree P (given P N R zone f) (given P N R zone′ g) e b l) (e b l)

@@ -1,0 +1,68 @@
+-- What the arrays of zones and caps hold, and what they give the test and the dealt rows of a cluster.
+-- Assumes nothing.
+use Prim.Native.Nat.{ℕ, _^_, _≤_, _<_, min}
+use mathlib.Core.Path.{_≡_, refl, sym, ap, ap₂, _∙_, subst}
+use mathlib.Core.Bool.{Bool}
+use mathlib.Core.List.{List}
+use native.Mathlib.Omega.{arith}
+use lib.ListN.{length}
+use lib.Pow.{pow-mono, pow-pos}
+use Rattle.cluster.specs.Limits.{mostBits}
+use Rattle.cluster.specs.Terms.{Topology, topology, partitions}
+use Rattle.cluster.specs.Faults.{Accepted}
+use Rattle.cluster.specs.Tie.{zoneIndex, capAt}
+use Rattle.cluster.proofs.TieZones.{zone-below}
+use Rattle.dealing.specs.Deal.{fits}
+use Rattle.sizing.specs.Columns.{cell, column, AtMost}
+use Rattle.sizing.specs.Model.{nodesOf, zoneCells, capCells}
+use Rattle.sizing.proofs.Columns.{cell-column, length-column}
+use Rattle.sizing.proofs.Agree.{SameBelow, fits-agree}
+
+-- The cells of an array that is a column.
+pub cells-agree : (f : ℕ → ℕ) (n : ℕ) (l : List ℕ) → n ≤ 32 → l ≡ column f n → SameBelow n (cell l) f
+cells-agree f n l h e b m = ap (λ (k : List ℕ). cell k b) e ∙ cell-column f n b h m
+
+-- An array that is a column has 32 cells.
+pub cells-long : (f : ℕ → ℕ) (n : ℕ) (l : List ℕ) → l ≡ column f n → length l ≡ 32
+cells-long f n l e = ap (λ (k : List ℕ). length k) e ∙ length-column f n
+
+-- A cluster without fault has at most 256 partitions, and one at least.
+pub partitions-few : (t : Topology) → Accepted t → (1 ≤ partitions t) × (partitions t ≤ 256)
+partitions-few t a = (pow-pos (t .bits), pow-mono {i = t .bits} {j = mostBits} (a .bits))
+
+module _ (t : Topology) (few : nodesOf t ≤ 32) where
+  -- The array of zones holds the zone indices.
+  pub zones-hold : (l : List ℕ) → l ≡ zoneCells t → SameBelow (nodesOf t) (cell l) (zoneIndex t)
+  unfolding zoneCells
+  zones-hold l e = cells-agree (zoneIndex t) (nodesOf t) l few e
+
+  -- They are indices of nodes.
+  pub zones-most : (l : List ℕ) → l ≡ zoneCells t → AtMost 31 (nodesOf t) l
+  zones-most l e b h = omega (arith, zones-hold l e b h, zone-below t b h)
+
+  pub zones-long : (l : List ℕ) → l ≡ zoneCells t → length l ≡ 32
+  unfolding zoneCells
+  zones-long l e = cells-long (zoneIndex t) (nodesOf t) l e
+
+  module _ (s : ℕ) where
+    -- The array of caps holds the caps.
+    pub caps-hold : (l : List ℕ) → l ≡ capCells t s → SameBelow (nodesOf t) (cell l) (capAt t s)
+    unfolding capCells
+    caps-hold l e = cells-agree (capAt t s) (nodesOf t) l few e
+
+    -- They are at most the number of partitions.
+    pub caps-most : (l : List ℕ) → l ≡ capCells t s → AtMost (partitions t) (nodesOf t) l
+    caps-most l e b h = unfold capAt in omega (arith, caps-hold l e b h)
+
+    pub caps-long : (l : List ℕ) → l ≡ capCells t s → length l ≡ 32
+    unfolding capCells
+    caps-long l e = cells-long (capAt t s) (nodesOf t) l e
+
+    -- The test of the arrays is the test of the cluster.
+    pub arrays-fit : (n p : ℕ) (zones caps : List ℕ) → n ≡ nodesOf t → p ≡ partitions t → zones ≡ zoneCells t → caps ≡ capCells t s
+        → fits p n (t .replication) (t .redundancy) (cell zones) (cell caps)
+        ≡ fits (partitions t) (nodesOf t) (t .replication) (t .redundancy) (zoneIndex t) (capAt t s)
+    arrays-fit n p zones caps e q z k =
+        ap₂ (λ (x y : ℕ). fits x y (t .replication) (t .redundancy) (cell zones) (cell caps)) q e
+        ∙ fits-agree (nodesOf t) (cell zones) (zoneIndex t) (zones-hold zones z) (partitions t) (t .replication) (t .redundancy) (cell caps)
+        (capAt t s) (caps-hold caps k)

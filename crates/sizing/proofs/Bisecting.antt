@@ -1,0 +1,34 @@
+-- The turns of the bisection.
+-- Assumes nothing.
+use Prim.Native.Nat.{ℕ, suc, _+_, _-_, _^_, _≤_, _<_}
+use mathlib.Core.Path.{_≡_, refl, sym, ap, _∙_}
+use mathlib.Core.Bool.{Bool, true, false, cond}
+use native.Mathlib.Nat.{two-pow-succ}
+use native.Mathlib.Omega.{arith}
+use Rattle.cluster.specs.Terms.{Topology, partitions}
+use Rattle.cluster.specs.Tie.{zoneIndex, capAt}
+use Rattle.dealing.specs.Deal.{fits}
+use Rattle.dealing.specs.Bisect.{bisect, bisectFrom}
+use Rattle.dealing.specs.Size.{bestSize}
+use Rattle.sizing.specs.Model.{nodesOf, sizeOf}
+
+-- The test of a size.
+abbrev pub passing : Topology → ℕ → Bool
+passing t s = fits (partitions t) (nodesOf t) (t .replication) (t .redundancy) (zoneIndex t) (capAt t s)
+
+-- The bisection begins with no bit decided.
+pub size-begins : (t : Topology) → sizeOf t ≡ bisectFrom 32 (passing t) 0
+unfolding sizeOf bestSize bisect
+size-begins t = refl
+
+-- A power of two is twice the one before.
+pub power-half : (i : ℕ) → 0 < i → 2 ^ i ≡ 2 ^ (i - 1) + 2 ^ (i - 1)
+power-half i l = let q : i ≡ suc (i - 1) = omega arith in ap (λ (k : ℕ). 2 ^ k) q ∙ omega (arith, two-pow-succ (i - 1))
+
+-- The next bit, kept or dropped by the test.
+pub next-bit : (test : ℕ → Bool) (i s : ℕ) (b : Bool) → 0 < i → b ≡ test (s + 2 ^ (i - 1))
+    → bisectFrom i test s ≡ bisectFrom (i - 1) test (cond b (s + 2 ^ (i - 1)) s)
+unfolding bisectFrom
+next-bit test i s b l e =
+    let q : i ≡ suc (i - 1) = omega arith in
+    ap (λ (k : ℕ). bisectFrom k test s) q ∙ ap (λ (x : Bool). bisectFrom (i - 1) test (cond x (s + 2 ^ (i - 1)) s)) (sym e)

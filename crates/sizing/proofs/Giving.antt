@@ -1,0 +1,38 @@
+-- The copies that each node is given, from the array of the first pass.
+-- Assumes nothing.
+use Prim.Native.Nat.{ℕ, _+_, _-_, _*_, _≤_, _<_, min}
+use mathlib.Core.Path.{_≡_, refl, sym, ap, ap₂, _∙_}
+use mathlib.Core.List.{List}
+use native.Mathlib.Omega.{arith}
+use Rattle.sums.specs.Sum.{sumTo}
+use Rattle.sums.proofs.Sum.{sum-cong}
+use Rattle.dealing.specs.Deal.{pour, zoned, first, more, given}
+use Rattle.dealing.proofs.Given.{first-le}
+use Rattle.sizing.specs.Columns.{cell, column, AtMost}
+use Rattle.sizing.proofs.Columns.{column-cong}
+use Rattle.sizing.proofs.Agree.{SameBelow, pour-agree}
+use Rattle.sizing.proofs.Arrays.{cells-agree}
+
+module _ (P n R : ℕ) (zone cap : ℕ → ℕ) (few : n ≤ 32) (firsts : List ℕ) (e : firsts ≡ column (pour (R * P) (zoned P zone cap)) n) where
+  -- The array of the first pass holds the first pass.
+  first-holds : SameBelow n (cell firsts) (first P R zone cap)
+  unfolding first
+  first-holds = cells-agree (pour (R * P) (zoned P zone cap)) n firsts few e
+
+  -- The first pass keeps within the caps.
+  pub first-most : (m : ℕ) → ((b : ℕ) → b < n → cap b ≤ m) → AtMost m n firsts
+  first-most m h b l = omega (arith, first-holds b l, first-le P n R zone cap b, h b l)
+
+  -- The second pass completes what is given.
+  pub second-given : (placed left : ℕ) → ((b : ℕ) → b < n → cap b ≤ 256) → placed ≡ sumTo n (λ b. min 256 (cell firsts b)) → left ≡ R * P - placed
+      → column (λ b. cell firsts b + pour left (λ x. cap x - cell firsts x) b) n ≡ column (given P n R zone cap) n
+  unfolding given more
+  second-given placed left h p q =
+      column-cong (λ b. cell firsts b + pour left (λ x. cap x - cell firsts x) b) (given P n R zone cap) n
+      (λ b l. ap₂ _+_ (first-holds b l)
+      (ap (λ (k : ℕ). pour k (λ x. cap x - cell firsts x) b) (q ∙ ap (λ (k : ℕ). R * P - k) (p ∙ all))
+      ∙ pour-agree n (R * P - sumTo n (first P R zone cap)) (λ x. cap x - cell firsts x) (λ x. cap x - first P R zone cap x)
+      (λ x m. ap (λ (k : ℕ). cap x - k) (first-holds x m)) b l))
+    where
+      all : sumTo n (λ b. min 256 (cell firsts b)) ≡ sumTo n (first P R zone cap)
+      all = sum-cong n (λ b. min 256 (cell firsts b)) (first P R zone cap) (λ b l. omega (arith, first-holds b l, first-most 256 h b l))

@@ -1,0 +1,13 @@
+pub mod Columns
+pub mod Slots
+pub mod Adding
+pub mod Fitting
+pub mod Agree
+pub mod Masks
+pub mod Arrays
+pub mod Bisecting
+pub mod Pouring
+pub mod Lining
+pub mod Giving
+pub mod Dealt
+pub mod Sizes

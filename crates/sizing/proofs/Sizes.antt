@@ -1,0 +1,83 @@
+-- The size and the beginning of a cluster in the terms of document 01.
+-- Assumes nothing.
+use Prim.Native.Nat.{ℕ, _*_, _/_, _^_, _≤_, _<_, min}
+use mathlib.Core.Path.{_≡_, sym, ap, _∙_}
+use native.Mathlib.Nat.{le-div-iff-mul-le, div-mul-le-self, mul-le-mul-left, div-eq-of-lt}
+use native.Mathlib.Omega.{arith}
+use lib.ListN.{length}
+use lib.Pow.{pow-pos}
+use Rattle.exchange.specs.Row.{Within}
+use Rattle.cluster.specs.Terms.{Topology, partitions, nodeAt, Layout, ValidAt, IsSize}
+use Rattle.cluster.specs.Faults.{Accepted}
+use Rattle.cluster.specs.Tie.{zoneIndex, capAt, incidence, layoutOf}
+use Rattle.cluster.proofs.TieZones.{zone-below}
+use Rattle.cluster.proofs.TieLayouts.{within-of-valid, valid-of-within}
+use Rattle.dealing.specs.Deal.{dealt}
+use Rattle.dealing.specs.Size.{Caps, Best}
+use Rattle.dealing.proofs.Size.{best-size}
+use Rattle.dealing.proofs.Exists.{dealt-le}
+use Rattle.sizing.specs.Model.{nodesOf, sizeOf, beginning}
+
+-- A larger size leaves room for no more copies.
+copies-fall : (n s s′ : ℕ) → 1 ≤ s → s ≤ s′ → n / s′ ≤ n / s
+copies-fall n s s′ a l =
+    le-div-iff-mul-le a .1 (omega (arith, mul-le-mul-left (n / s′) l, div-mul-le-self n s′))
+
+-- The caps are at most the number of partitions, and fall as the size grows.
+pub caps-law : (t : Topology) → Caps (partitions t) (nodesOf t) (capAt t)
+caps-law t =
+    record {
+      most = λ s b a h. unfold capAt in omega arith;
+      fall = λ s s′ b a l h. unfold capAt in omega (arith, copies-fall (nodeAt t b .capacity) s s′ a l);
+    }
+
+-- At a size above its capacity a node holds no copy.
+pub caps-none : (t : Topology) (s b : ℕ) → nodeAt t b .capacity < s → capAt t s b ≡ 0
+unfolding capAt
+caps-none t s b h = omega (arith, div-eq-of-lt h)
+
+-- A dealt row has 0 or 1 at each node.
+pub beginning-le : (t : Topology) (s p b : ℕ) → beginning t s p b ≤ 1
+unfolding beginning
+beginning-le t s p b = dealt-le (partitions t) (nodesOf t) (t .replication) (zoneIndex t) (capAt t s) p b
+
+-- Capacities as the code has them: each below 2 ^ 32.
+abbrev pub Fit32 : Topology → Type 0
+Fit32 t = (b : ℕ) → b < nodesOf t → nodeAt t b .capacity < 2 ^ 32
+
+module _ (t : Topology) (a : Accepted t) where
+  -- The size is the best one, in the terms of 0/1 rows.
+  pub size-best : Best (2 ^ 32) (partitions t) (nodesOf t) (t .replication) (t .redundancy) (zoneIndex t) (capAt t) (sizeOf t)
+  unfolding sizeOf
+  size-best =
+      best-size 32 (partitions t) (nodesOf t) (t .replication) (t .redundancy) (zoneIndex t) (capAt t) (omega arith) (pow-pos (t .bits))
+      (a .redundancy .1) (zone-below t) (caps-law t)
+
+  -- At the size, and at every smaller one from 1 up, the beginning is within the caps.
+  pub beginning-within : (s : ℕ) → 1 ≤ s → s ≤ sizeOf t
+      → Within (partitions t) (nodesOf t) (t .replication) (t .redundancy) (zoneIndex t) (capAt t s) (beginning t s)
+  unfolding beginning
+  beginning-within s l h = size-best .deals s l h
+
+  -- It is a layout valid at that size.
+  pub beginning-valid : (s : ℕ) → 1 ≤ s → s ≤ sizeOf t → ValidAt t (layoutOf t (beginning t s)) s
+  beginning-valid s l h = valid-of-within t (a .ids) (beginning t s) s l (beginning-within s l h)
+
+  -- No layout is valid at a larger size.
+  pub size-largest : Fit32 t → (L : Layout) (s : ℕ) → ValidAt t L s → s ≤ sizeOf t
+  size-largest low L s v =
+      size-best .ofAll (a .replication .0) (λ b h. caps-none t (2 ^ 32) b (low b h)) s (incidence t L) (v .positive)
+      (within-of-valid t (a .ids) L s v)
+
+  -- Where it is not 0, it is the size of the cluster.
+  pub size-is : Fit32 t → 1 ≤ sizeOf t → IsSize t (sizeOf t)
+  size-is low l =
+      record { reached = (layoutOf t (beginning t (sizeOf t)), beginning-valid (sizeOf t) l (omega arith)); largest = size-largest low }
+
+  -- Where it is 0, no layout is valid at size 1.
+  pub size-none : sizeOf t ≡ 0 → (L : Layout) → ValidAt t L 1 → ⊥
+  size-none e L v = size-best .noLayout e (incidence t L) (within-of-valid t (a .ids) L 1 v)
+
+  -- Where no layout is valid at size 1, it is 0.
+  pub none-size : ((L : Layout) → ValidAt t L 1 → ⊥) → sizeOf t ≡ 0
+  none-size h = size-best .noSize (λ S w. h (layoutOf t S) (valid-of-within t (a .ids) S 1 (omega arith) w))

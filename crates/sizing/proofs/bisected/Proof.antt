@@ -1,0 +1,102 @@
+-- `sizing::bisected` meets its contract. The loop's invariant: the bits from i on are decided, and the bisection goes on from there.
+-- Assumes nothing.
+use borrow.Author.Needs.{needs}
+use native.Mathlib.Omega.{arith}
+use Prim.Native.Nat.{ℕ, _+_, _-_, _^_, _≤_, _<_}
+use mathlib.Core.Path.{_≡_, refl, sym, ap, _∙_}
+use mathlib.Core.Bool.{true, false}
+use lib.Pow.{pow-pos}
+use Rattle.sets.proofs.Words.{word-one}
+use Rattle.cluster.specs.Terms.{topology, partitions}
+use Rattle.cluster.specs.Tie.{zoneIndex, capAt}
+use Rattle.dealing.specs.Deal.{fits}
+use Rattle.dealing.specs.Bisect.{bisect, bisectFrom}
+use Rattle.dealing.specs.Size.{bestSize}
+use Rattle.sizing.specs.Model.{nodesOf, zoneCells, sizeOf}
+use Rattle.sizing.proofs.Bisecting.{passing, size-begins, power-half, next-bit}
+use Rattle.sizing.proofs.bisected.Statement.{statement}
+use Rattle.sizing.proofs.bisected.Tie as tie
+use Rattle.sizing.proofs.bisected.Reads as reads
+use Rattle.sizing.proofs.bisected.Lts as lts
+use Rattle.sizing.proofs.passes.Reads as passes-reads
+use Rattle.sizing.proofs.zones.Reads as zones-reads
+
+abbrev Inv-loop : tie.InvT-loop
+Inv-loop c zones size₀ i₀ size i = (i ≤ 32) × (size + 2 ^ i ≤ 2 ^ 32) × (sizeOf (topology c) ≡ bisectFrom i (passing (topology c)) size)
+
+abbrev μ-loop : tie.MeasureT-loop
+μ-loop c zones size₀ i₀ size i = i
+
+zones-requires : tie.Need-zones-requires Inv-loop μ-loop
+zones-requires c κs = search needs
+
+loop-holds : tie.Need-loop-holds Inv-loop μ-loop
+loop-holds c = (search needs, search needs, size-begins (topology (c .before .args .c)))
+
+sub-i : tie.Need-sub-i Inv-loop μ-loop
+sub-i c = search needs
+
+shl-larger : tie.Need-shl-larger Inv-loop μ-loop
+shl-larger c = search needs
+
+add-larger : tie.Need-add-larger Inv-loop μ-loop
+add-larger c =
+    let k = c .before .loop in
+    omega (arith, word-one (k .i - 1) (omega arith), power-half (k .i) (omega arith), pow-pos (k .i - 1))
+
+slice-aggregate-passes : tie.Need-slice-aggregate-passes Inv-loop μ-loop
+slice-aggregate-passes c = search needs
+
+passes-requires : tie.Need-passes-requires Inv-loop μ-loop
+passes-requires c κs = (c .before .before .before .before .pre, c .before .before .before .zones .ensures)
+
+loop-less : tie.Need-loop-less Inv-loop μ-loop
+loop-less c = search needs
+
+loop-again : tie.Need-loop-again Inv-loop μ-loop
+loop-again c =
+    let k = c .before .before .before .before .loop in
+    let t = topology (c .before .before .before .before .before .before .args .c) in
+    let w = word-one (k .i - 1) (omega arith) in
+    (search needs,
+    omega (arith, w, power-half (k .i) (omega arith)),
+    k .inv .2 ∙ (next-bit (passing t) (k .i) (k .size) true (omega arith) (sym (c .if1 .taken) ∙ (c .before .passes .ensures ∙ ap (λ (x : ℕ). passing t (k .size + x)) w))
+    ∙ ap (λ (x : ℕ). bisectFrom (k .i - 1) (passing t) (k .size + x)) (sym w)))
+
+loop-less-2 : tie.Need-loop-less-2 Inv-loop μ-loop
+loop-less-2 c = search needs
+
+loop-again-2 : tie.Need-loop-again-2 Inv-loop μ-loop
+loop-again-2 c = 
+    let k = c .before .before .before .before .loop in
+    let t = topology (c .before .before .before .before .before .before .args .c) in
+    let w = word-one (k .i - 1) (omega arith) in
+    (search needs,
+    omega (arith, power-half (k .i) (omega arith)),
+    k .inv .2 ∙ next-bit (passing t) (k .i) (k .size) false (omega arith) (sym (c .if1 .left) ∙ (c .before .passes .ensures ∙ ap (λ (x : ℕ). passing t (k .size + x)) w)))
+
+returns : tie.Need-returns Inv-loop μ-loop
+unfolding bisectFrom
+returns c =
+    let k = c .before .loop in
+    let e : k .i ≡ 0 = omega arith in
+    sym (k .inv .2 ∙ ap (λ (x : ℕ). bisectFrom x (passing (topology (c .before .before .before .args .c))) (k .size)) e)
+
+pub bisected-spec : {M : Type 1} → statement M
+bisected-spec =
+    tie.close
+    (tie.spec
+    Inv-loop
+    μ-loop
+    zones-requires
+    loop-holds
+    sub-i
+    shl-larger
+    add-larger
+    slice-aggregate-passes
+    passes-requires
+    loop-less
+    loop-again
+    loop-less-2
+    loop-again-2
+    returns)

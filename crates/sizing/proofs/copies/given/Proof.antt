@@ -1,0 +1,68 @@
+-- `sizing::copies::given` meets its contract.
+-- Assumes nothing.
+use borrow.Author.Needs.{needs}
+use native.Mathlib.Omega.{arith}
+use mathlib.Core.Path.{_∙_}
+use native.Mathlib.Nat.{mul-le-mul}
+use Rattle.sizing.specs.Columns.{cell}
+use Rattle.sizing.proofs.Giving.{first-most, second-given}
+use Rattle.sizing.proofs.copies.given.Statement.{statement}
+use Rattle.sizing.proofs.copies.given.Tie as tie
+use Rattle.sizing.proofs.copies.given.Reads as reads
+use Rattle.sizing.proofs.copies.given.Lts as lts
+use Rattle.sizing.proofs.copies.first.Reads as first-reads
+use Rattle.sizing.proofs.copies.less.Reads as less-reads
+use Rattle.sizing.proofs.copies.second.Reads as second-reads
+use Rattle.sizing.proofs.totals.total.Reads as total-reads
+
+mul-room : tie.Need-mul-room
+mul-room c =
+    let a = c .before .before .args in
+    omega (arith, mul-le-mul {n₁ = a .replication} {m₁ = a .partitions} {n₂ = 8} {m₂ = 256} (search needs) (search needs))
+
+first-requires : tie.Need-first-requires
+first-requires c κs = search needs
+
+slice-aggregate-total : tie.Need-slice-aggregate-total
+slice-aggregate-total c = search needs
+
+total-requires : tie.Need-total-requires
+total-requires c κs = search needs
+
+slice-aggregate-second : tie.Need-slice-aggregate-second
+slice-aggregate-second c = search needs
+
+less-requires : tie.Need-less-requires
+less-requires c κs = search needs
+
+second-requires : tie.Need-second-requires
+second-requires c κs =
+    let s = c .before .before .before .before .before .before .before in
+    let a = s .args in
+    let f = c .before .before .before .before .first in
+    (search needs, search needs, search needs, s .pre .5,
+    first-most (a .partitions) (a .n) (a .replication) (cell (a .zones .now)) (cell (a .caps .now)) (search needs) (f .result) (f .ensures) 256 (s .pre .5))
+
+returns : tie.Need-returns
+returns c =
+    let s = c .before .before .before .before .before .before .before .before in
+    let a = s .args in
+    let f = c .before .before .before .before .before .first in
+    let t = c .before .before .before .total in
+    let l = c .before .less in
+    c .second .ensures
+    ∙ second-given (a .partitions) (a .n) (a .replication) (cell (a .zones .now)) (cell (a .caps .now)) (search needs) (f .result) (f .ensures)
+    (t .result) (l .result) (s .pre .5) (t .ensures) (l .ensures)
+
+pub given-spec : {M : Type 1} → statement M
+given-spec =
+    tie.close
+    (tie.spec
+    mul-room
+    first-requires
+    slice-aggregate-total
+    total-requires
+    slice-aggregate-second
+    less-requires
+    second-requires
+    returns)

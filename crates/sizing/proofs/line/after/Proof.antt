@@ -1,0 +1,24 @@
+-- `sizing::line::after` meets its contract.
+-- Assumes nothing.
+use borrow.Author.Needs.{needs}
+use native.Mathlib.Omega.{arith}
+use Rattle.sizing.proofs.Lining.{after-round, after-on}
+use Rattle.sizing.proofs.line.after.Statement.{statement}
+use Rattle.sizing.proofs.line.after.Tie as tie
+use Rattle.sizing.proofs.line.after.Reads as reads
+use Rattle.sizing.proofs.line.after.Lts as lts
+
+add-result : tie.Need-add-result
+add-result c = search needs
+
+sub-result : tie.Need-sub-result
+sub-result c = search needs
+
+returns : tie.Need-returns
+returns c = after-round (c .before .args .partitions) (c .before .args .s) (c .before .args .p) (search needs) (search needs)
+
+returns-2 : tie.Need-returns-2
+returns-2 c = after-on (c .before .args .partitions) (c .before .args .s) (c .before .args .p) (search needs) (search needs)
+
+pub after-spec : {M : Type 1} → statement M
+after-spec = tie.close (tie.spec add-result sub-result returns returns-2)

@@ -1,0 +1,41 @@
+-- `sizing::size` meets its contract.
+-- Assumes nothing.
+use borrow.Author.Needs.{needs}
+use native.Mathlib.Omega.{arith}
+use Prim.Native.Nat.{ℕ}
+use mathlib.Core.Path.{_≡_, sym, ap, _∙_}
+use mathlib.Core.Bool.{Bool}
+use borrow.Author.Tests.{eq-eqb, ne-eqb}
+use Rattle.sums.specs.Sum.{pick}
+use Rattle.cluster.specs.Terms.{topology}
+use Rattle.cluster.specs.Faults.{faultOf}
+use Rattle.sizing.specs.Model.{sizeOf, sizeIn}
+use Rattle.sizing.proofs.size.Statement.{statement}
+use Rattle.sizing.proofs.size.Tie as tie
+use Rattle.sizing.proofs.size.Reads as reads
+use Rattle.sizing.proofs.size.Lts as lts
+use Rattle.cluster.proofs.Cluster.fault.Reads as fault-reads
+use Rattle.sizing.proofs.bisected.Reads as bisected-reads
+
+fault-requires : tie.Need-fault-requires
+fault-requires c κs = search needs
+
+bisected-requires : tie.Need-bisected-requires
+bisected-requires c κs = search needs
+
+returns : tie.Need-returns
+unfolding sizeIn
+returns c =
+    let k = c .before .before .before .args .c in
+    let e : faultOf k ≡ 0 = search needs in
+    c .bisected .ensures ∙ ap (λ (b : Bool). pick b (sizeOf (topology k)) 0) (sym (eq-eqb (faultOf k) 0 e))
+
+returns-2 : tie.Need-returns-2
+unfolding sizeIn
+returns-2 c =
+    let k = c .before .before .args .c in
+    let e : faultOf k ≡ 0 → ⊥ = λ q. c .if1 .left (c .before .fault .ensures ∙ q) in
+    ap (λ (b : Bool). pick b (sizeOf (topology k)) 0) (sym (ne-eqb (faultOf k) 0 e))
+
+pub size-spec : {M : Type 1} → statement M
+size-spec = tie.close (tie.spec fault-requires bisected-requires returns returns-2)

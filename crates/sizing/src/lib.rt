@@ -1,0 +1,118 @@
+// The size of a cluster and the layout that planning begins with. Every function is total: a cluster with a fault has the size 0, and
+// nothing is dealt for it.
+ghost use mathlib.Core.Path.{_≡_};
+ghost use Prim.Native.Nat.{_≤_};
+ghost use lib.ListN.{length};
+ghost use Rattle.cluster.specs.Terms.{topology, partitions};
+ghost use Rattle.cluster.specs.Faults.{faultOf};
+ghost use Rattle.cluster.specs.Tie.{zoneIndex, capAt};
+ghost use Rattle.dealing.specs.Deal.{fits};
+ghost use Rattle.sizing.specs.Model.{zoneCells, mateCells, capCells, sizeOf, sizeIn, dealtRows, dealtIn};
+use cluster::Cluster;
+
+mod copies;
+mod line;
+mod nodes;
+mod totals;
+
+// The zone of each node in use, as the index of the first node of the same zone, then zeros.
+pub fn zones(c: Cluster) -> [u32; 32]
+    ensures { λ r. ⌜ r ≡ zoneCells (topology c) ⌝ }
+{
+    let n = nodes::used(c);
+    let mut zones = [0u32; 32];
+    let mut b = 0;
+    while b < n {
+        zones[b] = nodes::zone_index(c, b);
+        b += 1;
+    }
+    zones
+}
+
+// For each of the first n nodes, at most 32, the set of the nodes of its zone, then zeros.
+pub fn mates(zones: [u32; 32], n: usize) -> [u32; 32]
+    ensures { λ r. ⌜ r ≡ mateCells zones n ⌝ }
+{
+    let m = nodes::cut(n);
+    let mut mates = [0u32; 32];
+    let mut b = 0;
+    while b < m {
+        let z = zones[b];
+        mates[b] = nodes::of_zone(&zones, m, z);
+        b += 1;
+    }
+    mates
+}
+
+// The most copies that each node in use may hold at a size, then zeros; none at the size 0.
+pub fn caps(c: Cluster, size: u32) -> [u32; 32]
+    ensures { λ r. ⌜ r ≡ capCells (topology c) size ⌝ }
+{
+    let n = nodes::used(c);
+    let capacities = nodes::capacities(c);
+    nodes::caps_at(&capacities, n, c.bits, size)
+}
+
+// Whether the caps of a size have room for a layout.
+fn passes(c: Cluster, zones: &[u32], size: u32) -> bool
+    requires { ⌜ (faultOf c ≡ 0) × (now zones ≡ zoneCells (topology c)) ⌝ }
+    ensures {
+        λ r. ⌜ r ≡ fits (partitions (topology c)) (length (topology c .nodes)) (c .replication) (c .redundancy) (zoneIndex (topology c))
+        (capAt (topology c) size) ⌝
+    }
+{
+    let n = nodes::used(c);
+    let caps = caps(c, size);
+    totals::fit(zones, &caps, n, nodes::partitions(c.bits), c.replication, c.redundancy)
+}
+
+// The size of a cluster without fault, from the highest bit down.
+fn bisected(c: Cluster) -> u32
+    requires { ⌜ faultOf c ≡ 0 ⌝ }
+    ensures { λ r. ⌜ r ≡ sizeOf (topology c) ⌝ }
+{
+    let zones = zones(c);
+    let mut size = 0;
+    let mut i: u32 = 32;
+    while 0 < i {
+        i -= 1;
+        let larger = size + (1 << i);
+        if passes(c, &zones, larger) {
+            size = larger;
+        }
+    }
+    size
+}
+
+// The largest size at which a cluster has a layout; 0 where it has none, or a fault.
+pub fn size(c: Cluster) -> u32
+    ensures { λ r. ⌜ r ≡ sizeIn c ⌝ }
+{
+    if c.fault() == 0 { bisected(c) } else { 0 }
+}
+
+// Deals the layout of a cluster without fault into the first P cells.
+fn begin(c: Cluster, size: u32, rows: &mut [u32])
+    requires { ⌜ (faultOf c ≡ 0) × (partitions (topology c) ≤ length (now rows)) ⌝ }
+    ensures { λ _. ⌜ now (rows .exit) ≡ dealtRows (topology c) size (now (rows .entry)) ⌝ }
+{
+    let n = nodes::used(c);
+    let most = nodes::partitions(c.bits);
+    let zones = zones(c);
+    let caps = caps(c, size);
+    let copies = copies::given(&zones, &caps, n, most, c.replication);
+    let starts = line::starts(&zones, &copies, n, most);
+    line::deal(rows, &starts, &copies, n, most);
+}
+
+// Deals the layout that planning begins with at a size: each of the first P cells becomes the set of the nodes of its partition's row.
+// Nothing is written where the cluster has a fault or there are fewer than P cells.
+pub fn deal(c: Cluster, size: u32, rows: &mut [u32])
+    ensures { λ _. ⌜ now (rows .exit) ≡ dealtIn c size (now (rows .entry)) ⌝ }
+{
+    if c.fault() == 0 {
+        if nodes::partitions(c.bits) as usize <= rows.len() {
+            begin(c, size, rows);
+        }
+    }
+}

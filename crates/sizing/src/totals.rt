@@ -1,0 +1,78 @@
+// Sums over the nodes, of numbers that are at most 256 each.
+ghost use mathlib.Core.Path.{_≡_};
+ghost use mathlib.Core.Bool.{_&&_};
+ghost use Prim.Native.Nat.{_≤_, _<_, _*_, min};
+ghost use lib.Dec.{leb};
+ghost use lib.ListN.{length};
+ghost use Rattle.sums.specs.Sum.{sumTo};
+ghost use Rattle.dealing.specs.Deal.{inZone, fits};
+ghost use Rattle.sizing.specs.Columns.{cell, AtMost, column};
+
+// The lesser of two numbers.
+pub fn least(x: u32, y: u32) -> u32
+    ensures { λ r. ⌜ r ≡ min x y ⌝ }
+{
+    if x < y { x } else { y }
+}
+
+// The sum of the first n numbers, each counted up to `most`.
+pub fn total(numbers: &[u32], n: usize, most: u32) -> u32
+    requires { ⌜ (n ≤ 32) × (length (now numbers) ≡ 32) × (most ≤ 256) ⌝ }
+    ensures { λ r. ⌜ r ≡ sumTo n (λ b. min most (cell (now (numbers .entry)) b)) ⌝ }
+{
+    let mut sum = 0;
+    let mut b = 0;
+    while b < n {
+        sum += least(most, numbers[b]);
+        b += 1;
+    }
+    sum
+}
+
+// The sum of the numbers of zone z among the first n nodes.
+pub fn in_zone(zones: &[u32], numbers: &[u32], z: u32, n: usize) -> u32
+    requires { ⌜ (n ≤ 32) × (length (now zones) ≡ 32) × (length (now numbers) ≡ 32) × AtMost 256 n (now numbers) ⌝ }
+    ensures { λ r. ⌜ r ≡ inZone (cell (now (zones .entry))) (cell (now (numbers .entry))) z n ⌝ }
+{
+    let mut sum = 0;
+    let mut b = 0;
+    while b < n {
+        if zones[b] == z {
+            sum += numbers[b];
+        }
+        b += 1;
+    }
+    sum
+}
+
+// The sum of the numbers of each zone.
+pub fn zone_totals(zones: &[u32], numbers: &[u32], n: usize) -> [u32; 32]
+    requires {
+        ⌜ (n ≤ 32) × (length (now zones) ≡ 32) × (length (now numbers) ≡ 32) × AtMost 31 n (now zones) × AtMost 256 n (now numbers) ⌝
+    }
+    ensures { λ r. ⌜ r ≡ column (λ z. inZone (cell (now (zones .entry))) (cell (now (numbers .entry))) z n) 32 ⌝ }
+{
+    let mut sums = [0u32; 32];
+    let mut b = 0;
+    while b < n {
+        let z = zones[b] as usize;
+        sums[z] = sums[z] + numbers[b];
+        b += 1;
+    }
+    sums
+}
+
+// Whether caps have room for R copies of each partition, and, counting at most P in a zone, for Z copies of each.
+pub fn fit(zones: &[u32], caps: &[u32], n: usize, partitions: u32, replication: u32, redundancy: u32) -> bool
+    requires {
+        ⌜ (n ≤ 32) × (length (now zones) ≡ 32) × (length (now caps) ≡ 32) × (partitions ≤ 256) × (replication ≤ 8) × (redundancy ≤ 8)
+        × AtMost 31 n (now zones) × AtMost partitions n (now caps) ⌝
+    }
+    ensures { λ r. ⌜ r ≡ fits partitions n replication redundancy (cell (now (zones .entry))) (cell (now (caps .entry))) ⌝ }
+{
+    if total(caps, n, partitions) < replication * partitions {
+        return false;
+    }
+    let sums = zone_totals(zones, caps, n);
+    redundancy * partitions <= total(&sums, n, partitions)
+}
