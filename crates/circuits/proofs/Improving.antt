@@ -14,7 +14,7 @@ use Rattle.sums.specs.Sum.{pick}
 use Rattle.sums.proofs.Sum.{sum-cong}
 use Rattle.sets.specs.Bits.{bit, memberOf, belowOf}
 use Rattle.sets.proofs.Laws.{bit-le, member-true, member-false, bit-true, bit-false}
-use Rattle.exchange.specs.Row.{Within}
+use Rattle.exchange.specs.Row.{Within, Exchange, copies}
 use Rattle.exchange.specs.Levels.{Cycle, back, cycleLength, outcome, IsCycle}
 use Rattle.exchange.specs.Circuit.{cost, turn, Allowed, Better}
 use Rattle.exchange.specs.Uncross.{Walk, Round, Right, improved}
@@ -88,8 +88,7 @@ module _ (rows former : List ℕ) (P : ℕ) (mates arcs : List ℕ) (all z : ℕ
 
 -- ---- in planning
 
--- N nodes in zones, of which mates tells the sets; the first P rows are a layout within the caps, of nodes below N; every pair is free; the cells
--- of arcs are the exchange graph of the rows, with any witnesses q.
+-- N nodes in zones, of which mates tells the sets; the first P rows are a layout within the caps, of nodes below N; every pair is free.
 module _ (P N R Z : ℕ) (zone cap : ℕ → ℕ) (free : ℕ → ℕ → ℕ) (loose : (p b : ℕ) → free p b ≡ 1) (rows former mates arcs : List ℕ)
     (M : Mates N zone mates) (small : (p : ℕ) → p < P → getD rows p 0 < 2 ^ N) (s : Within P N R Z zone cap (bitsOf rows))
   where
@@ -127,7 +126,17 @@ module _ (P N R Z : ℕ) (zone cap : ℕ → ℕ) (free : ℕ → ℕ → ℕ) (
     light : (p b : ℕ) → bitsOf former p b ≤ 1
     light p b = bit-le (getD former p 0) b
 
-    module _ (q : ℕ → ℕ → ℕ) (x : ExchangeGraph P N R Z 1 zone cap (bitsOf former) free (bitsOf rows) (graphOf arcs N) q) where
+    -- The cells of arcs are an exchange graph of the rows: each exchange has an arc that weighs no more, a node with room has one to each node,
+    -- and each arc is allowed in some partition, or over the store, at what it weighs.
+    module _
+        (exchanges :
+        (p a b : ℕ) → p < P → Exchange N R Z zone free (bitsOf rows) p a b
+        → (arcOf arcs a b ≡ 1) × (weightOf arcs a b + bitsOf former p b ≤ 1 + bitsOf former p a))
+        (room : (u v : ℕ) → u < N → v < N → copies P (bitsOf rows) u < cap u → (arcOf arcs u v ≡ 1) × (weightOf arcs u v ≤ 1))
+        (there :
+        (u v : ℕ) → u < N → v < N → arcOf arcs u v ≡ 1
+        → (q : ℕ) × (Allowed P N R Z zone cap free (bitsOf rows) q u v × (cost P 1 (bitsOf former) q u v ≡ weightOf arcs u v)))
+      where
       -- The first partition that suits an arc, or P, allows it, and the arc costs there what it weighs.
       first-right : (u v r : ℕ) → u < N → v < N → arcOf arcs u v ≡ 1 → First (suitsAt rows former mates (belowOf N) Z (weightOf arcs u v) u v) P 0 r
           → Allowed P N R Z zone cap free (bitsOf rows) r u v × (cost P 1 (bitsOf former) r u v ≡ weightOf arcs u v)
@@ -136,23 +145,23 @@ module _ (P N R Z : ℕ) (zone cap : ℕ → ℕ) (free : ℕ → ℕ → ℕ) (
           let h = suits-has mates (belowOf N) Z (getD rows r 0) (getD former r 0) (weightOf arcs u v) u v (f .2) in
           let i : r < P = omega (arith, f .1) in
           (inl (i, ok-right .sound r u v i l k (h .0) (h .1) (h .3)), omega (arith, h .2, cost-row P 1 (bitsOf former) light r u v i))
-      first-right u v r l k a (inr f) = none (x .witness u v l k a)
+      first-right u v r l k a (inr f) = none (there u v l k a .0) (there u v l k a .1 .0) (there u v l k a .1 .1)
         where
-          none : Allowed P N R Z zone cap free (bitsOf rows) (q u v) u v × (cost P 1 (bitsOf former) (q u v) u v ≡ weightOf arcs u v)
+          none : (q : ℕ) → Allowed P N R Z zone cap free (bitsOf rows) q u v → cost P 1 (bitsOf former) q u v ≡ weightOf arcs u v
               → Allowed P N R Z zone cap free (bitsOf rows) r u v × (cost P 1 (bitsOf former) r u v ≡ weightOf arcs u v)
-          none (inl d, t) =
+          none q (inl d) t =
               absurd
               (true≢false
               (sym
-              (has-suits mates (belowOf N) Z (getD rows (q u v) 0) (getD former (q u v) 0) (weightOf arcs u v) u v (d .1 .a-in) (d .1 .b-out)
-              (omega (arith, cost-row P 1 (bitsOf former) light (q u v) u v (d .0))) (ok-right .complete (q u v) u v (d .0) (d .1)))
-              ∙ f .1 (q u v) (omega arith) (omega (arith, d .0))))
-          none (inr d, t) =
+              (has-suits mates (belowOf N) Z (getD rows q 0) (getD former q 0) (weightOf arcs u v) u v (d .1 .a-in) (d .1 .b-out)
+              (omega (arith, cost-row P 1 (bitsOf former) light q u v (d .0))) (ok-right .complete q u v (d .0) (d .1)))
+              ∙ f .1 q (omega arith) (omega (arith, d .0))))
+          none q (inr d) t =
               let e : r ≡ P = omega (arith, f .0) in (
                 inr (e, d .1, d .2, d .3),
                 omega (
                   arith,
-                  cost-store P 1 (bitsOf former) light (q u v) u v (omega (arith, d .0)),
+                  cost-store P 1 (bitsOf former) light q u v (omega (arith, d .0)),
                   cost-store P 1 (bitsOf former) light r u v (omega arith),
                 ),
               )
@@ -167,7 +176,7 @@ module _ (P N R Z : ℕ) (zone cap : ℕ → ℕ) (free : ℕ → ℕ → ℕ) (
       -- The graph with the partitions that are looked up.
       pub witness-graph : ExchangeGraph P N R Z 1 zone cap (bitsOf former) free (bitsOf rows) (graphOf arcs N) wit
       witness-graph =
-          record { nodes = x .nodes; shift = x .shift; exchanges = x .exchanges; room = x .room; witness = λ u v l k a. witness-right u v l k a }
+          record { nodes = refl; shift = refl; exchanges = exchanges; room = room; witness = λ u v l k a. witness-right u v l k a }
 
       -- The rows after the exchanges of a cycle over the nodes of a list.
       module _ (nodes : List ℕ) (m : ℕ) (c : IsCycle (graphOf arcs N) m (λ t. getD nodes t 0)) (many : P ≤ 256) (a : P ≤ length rows) (b : P ≤ length former)

@@ -3,16 +3,16 @@
 -- Assumes nothing.
 use Prim.Native.Nat.{ℕ, _+_, _-_, _*_}
 use mathlib.Core.Bool.{Bool, not, cond, _&&_}
-use mathlib.Core.List.{List, _++_}
+use mathlib.Core.List.{List}
 use lib.Dec.{eqb}
 use lib.ListN.{getD, replicate}
 use Rattle.sums.specs.Sum.{sumTo}
 use Rattle.sets.specs.Bits.{bit, maskOf, meetOf, belowOf, countOf}
-use Rattle.cells.specs.Cells.{tab, put}
+use Rattle.cells.specs.Cells.{put}
 use Rattle.cluster.specs.Limits.{bufferRows}
 use Rattle.cluster.specs.Terms.{Topology, partitions, Layout}
 use Rattle.cluster.specs.Tie.{incidence, layoutOf, formerPairs}
-use Rattle.sizing.specs.Model.{nodesOf, zoneCells, mateCells, capCells, sizeOf, beginning}
+use Rattle.sizing.specs.Model.{nodesOf, zoneCells, mateCells, capCells, sizeOf, dealtRows}
 use Rattle.graph.specs.ModelArcs.{arcsOf}
 use Rattle.cycles.specs.ModelFound.{foundLength, foundWalk}
 use Rattle.circuits.specs.ModelCircuits.{turnedOf}
@@ -62,7 +62,7 @@ formerMasks t F = put 0 (λ p. maskOf (incidence t F p) (nodesOf t)) (partitions
 
 -- The rows of the beginning.
 unfoldable pub startRows : Topology → List ℕ
-startRows t = put 0 (λ p. maskOf (beginning t (sizeOf t) p) (nodesOf t)) (partitions t) (replicate bufferRows 0)
+startRows t = dealtRows t (sizeOf t) (replicate bufferRows 0)
 
 -- The layout that rows stand for.
 unfoldable pub layoutRows : Topology → List ℕ → Layout
