@@ -10,13 +10,13 @@ use native.Mathlib.Omega.{arith}
 use native.Mathlib.Nat.{mul-le-mul, mul-one, mul-zero, one-mul, zero-mul, pow-le-pow-right, zero-add}
 use lib.Dec.{eqb, leb}
 use lib.Pow.{pow-pos}
-use lib.ListN.{length, getD, replicate, length-replicate, length-append}
-use borrow.Author.Tests.{eq-eqb, ne-eqb, le-leb, le-ltb}
+use lib.ListN.{length, getD, drop, replicate, length-replicate, length-append}
+use borrow.Author.Tests.{eq-eqb, ne-eqb, le-leb}
 use Rattle.sums.specs.Sum.{sumTo, one-if}
 use Rattle.sums.proofs.Sum.{lt-or-ge, eq-or-ne, sum-cong, sum-zero, sum-le, sum-const}
 use Rattle.sets.specs.Bits.{bit, maskOf, meetOf, belowOf, countOf}
 use Rattle.sets.proofs.Laws.{bit-le, bit-lt, bit-high, bit-mask-high, mask-lt, bit-maskOf, bit-meet, meet-lt, count-sum}
-use Rattle.cells.specs.Cells.{put}
+use Rattle.cells.specs.Cells.{put, tab}
 use Rattle.cells.proofs.Cells.{length-put, getD-put-in, length-tab}
 use Rattle.exchange.specs.Row.{Valid, Within, Exchange, Agree, copies, weigh}
 use Rattle.exchange.specs.Levels.{Outcome, Potential, Cycle, outcome, back, cycleLength, IsCycle}
@@ -35,12 +35,12 @@ use Rattle.cluster.proofs.TieZones.{zone-below}
 use Rattle.cluster.proofs.TieDistance.{distance-law, incidence-le}
 use Rattle.cluster.proofs.TieLayouts.{within-of-valid, valid-of-within, distance-bits}
 use Rattle.sizing.specs.Columns.{cell}
-use Rattle.sizing.specs.Model.{nodesOf, zoneCells, mateCells, capCells, sizeOf, beginning, dealtRows}
+use Rattle.sizing.specs.Model.{nodesOf, zoneCells, mateCells, capCells, Fits32, sizeOf, beginning, dealtRows}
 use Rattle.sizing.proofs.Columns.{cell-column, length-column}
-use Rattle.sizing.proofs.Sizes.{Fits32, beginning-within, size-is}
+use Rattle.sizing.proofs.Sizes.{beginning-within, size-is}
 use Rattle.sizing.proofs.Reading.{mates-hold, deal-length, deal-cell, deal-bit}
 use Rattle.swaps.specs.Mates.{Mates}
-use Rattle.graph.specs.ModelArcs.{arcsOf}
+use Rattle.graph.specs.ModelArcs.{arcsOf, cellOf}
 use Rattle.graph.proofs.Members.{any, rowsOf}
 use Rattle.graph.proofs.Exchanges.{graph-exchange, graph-room, graph-witness}
 use Rattle.cycles.specs.ModelGraph.{graphOf, arcOf, weightOf}
@@ -92,11 +92,11 @@ module _ (t : Topology) (acc : Accepted t) where
 
   -- Where rows are within the caps, there is a node.
   some-node : (S : ℕ → ℕ → ℕ) → Within P N R Z zone cap S → 1 ≤ N
+  unfolding sumTo
   some-node S w =
       ⊎-elim (λ l. absurd (empty (w .rows 0 (pow-pos (t .bits)) .size) (omega arith))) (λ g. g) (lt-or-ge N 1)
     where
       empty : sumTo N (S 0) ≡ R → N ≡ 0 → ⊥
-      unfolding sumTo
       empty e z = omega (arith, acc .replication, ap (λ (n : ℕ). sumTo n (S 0)) z, e)
 
   -- Rows of nodes of the cluster, within the caps.
@@ -109,7 +109,7 @@ module _ (t : Topology) (acc : Accepted t) where
   pub start-good : 1 ≤ sizeOf t → Good (startRows t)
   unfolding startRows
   start-good some =
-      let long : partitions t ≤ length (replicate bufferRows 0) = omega (arith, few-partitions, length-replicate {A = ℕ} bufferRows 0) in
+      let long : partitions t ≤ length {A = ℕ} (replicate bufferRows 0) = omega (arith, few-partitions, length-replicate {A = ℕ} bufferRows 0) in
       record {
         long = deal-length t (sizeOf t) (replicate bufferRows 0) ∙ length-replicate {A = ℕ} bufferRows 0;
         small = λ p l. subst (λ (x : ℕ). x < 2 ^ N) (sym (deal-cell t (sizeOf t) (replicate bufferRows 0) long p l)) (mask-lt (beginning t (sizeOf t) p) N);
@@ -168,13 +168,14 @@ module _ (t : Topology) (acc : Accepted t) where
       abbrev arcs : List ℕ
       arcs = arcsIn fm P (matesOf t) (capCells t (sizeOf t)) N Z rows
 
-      blank-arcs : 96 ≤ length (replicate 96 0)
+      blank-arcs : 96 ≤ length {A = ℕ} (replicate 96 0)
       blank-arcs = omega (arith, length-replicate {A = ℕ} 96 0)
 
       arcs-long : 96 ≤ length arcs
       unfolding arcsIn arcsOf
       arcs-long =
-          rw (le-ltb (length (replicate 96 0)) 96 blank-arcs, length-append, length-tab) (omega arith)
+          let f = cellOf rows fm P (matesOf t) (capCells t (sizeOf t)) (belowOf N) Z in
+          omega (arith, length-append (tab f 96) (drop 96 (replicate 96 0)), length-tab f 96)
 
       exchanges : (p a b : ℕ) → p < P → Exchange N R Z zone any (bitsAt rows) p a b
         → (arcOf arcs a b ≡ 1) × (weightOf arcs a b + bitsAt fm p b ≤ 1 + bitsAt fm p a)
@@ -233,7 +234,7 @@ module _ (t : Topology) (acc : Accepted t) where
       improves-cycle e = go (outcome (graphOf arcs N)) refl
         where
           go : (o : Outcome) → outcome (graphOf arcs N) ≡ o → (k : ℕ) × (v : ℕ) × (outcome (graphOf arcs N) ≡ Cycle k v)
-          go (Potential k) h = absurd (not-both (improvesAt t F rows) e (ap not (eq-eqb _ 0 (found (Potential k) h))))
+          go (Potential k) h = absurd (not-both (improvesAt t F rows) e (ap not (eq-eqb (cycleIn fm P (matesOf t) (capCells t (sizeOf t)) N Z rows) 0 (found (Potential k) h))))
           go (Cycle k v) h = (k, v, h)
 
       stays-potential : improvesAt t F rows ≡ false → (k : ℕ) × (outcome (graphOf arcs N) ≡ Potential k)
@@ -245,7 +246,7 @@ module _ (t : Topology) (acc : Accepted t) where
           go (Cycle k v) h =
               absurd
               (not-both (improvesAt t F rows)
-              (ap not (ne-eqb _ 0 (λ z. omega (arith, z, found (Cycle k v) h, outcome-cycle (graphOf arcs N) k v some h .cycle .some)))) e)
+              (ap not (ne-eqb (cycleIn fm P (matesOf t) (capCells t (sizeOf t)) N Z rows) 0 (λ z. omega (arith, z, found (Cycle k v) h, outcome-cycle (graphOf arcs N) k v some h .cycle .some)))) e)
 
       -- ---- one improvement
 
@@ -378,18 +379,15 @@ module _ (t : Topology) (acc : Accepted t) where
           g = start-good large
 
           none : (p : ℕ) → p < P → (b : ℕ) → incidence t F p b ≡ 0
-          unfolding incidence mem one-if
           none p l b = ap (λ (r : List ℕ). one-if (mem (nodeAt t b .id) r)) (h p l)
 
           nothing : weigh P N (incidence t F) (bitsAt (startRows t)) ≡ 0
-          unfolding weigh
           nothing =
               sum-zero P (λ p. sumTo N (λ b. bitsAt (startRows t) p b * incidence t F p b))
               (λ p l. sum-zero N (λ b. bitsAt (startRows t) p b * incidence t F p b)
                   (λ b k. ap (λ (x : ℕ). bitsAt (startRows t) p b * x) (none p l b) ∙ mul-zero (bitsAt (startRows t) p b)))
 
           pairs : formerPairs t F ≡ 0
-          unfolding formerPairs
           pairs = sum-zero P (λ p. length (row F p)) (λ p l. ap length (h p l))
 
       -- The rows of planning are such a machine.
