@@ -1,4 +1,7 @@
+pub mod Ends
 pub mod Firsts
+pub mod Found
 pub mod Offers
 pub mod Parts
+pub mod States
 pub mod Sweeps
