@@ -17,7 +17,7 @@ use Rattle.sets.proofs.Laws.{bit-zero, bit-without, bit-without-same, bit-witho
 use Rattle.cluster.specs.Terms.{noNode}
 use Rattle.cluster.specs.Tie.{idsWhere}
 use Rattle.cluster.specs.declared.Node.{Node}
-use Rattle.cluster.proofs.TieRows.{sum-first}
+use Rattle.sums.proofs.Sum.{sum-first}
 
 -- A node in use has the id of its slot.
 pub slot-id : (slots : List Node) (count b : ℕ) → b < count → getD (take count slots) b noNode .id ≡ getD slots b noNode .id

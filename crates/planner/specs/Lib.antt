@@ -1,2 +1,4 @@
 pub mod Run
 pub mod Demand
+pub mod ModelRun
+pub mod TermsPlan

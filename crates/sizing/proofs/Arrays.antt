@@ -1,14 +1,13 @@
 -- What the arrays of zones and caps hold, and what they give the test and the dealt rows of a cluster.
 -- Assumes nothing.
-use Prim.Native.Nat.{ℕ, _^_, _≤_, _<_, min}
-use mathlib.Core.Path.{_≡_, refl, sym, ap, ap₂, _∙_, subst}
-use mathlib.Core.Bool.{Bool}
+use Prim.Native.Nat.{ℕ, _≤_}
+use mathlib.Core.Path.{_≡_, ap, ap₂, _∙_}
 use mathlib.Core.List.{List}
 use native.Mathlib.Omega.{arith}
 use lib.ListN.{length}
 use lib.Pow.{pow-mono, pow-pos}
 use Rattle.cluster.specs.Limits.{mostBits}
-use Rattle.cluster.specs.Terms.{Topology, topology, partitions}
+use Rattle.cluster.specs.Terms.{Topology, partitions}
 use Rattle.cluster.specs.Faults.{Accepted}
 use Rattle.cluster.specs.Tie.{zoneIndex, capAt}
 use Rattle.cluster.proofs.TieZones.{zone-below}

@@ -1,7 +1,7 @@
 -- The dealt rows, from the arrays of zones, caps, copies and starts.
 -- Assumes nothing.
 use Prim.Native.Nat.{ℕ, _%_, _≤_, _<_}
-use mathlib.Core.Path.{_≡_, refl, sym, ap, ap₂, _∙_}
+use mathlib.Core.Path.{_≡_, refl, ap, ap₂, _∙_}
 use mathlib.Core.List.{List}
 use native.Mathlib.Nat.{mod-lt}
 use native.Mathlib.Omega.{arith}
@@ -16,7 +16,7 @@ use Rattle.sizing.specs.Columns.{cell, column, AtMost}
 use Rattle.sizing.specs.Line.{reaches}
 use Rattle.sizing.specs.Model.{nodesOf, zoneCells, capCells, beginning, dealtRows}
 use Rattle.sizing.proofs.Columns.{put-cong}
-use Rattle.sizing.proofs.Agree.{SameBelow, given-agree, start-agree, dealt-agree}
+use Rattle.sizing.proofs.Agree.{SameBelow, start-agree, dealt-agree}
 use Rattle.sizing.proofs.Arrays.{cells-agree, zones-hold, caps-hold}
 
 -- What is given is at most the caps.

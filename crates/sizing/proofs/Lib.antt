@@ -11,3 +11,4 @@ pub mod Lining
 pub mod Giving
 pub mod Dealt
 pub mod Sizes
+pub mod Reading

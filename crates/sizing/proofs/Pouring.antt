@@ -1,7 +1,7 @@
 -- The turns of loops that pour numbers into a room.
 -- Assumes nothing.
-use Prim.Native.Nat.{ℕ, _+_, _-_, _≤_, _<_, min}
-use mathlib.Core.Path.{_≡_, refl, sym, ap, _∙_}
+use Prim.Native.Nat.{ℕ, _+_, _-_, min}
+use mathlib.Core.Path.{_≡_, refl}
 use native.Mathlib.Omega.{arith}
 use Rattle.sums.specs.Sum.{sumTo}
 use Rattle.dealing.specs.Deal.{pour}

@@ -1,10 +1,9 @@
 -- The size and the beginning of a cluster in the terms of document 01.
 -- Assumes nothing.
-use Prim.Native.Nat.{ℕ, _*_, _/_, _^_, _≤_, _<_, min}
-use mathlib.Core.Path.{_≡_, sym, ap, _∙_}
+use Prim.Native.Nat.{ℕ, _/_, _^_, _≤_, _<_}
+use mathlib.Core.Path.{_≡_}
 use native.Mathlib.Nat.{le-div-iff-mul-le, div-mul-le-self, mul-le-mul-left, div-eq-of-lt}
 use native.Mathlib.Omega.{arith}
-use lib.ListN.{length}
 use lib.Pow.{pow-pos}
 use Rattle.exchange.specs.Row.{Within}
 use Rattle.cluster.specs.Terms.{Topology, partitions, nodeAt, Layout, ValidAt, IsSize}
@@ -16,7 +15,7 @@ use Rattle.dealing.specs.Deal.{dealt}
 use Rattle.dealing.specs.Size.{Caps, Best}
 use Rattle.dealing.proofs.Size.{best-size}
 use Rattle.dealing.proofs.Exists.{dealt-le}
-use Rattle.sizing.specs.Model.{nodesOf, sizeOf, beginning}
+use Rattle.sizing.specs.Model.{nodesOf, Fits32, sizeOf, beginning}
 
 -- A larger size leaves room for no more copies.
 copies-fall : (n s s′ : ℕ) → 1 ≤ s → s ≤ s′ → n / s′ ≤ n / s
@@ -41,10 +40,6 @@ pub beginning-le : (t : Topology) (s p b : ℕ) → beginning t s p b ≤ 1
 unfolding beginning
 beginning-le t s p b = dealt-le (partitions t) (nodesOf t) (t .replication) (zoneIndex t) (capAt t s) p b
 
--- Capacities as the code has them: each below 2 ^ 32.
-abbrev pub Fit32 : Topology → Type 0
-Fit32 t = (b : ℕ) → b < nodesOf t → nodeAt t b .capacity < 2 ^ 32
-
 module _ (t : Topology) (a : Accepted t) where
   -- The size is the best one, in the terms of 0/1 rows.
   pub size-best : Best (2 ^ 32) (partitions t) (nodesOf t) (t .replication) (t .redundancy) (zoneIndex t) (capAt t) (sizeOf t)
@@ -64,13 +59,13 @@ module _ (t : Topology) (a : Accepted t) where
   beginning-valid s l h = valid-of-within t (a .ids) (beginning t s) s l (beginning-within s l h)
 
   -- No layout is valid at a larger size.
-  pub size-largest : Fit32 t → (L : Layout) (s : ℕ) → ValidAt t L s → s ≤ sizeOf t
+  pub size-largest : Fits32 t → (L : Layout) (s : ℕ) → ValidAt t L s → s ≤ sizeOf t
   size-largest low L s v =
       size-best .ofAll (a .replication .0) (λ b h. caps-none t (2 ^ 32) b (low b h)) s (incidence t L) (v .positive)
       (within-of-valid t (a .ids) L s v)
 
   -- Where it is not 0, it is the size of the cluster.
-  pub size-is : Fit32 t → 1 ≤ sizeOf t → IsSize t (sizeOf t)
+  pub size-is : Fits32 t → 1 ≤ sizeOf t → IsSize t (sizeOf t)
   size-is low l =
       record { reached = (layoutOf t (beginning t (sizeOf t)), beginning-valid (sizeOf t) l (omega arith)); largest = size-largest low }
 

@@ -1,7 +1,7 @@
 -- The line of all copies, from the numbers of copies of the zones: what the loops that lay it out compute.
 -- Assumes nothing.
 use Prim.Native.Nat.{ℕ, _+_, _-_, _%_}
-use mathlib.Core.Bool.{Bool, cond}
+use mathlib.Core.Bool.{cond}
 use lib.Dec.{ltb}
 use Rattle.sums.specs.Sum.{sumTo, one-if}
 

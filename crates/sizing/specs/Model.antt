@@ -1,6 +1,6 @@
 -- What the functions of this crate answer, in the terms of a cluster's topology.
 -- Assumes nothing.
-use Prim.Native.Nat.{ℕ, min}
+use Prim.Native.Nat.{ℕ, _^_, _<_, min}
 use mathlib.Core.List.{List}
 use mathlib.Core.Bool.{_&&_}
 use lib.Dec.{eqb, leb}
@@ -9,7 +9,7 @@ use Rattle.sums.specs.Sum.{is, pick}
 use Rattle.sets.specs.Bits.{maskOf}
 use Rattle.cells.specs.Cells.{put}
 use Rattle.cluster.specs.Limits.{mostNodes}
-use Rattle.cluster.specs.Terms.{Topology, topology, partitions}
+use Rattle.cluster.specs.Terms.{Topology, topology, partitions, nodeAt}
 use Rattle.cluster.specs.Faults.{faultOf}
 use Rattle.cluster.specs.Tie.{zoneIndex, capAt}
 use Rattle.cluster.specs.declared.Cluster.{Cluster}
@@ -32,6 +32,10 @@ mateCells zones n = column (λ b. maskOf (λ x. is (cell zones x) (cell zones b)
 -- The most copies that each node in use may hold at a size; none at the size 0.
 unfoldable pub capCells : Topology → ℕ → List ℕ
 capCells t s = column (capAt t s) (nodesOf t)
+
+-- Capacities as a cluster in hand has them: each below 2 ^ 32.
+abbrev pub Fits32 : Topology → Type 0
+Fits32 t = (b : ℕ) → b < nodesOf t → nodeAt t b .capacity < 2 ^ 32
 
 -- The largest size below 2 ^ 32 whose caps have room for a layout; 0 where none has.
 unfoldable pub sizeOf : Topology → ℕ

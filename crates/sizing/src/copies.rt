@@ -19,7 +19,10 @@ fn zoned(zones: &[u32], caps: &[u32], partitions: u32, b: usize) -> u32
     requires { ⌜ (b < 32) × (length (now zones) ≡ 32) × (length (now caps) ≡ 32) × AtMost 256 b (now caps) ⌝ }
     ensures { λ r. ⌜ r ≡ zoned partitions (cell (now (zones .entry))) (cell (now (caps .entry))) b ⌝ }
 {
-    least(caps[b], less(partitions, totals::in_zone(zones, caps, zones[b], b)))
+    least(
+        caps[b],
+        less(partitions, totals::in_zone(zones, caps, zones[b], b)),
+    )
 }
 
 // The first pass: at most P copies to a zone, `room` copies in all.
@@ -42,10 +45,8 @@ fn first(zones: &[u32], caps: &[u32], n: usize, partitions: u32, room: u32) -> [
 // Both passes: the copies of the first, and what is left of `room`, up to the caps.
 fn second(caps: &[u32], first: &[u32], n: usize, room: u32) -> [u32; 32]
     requires { ⌜ (n ≤ 32) × (length (now caps) ≡ 32) × (length (now first) ≡ 32) × AtMost 256 n (now caps) × AtMost 256 n (now first) ⌝ }
-    ensures {
-        λ r. ⌜ r ≡ column (λ b. cell (now (first .entry)) b
-        + pour room (λ x. cell (now (caps .entry)) x - cell (now (first .entry)) x) b) n ⌝
-    }
+    ensures { λ r. ⌜ r ≡ column (λ b. cell (now (first .entry)) b
+        + pour room (λ x. cell (now (caps .entry)) x - cell (now (first .entry)) x) b) n ⌝ }
 {
     let mut copies = [0u32; 32];
     let mut left = room;
@@ -61,9 +62,7 @@ fn second(caps: &[u32], first: &[u32], n: usize, room: u32) -> [u32; 32]
 
 // The copies that each node is given.
 pub fn given(zones: &[u32], caps: &[u32], n: usize, partitions: u32, replication: u32) -> [u32; 32]
-    requires {
-        ⌜ (n ≤ 32) × (length (now zones) ≡ 32) × (length (now caps) ≡ 32) × (partitions ≤ 256) × (replication ≤ 8) × AtMost 256 n (now caps) ⌝
-    }
+    requires { ⌜ (n ≤ 32) × (length (now zones) ≡ 32) × (length (now caps) ≡ 32) × (partitions ≤ 256) × (replication ≤ 8) × AtMost 256 n (now caps) ⌝ }
     ensures { λ r. ⌜ r ≡ column (given partitions n replication (cell (now (zones .entry))) (cell (now (caps .entry)))) n ⌝ }
 {
     let room = replication * partitions;

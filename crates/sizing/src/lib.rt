@@ -7,7 +7,7 @@ ghost use Rattle.cluster.specs.Terms.{topology, partitions};
 ghost use Rattle.cluster.specs.Faults.{faultOf};
 ghost use Rattle.cluster.specs.Tie.{zoneIndex, capAt};
 ghost use Rattle.dealing.specs.Deal.{fits};
-ghost use Rattle.sizing.specs.Model.{zoneCells, mateCells, capCells, sizeOf, sizeIn, dealtRows, dealtIn};
+ghost use Rattle.sizing.specs.Model.{zoneCells, mateCells, capCells, Fits32, sizeOf, sizeIn, dealtRows, dealtIn};
 use cluster::Cluster;
 
 mod copies;
@@ -44,9 +44,10 @@ pub fn mates(zones: [u32; 32], n: usize) -> [u32; 32]
     mates
 }
 
-// The most copies that each node in use may hold at a size, then zeros; none at the size 0.
+// The most copies that each node in use may hold at a size, then zeros; none at the size 0. That
+// capacities are below 2 ^ 32 is known here, and told with it.
 pub fn caps(c: Cluster, size: u32) -> [u32; 32]
-    ensures { λ r. ⌜ r ≡ capCells (topology c) size ⌝ }
+    ensures { λ r. ⌜ (r ≡ capCells (topology c) size) × Fits32 (topology c) ⌝ }
 {
     let n = nodes::used(c);
     let capacities = nodes::capacities(c);
@@ -56,14 +57,19 @@ pub fn caps(c: Cluster, size: u32) -> [u32; 32]
 // Whether the caps of a size have room for a layout.
 fn passes(c: Cluster, zones: &[u32], size: u32) -> bool
     requires { ⌜ (faultOf c ≡ 0) × (now zones ≡ zoneCells (topology c)) ⌝ }
-    ensures {
-        λ r. ⌜ r ≡ fits (partitions (topology c)) (length (topology c .nodes)) (c .replication) (c .redundancy) (zoneIndex (topology c))
-        (capAt (topology c) size) ⌝
-    }
+    ensures { λ r. ⌜ r ≡ fits (partitions (topology c)) (length (topology c .nodes)) (c .replication) (c .redundancy) (zoneIndex (topology c))
+        (capAt (topology c) size) ⌝ }
 {
     let n = nodes::used(c);
     let caps = caps(c, size);
-    totals::fit(zones, &caps, n, nodes::partitions(c.bits), c.replication, c.redundancy)
+    totals::fit(
+        zones,
+        &caps,
+        n,
+        nodes::partitions(c.bits),
+        c.replication,
+        c.redundancy,
+    )
 }
 
 // The size of a cluster without fault, from the highest bit down.

@@ -55,10 +55,8 @@ fn zone_begins(sums: &[u32], z: usize, n: usize, partitions: u32) -> u32
 
 // The partition to which the first copy of each node goes.
 pub fn starts(zones: &[u32], copies: &[u32], n: usize, partitions: u32) -> [u32; 32]
-    requires {
-        ⌜ (n ≤ 32) × (length (now zones) ≡ 32) × (length (now copies) ≡ 32) × (0 < partitions) × AtMost 31 n (now zones)
-        × AtMost 256 n (now copies) ⌝
-    }
+    requires { ⌜ (n ≤ 32) × (length (now zones) ≡ 32) × (length (now copies) ≡ 32) × (0 < partitions) × AtMost 31 n (now zones)
+        × AtMost 256 n (now copies) ⌝ }
     ensures { λ r. ⌜ r ≡ column (λ b. start partitions n (cell (now (zones .entry))) (cell (now (copies .entry))) b % partitions) n ⌝ }
 {
     let sums = totals::zone_totals(zones, copies, n);
@@ -83,10 +81,8 @@ fn after(partitions: u32, s: u32, p: u32) -> u32
 
 // The set of the nodes with a copy that goes to partition p.
 fn row(starts: &[u32], copies: &[u32], n: usize, partitions: u32, p: u32) -> u32
-    requires {
-        ⌜ (n ≤ 32) × (length (now starts) ≡ 32) × (length (now copies) ≡ 32) × (p < partitions) × (partitions ≤ 256)
-        × ((b : ℕ) → b < n → cell (now starts) b < partitions) ⌝
-    }
+    requires { ⌜ (n ≤ 32) × (length (now starts) ≡ 32) × (length (now copies) ≡ 32) × (p < partitions) × (partitions ≤ 256)
+        × ((b : ℕ) → b < n → cell (now starts) b < partitions) ⌝ }
     ensures { λ r. ⌜ r ≡ maskOf (λ b. reaches partitions (cell (now (starts .entry)) b) (cell (now (copies .entry)) b) p) n ⌝ }
 {
     let mut mask = 0;
@@ -102,15 +98,11 @@ fn row(starts: &[u32], copies: &[u32], n: usize, partitions: u32, p: u32) -> u32
 
 // Deals the copies: each of the first P cells becomes the row of its partition.
 pub fn deal(rows: &mut [u32], starts: &[u32], copies: &[u32], n: usize, partitions: u32)
-    requires {
-        ⌜ (n ≤ 32) × (length (now starts) ≡ 32) × (length (now copies) ≡ 32) × (partitions ≤ 256) × (partitions ≤ length (now rows))
-        × ((b : ℕ) → b < n → cell (now starts) b < partitions) ⌝
-    }
-    ensures {
-        λ _. ⌜ now (rows .exit)
+    requires { ⌜ (n ≤ 32) × (length (now starts) ≡ 32) × (length (now copies) ≡ 32) × (partitions ≤ 256) × (partitions ≤ length (now rows))
+        × ((b : ℕ) → b < n → cell (now starts) b < partitions) ⌝ }
+    ensures { λ _. ⌜ now (rows .exit)
         ≡ put 0 (λ p. maskOf (λ b. reaches partitions (cell (now (starts .entry)) b) (cell (now (copies .entry)) b) p) n) partitions
-        (now (rows .entry)) ⌝
-    }
+        (now (rows .entry)) ⌝ }
 {
     let mut p = 0;
     while p < partitions {

@@ -47,9 +47,7 @@ pub fn in_zone(zones: &[u32], numbers: &[u32], z: u32, n: usize) -> u32
 
 // The sum of the numbers of each zone.
 pub fn zone_totals(zones: &[u32], numbers: &[u32], n: usize) -> [u32; 32]
-    requires {
-        ⌜ (n ≤ 32) × (length (now zones) ≡ 32) × (length (now numbers) ≡ 32) × AtMost 31 n (now zones) × AtMost 256 n (now numbers) ⌝
-    }
+    requires { ⌜ (n ≤ 32) × (length (now zones) ≡ 32) × (length (now numbers) ≡ 32) × AtMost 31 n (now zones) × AtMost 256 n (now numbers) ⌝ }
     ensures { λ r. ⌜ r ≡ column (λ z. inZone (cell (now (zones .entry))) (cell (now (numbers .entry))) z n) 32 ⌝ }
 {
     let mut sums = [0u32; 32];
@@ -63,11 +61,16 @@ pub fn zone_totals(zones: &[u32], numbers: &[u32], n: usize) -> [u32; 32]
 }
 
 // Whether caps have room for R copies of each partition, and, counting at most P in a zone, for Z copies of each.
-pub fn fit(zones: &[u32], caps: &[u32], n: usize, partitions: u32, replication: u32, redundancy: u32) -> bool
-    requires {
-        ⌜ (n ≤ 32) × (length (now zones) ≡ 32) × (length (now caps) ≡ 32) × (partitions ≤ 256) × (replication ≤ 8) × (redundancy ≤ 8)
-        × AtMost 31 n (now zones) × AtMost partitions n (now caps) ⌝
-    }
+pub fn fit(
+    zones: &[u32],
+    caps: &[u32],
+    n: usize,
+    partitions: u32,
+    replication: u32,
+    redundancy: u32,
+) -> bool
+    requires { ⌜ (n ≤ 32) × (length (now zones) ≡ 32) × (length (now caps) ≡ 32) × (partitions ≤ 256) × (replication ≤ 8) × (redundancy ≤ 8)
+        × AtMost 31 n (now zones) × AtMost partitions n (now caps) ⌝ }
     ensures { λ r. ⌜ r ≡ fits partitions n replication redundancy (cell (now (zones .entry))) (cell (now (caps .entry))) ⌝ }
 {
     if total(caps, n, partitions) < replication * partitions {

@@ -2,31 +2,17 @@
 -- Assumes nothing.
 use borrow.Author.Needs.{needs}
 use native.Mathlib.Omega.{arith}
-use Prim.Native.Nat.{ℕ, _≤_, _<_, _^_, _%_, min}
-use mathlib.Core.Path.{_≡_, sym, ap, _∙_}
-use mathlib.Core.List.{List}
-use lib.ListN.{length}
-use Rattle.sets.specs.Bits.{maskOf}
-use Rattle.cells.proofs.Cells.{length-put}
+use Prim.Native.Nat.{ℕ, _≤_, _<_}
+use mathlib.Core.Path.{_≡_, _∙_}
 use Rattle.cluster.specs.Terms.{topology, partitions}
 use Rattle.cluster.specs.Faults.{Accepted}
 use Rattle.cluster.proofs.Accepting.{accepted}
 use Rattle.dealing.specs.Deal.{start}
 use Rattle.sizing.specs.Columns.{cell}
-use Rattle.sizing.specs.Line.{reaches}
 use Rattle.sizing.proofs.Arrays.{partitions-few, zones-most, caps-most}
 use Rattle.sizing.proofs.Dealt.{copies-most, starts-low, arrays-deal}
 use Rattle.sizing.proofs.begin.Statement.{statement}
 use Rattle.sizing.proofs.begin.Tie as tie
-use Rattle.sizing.proofs.begin.Reads as reads
-use Rattle.sizing.proofs.begin.Lts as lts
-use Rattle.sizing.proofs.caps.Reads as caps-reads
-use Rattle.sizing.proofs.copies.given.Reads as given-reads
-use Rattle.sizing.proofs.line.deal.Reads as deal-reads
-use Rattle.sizing.proofs.line.starts.Reads as starts-reads
-use Rattle.sizing.proofs.nodes.partitions.Reads as partitions-reads
-use Rattle.sizing.proofs.nodes.used.Reads as used-reads
-use Rattle.sizing.proofs.zones.Reads as zones-reads
 
 used-requires : tie.Need-used-requires
 used-requires c κs = search needs
@@ -43,7 +29,7 @@ few c b l =
     let q = c .before .before in
     let s = q .before .before .before in
     let o = ok q in
-    let m = caps-most (topology (s .args .c)) (o .0 .few) (s .args .size) (c .caps .result) (c .caps .ensures) b (omega (arith, q .before .used .ensures)) in
+    let m = caps-most (topology (s .args .c)) (o .0 .few) (s .args .size) (c .caps .result) (c .caps .ensures .0) b (omega (arith, q .before .used .ensures)) in
     omega (arith, m, o .1, o .3)
 
 partitions-requires : tie.Need-partitions-requires
@@ -80,10 +66,14 @@ starts-requires c κs =
     let s = q .before .before .before in
     let o = ok q in
     let n = q .before .used in
-    let z = k .before .zones in
-    (search needs, search needs, search needs, o .2,
-    λ b l. zones-most (topology (s .args .c)) (o .0 .few) (z .result) (z .ensures) b (omega (arith, n .ensures)),
-    copies-most (q .partitions .result) (n .result) (s .args .c .replication) (cell (z .result)) (cell (k .caps .result)) (g .given .result) (search needs) (g .given .ensures) 256 (few k))
+    let z = k .before .zones in (
+      search needs,
+      search needs,
+      search needs,
+      o .2,
+      λ b l. zones-most (topology (s .args .c)) (o .0 .few) (z .result) (z .ensures) b (omega (arith, n .ensures)),
+      copies-most (q .partitions .result) (n .result) (s .args .c .replication) (cell (z .result)) (cell (k .caps .result)) (g .given .result) (search needs) (g .given .ensures) 256 (few k),
+    )
 
 slice-aggregate-deal : tie.Need-slice-aggregate-deal
 slice-aggregate-deal c = search needs
@@ -98,9 +88,14 @@ deal-requires c κs =
     let k = g .before .before .before in
     let q = k .before .before in
     let o = ok q in
-    let n = q .before .used in
-    (search needs, search needs, search needs, o .3, omega (arith, o .1, q .before .before .before .pre .1),
-    starts-low (q .partitions .result) (n .result) (start (q .partitions .result) (n .result) (cell (k .before .zones .result)) (cell (g .given .result))) (t .starts .result) (search needs) (o .2) (t .starts .ensures))
+    let n = q .before .used in (
+      search needs,
+      search needs,
+      search needs,
+      o .3,
+      omega (arith, o .1, q .before .before .before .pre .1),
+      starts-low (q .partitions .result) (n .result) (start (q .partitions .result) (n .result) (cell (k .before .zones .result)) (cell (g .given .result))) (t .starts .result) (search needs) (o .2) (t .starts .ensures),
+    )
 
 same-length : tie.Need-same-length
 same-length c = search needs
@@ -117,7 +112,7 @@ returns c =
     let n = q .before .used in
     d .deal .ensures
     ∙ arrays-deal (topology (s .args .c)) (s .args .size) (n .result) (q .partitions .result) (k .before .zones .result) (k .caps .result) (g .given .result) (t .starts .result) (s .args .rows .now)
-    (o .0 .few) (n .ensures .0) (o .1) (k .before .zones .ensures) (k .caps .ensures) (g .given .ensures) (t .starts .ensures)
+    (o .0 .few) (n .ensures .0) (o .1) (k .before .zones .ensures) (k .caps .ensures .0) (g .given .ensures) (t .starts .ensures)
 
 pub begin-spec : {M : Type 1} → statement M
 begin-spec =

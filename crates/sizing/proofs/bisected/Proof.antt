@@ -2,24 +2,17 @@
 -- Assumes nothing.
 use borrow.Author.Needs.{needs}
 use native.Mathlib.Omega.{arith}
-use Prim.Native.Nat.{ℕ, _+_, _-_, _^_, _≤_, _<_}
-use mathlib.Core.Path.{_≡_, refl, sym, ap, _∙_}
+use Prim.Native.Nat.{ℕ, _+_, _-_, _^_, _≤_}
+use mathlib.Core.Path.{_≡_, sym, ap, _∙_}
 use mathlib.Core.Bool.{true, false}
 use lib.Pow.{pow-pos}
 use Rattle.sets.proofs.Words.{word-one}
-use Rattle.cluster.specs.Terms.{topology, partitions}
-use Rattle.cluster.specs.Tie.{zoneIndex, capAt}
-use Rattle.dealing.specs.Deal.{fits}
-use Rattle.dealing.specs.Bisect.{bisect, bisectFrom}
-use Rattle.dealing.specs.Size.{bestSize}
-use Rattle.sizing.specs.Model.{nodesOf, zoneCells, sizeOf}
+use Rattle.cluster.specs.Terms.{topology}
+use Rattle.dealing.specs.Bisect.{bisectFrom}
+use Rattle.sizing.specs.Model.{sizeOf}
 use Rattle.sizing.proofs.Bisecting.{passing, size-begins, power-half, next-bit}
 use Rattle.sizing.proofs.bisected.Statement.{statement}
 use Rattle.sizing.proofs.bisected.Tie as tie
-use Rattle.sizing.proofs.bisected.Reads as reads
-use Rattle.sizing.proofs.bisected.Lts as lts
-use Rattle.sizing.proofs.passes.Reads as passes-reads
-use Rattle.sizing.proofs.zones.Reads as zones-reads
 
 abbrev Inv-loop : tie.InvT-loop
 Inv-loop c zones size₀ i₀ size i = (i ≤ 32) × (size + 2 ^ i ≤ 2 ^ 32) × (sizeOf (topology c) ≡ bisectFrom i (passing (topology c)) size)
@@ -57,23 +50,25 @@ loop-again : tie.Need-loop-again Inv-loop μ-loop
 loop-again c =
     let k = c .before .before .before .before .loop in
     let t = topology (c .before .before .before .before .before .before .args .c) in
-    let w = word-one (k .i - 1) (omega arith) in
-    (search needs,
-    omega (arith, w, power-half (k .i) (omega arith)),
-    k .inv .2 ∙ (next-bit (passing t) (k .i) (k .size) true (omega arith) (sym (c .if1 .taken) ∙ (c .before .passes .ensures ∙ ap (λ (x : ℕ). passing t (k .size + x)) w))
-    ∙ ap (λ (x : ℕ). bisectFrom (k .i - 1) (passing t) (k .size + x)) (sym w)))
+    let w = word-one (k .i - 1) (omega arith) in (
+      search needs,
+      omega (arith, w, power-half (k .i) (omega arith)),
+      k .inv .2 ∙ (next-bit (passing t) (k .i) (k .size) true (omega arith) (sym (c .if1 .taken) ∙ (c .before .passes .ensures ∙ ap (λ (x : ℕ). passing t (k .size + x)) w))
+          ∙ ap (λ (x : ℕ). bisectFrom (k .i - 1) (passing t) (k .size + x)) (sym w)),
+    )
 
 loop-less-2 : tie.Need-loop-less-2 Inv-loop μ-loop
 loop-less-2 c = search needs
 
 loop-again-2 : tie.Need-loop-again-2 Inv-loop μ-loop
-loop-again-2 c = 
+loop-again-2 c =
     let k = c .before .before .before .before .loop in
     let t = topology (c .before .before .before .before .before .before .args .c) in
-    let w = word-one (k .i - 1) (omega arith) in
-    (search needs,
-    omega (arith, power-half (k .i) (omega arith)),
-    k .inv .2 ∙ next-bit (passing t) (k .i) (k .size) false (omega arith) (sym (c .if1 .left) ∙ (c .before .passes .ensures ∙ ap (λ (x : ℕ). passing t (k .size + x)) w)))
+    let w = word-one (k .i - 1) (omega arith) in (
+      search needs,
+      omega (arith, power-half (k .i) (omega arith)),
+      k .inv .2 ∙ next-bit (passing t) (k .i) (k .size) false (omega arith) (sym (c .if1 .left) ∙ (c .before .passes .ensures ∙ ap (λ (x : ℕ). passing t (k .size + x)) w)),
+    )
 
 returns : tie.Need-returns Inv-loop μ-loop
 unfolding bisectFrom

@@ -2,8 +2,10 @@
 -- Assumes nothing.
 use borrow.Author.Needs.{needs}
 use native.Mathlib.Omega.{arith}
-use Prim.Native.Nat.{ℕ, _/_, _^_, _≤_, min}
-use mathlib.Core.Path.{_≡_, sym, ap, _∙_}
+use Prim.Native.Nat.{ℕ, _/_, _^_, _<_, min}
+use mathlib.Core.Path.{_≡_, ap, _∙_, subst}
+use mir.Val.{Fits}
+use mir.Syntax.{w32}
 use Rattle.cluster.specs.Terms.{topology, nodeAt}
 use Rattle.cluster.specs.Tie.{capAt}
 use Rattle.sizing.specs.Columns.{cell, column}
@@ -12,14 +14,17 @@ use Rattle.sizing.proofs.Columns.{column-cong}
 use Rattle.sizing.proofs.Arrays.{cells-agree}
 use Rattle.sizing.proofs.caps.Statement.{statement}
 use Rattle.sizing.proofs.caps.Tie as tie
-use Rattle.sizing.proofs.caps.Reads as reads
-use Rattle.sizing.proofs.caps.Lts as lts
-use Rattle.sizing.proofs.nodes.capacities.Reads as capacities-reads
-use Rattle.sizing.proofs.nodes.caps_at.Reads as caps-at-reads
-use Rattle.sizing.proofs.nodes.used.Reads as used-reads
 
 used-requires : tie.Need-used-requires
 used-requires c κs = search needs
+
+held : (c : tie.After-capacities) (b : ℕ) → b < nodesOf (topology (c .before .before .args .c)) → cell (c .capacities .result) b ≡ nodeAt (topology (c .before .before .args .c)) b .capacity
+held c b l =
+    let t = topology (c .before .before .args .c) in
+    cells-agree (λ i. nodeAt t i .capacity) (nodesOf t) (c .capacities .result) (omega (arith, c .before .used .ensures)) (c .capacities .ensures) b l
+
+low : (c : tie.After-capacities) (b : ℕ) → Fits w32 (cell (c .capacities .result) b)
+low c b = search needs
 
 capacities-requires : tie.Need-capacities-requires
 capacities-requires c κs = search needs
@@ -33,15 +38,15 @@ caps-at-requires c κs = search needs
 returns : tie.Need-returns
 unfolding capCells capAt
 returns c =
-    let s = c .before .before .before .before in
-    let t = topology (s .args .c) in
-    let n = c .before .before .before .used in
-    let k = c .before .before .capacities in
-    c .caps-at .ensures
-    ∙ (ap (column (λ b. min (2 ^ s .args .c .bits) (cell (k .result) b / s .args .size))) (n .ensures .0)
-    ∙ column-cong (λ b. min (2 ^ s .args .c .bits) (cell (k .result) b / s .args .size)) (capAt t (s .args .size)) (nodesOf t)
-    (λ b l. ap (λ (x : ℕ). min (2 ^ s .args .c .bits) (x / s .args .size))
-    (cells-agree (λ i. nodeAt t i .capacity) (nodesOf t) (k .result) (omega (arith, n .ensures)) (k .ensures) b l)))
+    let k = c .before .before in
+    let a = k .before .before .args in
+    let t = topology (a .c) in (
+      c .caps-at .ensures
+          ∙ (ap (column (λ b. min (2 ^ a .c .bits) (cell (k .capacities .result) b / a .size))) (k .before .used .ensures .0)
+          ∙ column-cong (λ b. min (2 ^ a .c .bits) (cell (k .capacities .result) b / a .size)) (capAt t (a .size)) (nodesOf t)
+          (λ b l. ap (λ (x : ℕ). min (2 ^ a .c .bits) (x / a .size)) (held k b l))),
+      λ b l. subst (λ (x : ℕ). x < 2 ^ 32) (held k b l) (low k b .fits),
+    )
 
 pub caps-spec : {M : Type 1} → statement M
 caps-spec =

@@ -2,15 +2,12 @@
 -- Assumes nothing.
 use borrow.Author.Needs.{needs}
 use native.Mathlib.Omega.{arith}
-use Prim.Native.Nat.{ℕ, _≤_, _<_, _^_, min}
 use mathlib.Core.Path.{_≡_, sym, ap, ap₂, _∙_}
-use mathlib.Core.Bool.{Bool, true, false, _&&_}
-use mathlib.Core.List.{List}
+use mathlib.Core.Bool.{Bool, _&&_}
 use lib.Dec.{leb}
 use lib.ListN.{length}
 use borrow.Author.Tests.{eq-eqb, ne-eqb, le-leb, lt-leb}
 use Rattle.sums.specs.Sum.{pick}
-use Rattle.cells.proofs.Cells.{length-put}
 use Rattle.cluster.specs.Terms.{topology, partitions}
 use Rattle.cluster.specs.Faults.{faultOf}
 use Rattle.cluster.proofs.Accepting.{accepted}
@@ -18,11 +15,6 @@ use Rattle.sizing.specs.Model.{dealtRows, dealtIn}
 use Rattle.sizing.proofs.Arrays.{partitions-few}
 use Rattle.sizing.proofs.deal.Statement.{statement}
 use Rattle.sizing.proofs.deal.Tie as tie
-use Rattle.sizing.proofs.deal.Reads as reads
-use Rattle.sizing.proofs.deal.Lts as lts
-use Rattle.cluster.proofs.Cluster.fault.Reads as fault-reads
-use Rattle.sizing.proofs.begin.Reads as begin-reads
-use Rattle.sizing.proofs.nodes.partitions.Reads as partitions-reads
 
 known : (c : tie.After-partitions) → (faultOf (c .before .before .before .before .args .c) ≡ 0) × (c .partitions .result ≡ partitions (topology (c .before .before .before .before .args .c)))
 known c =

@@ -2,8 +2,8 @@
 -- Assumes nothing.
 use borrow.Author.Needs.{needs}
 use native.Mathlib.Omega.{arith}
-use Prim.Native.Nat.{ℕ, _-_, _≤_, min}
-use mathlib.Core.Path.{_≡_, sym, ap, _∙_}
+use Prim.Native.Nat.{ℕ, _-_, _≤_}
+use mathlib.Core.Path.{_≡_, ap, _∙_}
 use Rattle.sums.specs.Sum.{is}
 use Rattle.sets.specs.Bits.{maskOf}
 use Rattle.sizing.specs.Columns.{cell, column}
@@ -11,10 +11,6 @@ use Rattle.sizing.specs.Model.{mateCells}
 use Rattle.sizing.proofs.Columns.{column-none, column-next, column-end}
 use Rattle.sizing.proofs.mates.Statement.{statement}
 use Rattle.sizing.proofs.mates.Tie as tie
-use Rattle.sizing.proofs.mates.Reads as reads
-use Rattle.sizing.proofs.mates.Lts as lts
-use Rattle.sizing.proofs.nodes.cut.Reads as cut-reads
-use Rattle.sizing.proofs.nodes.of_zone.Reads as of-zone-reads
 
 abbrev Inv-loop : tie.InvT-loop
 Inv-loop n zones m mates₀ b₀ mates b = (b ≤ m) × (m ≤ 32) × (mates ≡ column (λ i. maskOf (λ x. is (cell zones x) (cell zones i)) m) b)
@@ -56,9 +52,11 @@ loop-again : tie.Need-loop-again Inv-loop μ-loop
 loop-again c =
     let k = c .before .before .before in
     let z = k .before .before .args .t1 in
-    let m = k .before .cut .result in
-    (search needs, search needs,
-    column-next (λ i. maskOf (λ x. is (cell z x) (cell z i)) m) (k .loop .mates) (k .loop .b) (c .of-zone .result) (k .loop .inv .2) (c .of-zone .ensures))
+    let m = k .before .cut .result in (
+      search needs,
+      search needs,
+      column-next (λ i. maskOf (λ x. is (cell z x) (cell z i)) m) (k .loop .mates) (k .loop .b) (c .of-zone .result) (k .loop .inv .2) (c .of-zone .ensures),
+    )
 
 returns : tie.Need-returns Inv-loop μ-loop
 unfolding mateCells

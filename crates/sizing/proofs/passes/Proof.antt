@@ -2,21 +2,13 @@
 -- Assumes nothing.
 use borrow.Author.Needs.{needs}
 use native.Mathlib.Omega.{arith}
-use Prim.Native.Nat.{ℕ, _≤_, _^_, min}
-use mathlib.Core.Path.{_≡_, sym, ap, _∙_}
-use lib.Pow.{pow-mono}
+use mathlib.Core.Path.{_∙_}
 use Rattle.cluster.specs.Terms.{topology}
 use Rattle.cluster.specs.Faults.{Accepted}
 use Rattle.cluster.proofs.Accepting.{accepted}
 use Rattle.sizing.proofs.Arrays.{partitions-few, zones-long, zones-most, caps-long, caps-most, arrays-fit}
 use Rattle.sizing.proofs.passes.Statement.{statement}
 use Rattle.sizing.proofs.passes.Tie as tie
-use Rattle.sizing.proofs.passes.Reads as reads
-use Rattle.sizing.proofs.passes.Lts as lts
-use Rattle.sizing.proofs.caps.Reads as caps-reads
-use Rattle.sizing.proofs.nodes.partitions.Reads as partitions-reads
-use Rattle.sizing.proofs.nodes.used.Reads as used-reads
-use Rattle.sizing.proofs.totals.fit.Reads as fit-reads
 
 used-requires : tie.Need-used-requires
 used-requires c κs = search needs
@@ -37,15 +29,16 @@ fit-requires c κs =
     let n = c .before .before .before .used in
     let k = c .before .before .caps in
     let a : Accepted t = accepted (s .args .c) (s .pre .0) in
-    let p = partitions-few t a in
-    (search needs,
-    zones-long t (a .few) (s .args .zones .now) (s .pre .1),
-    caps-long t (a .few) (s .args .size) (k .result) (k .ensures),
-    omega (arith, c .partitions .ensures, p),
-    omega (arith, a .replication),
-    omega (arith, a .redundancy, a .replication),
-    λ b l. zones-most t (a .few) (s .args .zones .now) (s .pre .1) b (omega (arith, n .ensures)),
-    λ b l. omega (arith, c .partitions .ensures, p, caps-most t (a .few) (s .args .size) (k .result) (k .ensures) b (omega (arith, n .ensures))))
+    let p = partitions-few t a in (
+      search needs,
+      zones-long t (a .few) (s .args .zones .now) (s .pre .1),
+      caps-long t (a .few) (s .args .size) (k .result) (k .ensures .0),
+      omega (arith, c .partitions .ensures, p),
+      omega (arith, a .replication),
+      omega (arith, a .redundancy, a .replication),
+      λ b l. zones-most t (a .few) (s .args .zones .now) (s .pre .1) b (omega (arith, n .ensures)),
+      λ b l. omega (arith, c .partitions .ensures, p, caps-most t (a .few) (s .args .size) (k .result) (k .ensures .0) b (omega (arith, n .ensures))),
+    )
 
 returns : tie.Need-returns
 returns c =
@@ -57,7 +50,7 @@ returns c =
     let a : Accepted t = accepted (s .args .c) (s .pre .0) in
     c .fit .ensures
     ∙ arrays-fit t (a .few) (s .args .size) (n .result) (q .result) (s .args .zones .now) (k .result) (n .ensures .0)
-    (omega (arith, q .ensures, partitions-few t a)) (s .pre .1) (k .ensures)
+    (omega (arith, q .ensures, partitions-few t a)) (s .pre .1) (k .ensures .0)
 
 pub passes-spec : {M : Type 1} → statement M
 passes-spec =

@@ -1,8 +1,6 @@
 -- `sizing::size` meets its contract.
 -- Assumes nothing.
 use borrow.Author.Needs.{needs}
-use native.Mathlib.Omega.{arith}
-use Prim.Native.Nat.{ℕ}
 use mathlib.Core.Path.{_≡_, sym, ap, _∙_}
 use mathlib.Core.Bool.{Bool}
 use borrow.Author.Tests.{eq-eqb, ne-eqb}
@@ -12,10 +10,6 @@ use Rattle.cluster.specs.Faults.{faultOf}
 use Rattle.sizing.specs.Model.{sizeOf, sizeIn}
 use Rattle.sizing.proofs.size.Statement.{statement}
 use Rattle.sizing.proofs.size.Tie as tie
-use Rattle.sizing.proofs.size.Reads as reads
-use Rattle.sizing.proofs.size.Lts as lts
-use Rattle.cluster.proofs.Cluster.fault.Reads as fault-reads
-use Rattle.sizing.proofs.bisected.Reads as bisected-reads
 
 fault-requires : tie.Need-fault-requires
 fault-requires c κs = search needs

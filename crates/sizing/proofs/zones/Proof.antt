@@ -2,10 +2,8 @@
 -- Assumes nothing.
 use borrow.Author.Needs.{needs}
 use native.Mathlib.Omega.{arith}
-use Prim.Native.Nat.{ℕ, _-_, _≤_, _<_}
-use mathlib.Core.Path.{_≡_, sym, ap, ap₂, _∙_}
-use mathlib.Core.List.{List}
-use lib.ListN.{length, set, getD}
+use Prim.Native.Nat.{_-_, _≤_}
+use mathlib.Core.Path.{_≡_}
 use Rattle.cluster.specs.Terms.{topology}
 use Rattle.cluster.specs.Tie.{zoneIndex}
 use Rattle.sizing.specs.Columns.{column}
@@ -13,10 +11,6 @@ use Rattle.sizing.specs.Model.{zoneCells}
 use Rattle.sizing.proofs.Columns.{column-none, column-next, column-end}
 use Rattle.sizing.proofs.zones.Statement.{statement}
 use Rattle.sizing.proofs.zones.Tie as tie
-use Rattle.sizing.proofs.zones.Reads as reads
-use Rattle.sizing.proofs.zones.Lts as lts
-use Rattle.sizing.proofs.nodes.used.Reads as used-reads
-use Rattle.sizing.proofs.nodes.zone_index.Reads as zone-index-reads
 
 abbrev Inv-loop : tie.InvT-loop
 Inv-loop c n zones₀ b₀ zones b = (b ≤ n) × (n ≤ 32) × (n ≤ c .count) × (zones ≡ column (zoneIndex (topology c)) b)

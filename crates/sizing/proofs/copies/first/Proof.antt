@@ -2,8 +2,8 @@
 -- Assumes nothing.
 use borrow.Author.Needs.{needs}
 use native.Mathlib.Omega.{arith}
-use Prim.Native.Nat.{ℕ, _-_, _≤_}
-use mathlib.Core.Path.{_≡_, refl, sym, ap, _∙_}
+use Prim.Native.Nat.{_-_, _≤_}
+use mathlib.Core.Path.{_≡_}
 use Rattle.sums.specs.Sum.{sumTo}
 use Rattle.dealing.specs.Deal.{pour, zoned}
 use Rattle.sizing.specs.Columns.{cell, column}
@@ -11,10 +11,6 @@ use Rattle.sizing.proofs.Columns.{column-none, column-next, column-end}
 use Rattle.sizing.proofs.Pouring.{pour-here, pour-left}
 use Rattle.sizing.proofs.copies.first.Statement.{statement}
 use Rattle.sizing.proofs.copies.first.Tie as tie
-use Rattle.sizing.proofs.copies.first.Reads as reads
-use Rattle.sizing.proofs.copies.first.Lts as lts
-use Rattle.sizing.proofs.copies.zoned.Reads as zoned-reads
-use Rattle.sizing.proofs.totals.least.Reads as least-reads
 
 abbrev Inv-loop : tie.InvT-loop
 Inv-loop zones caps n partitions room copies₀ left₀ b₀ copies left b = (b ≤ n) × (n ≤ 32) × (left ≡ room - sumTo b (zoned partitions (cell zones) (cell caps))) × (copies ≡ column (pour room (zoned partitions (cell zones) (cell caps))) b)
@@ -55,10 +51,12 @@ loop-again c =
     let a = k .before .before .before .args in
     let z = c .before .zoned in
     let f = zoned (a .partitions) (cell (a .zones .now)) (cell (a .caps .now)) in
-    let v = pour-here f (a .room) (k .loop .b) (k .loop .left) (z .result) (c .least .result) (k .loop .inv .2) (z .ensures) (c .least .ensures) in
-    (search needs, search needs,
-    pour-left f (a .room) (k .loop .b) (k .loop .left) (z .result) (c .least .result) (k .loop .inv .2) (z .ensures) (c .least .ensures),
-    column-next (pour (a .room) f) (k .loop .copies) (k .loop .b) (c .least .result) (k .loop .inv .3) v)
+    let v = pour-here f (a .room) (k .loop .b) (k .loop .left) (z .result) (c .least .result) (k .loop .inv .2) (z .ensures) (c .least .ensures) in (
+      search needs,
+      search needs,
+      pour-left f (a .room) (k .loop .b) (k .loop .left) (z .result) (c .least .result) (k .loop .inv .2) (z .ensures) (c .least .ensures),
+      column-next (pour (a .room) f) (k .loop .copies) (k .loop .b) (c .least .result) (k .loop .inv .3) v,
+    )
 
 returns : tie.Need-returns Inv-loop μ-loop
 returns c =

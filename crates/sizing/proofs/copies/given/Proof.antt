@@ -8,12 +8,6 @@ use Rattle.sizing.specs.Columns.{cell}
 use Rattle.sizing.proofs.Giving.{first-most, second-given}
 use Rattle.sizing.proofs.copies.given.Statement.{statement}
 use Rattle.sizing.proofs.copies.given.Tie as tie
-use Rattle.sizing.proofs.copies.given.Reads as reads
-use Rattle.sizing.proofs.copies.given.Lts as lts
-use Rattle.sizing.proofs.copies.first.Reads as first-reads
-use Rattle.sizing.proofs.copies.less.Reads as less-reads
-use Rattle.sizing.proofs.copies.second.Reads as second-reads
-use Rattle.sizing.proofs.totals.total.Reads as total-reads
 
 mul-room : tie.Need-mul-room
 mul-room c =
@@ -39,9 +33,13 @@ second-requires : tie.Need-second-requires
 second-requires c κs =
     let s = c .before .before .before .before .before .before .before in
     let a = s .args in
-    let f = c .before .before .before .before .first in
-    (search needs, search needs, search needs, s .pre .5,
-    first-most (a .partitions) (a .n) (a .replication) (cell (a .zones .now)) (cell (a .caps .now)) (search needs) (f .result) (f .ensures) 256 (s .pre .5))
+    let f = c .before .before .before .before .first in (
+      search needs,
+      search needs,
+      search needs,
+      s .pre .5,
+      first-most (a .partitions) (a .n) (a .replication) (cell (a .zones .now)) (cell (a .caps .now)) (search needs) (f .result) (f .ensures) 256 (s .pre .5),
+    )
 
 returns : tie.Need-returns
 returns c =

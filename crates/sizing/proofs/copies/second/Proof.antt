@@ -3,7 +3,7 @@
 use borrow.Author.Needs.{needs}
 use native.Mathlib.Omega.{arith}
 use Prim.Native.Nat.{ℕ, _+_, _-_, _≤_}
-use mathlib.Core.Path.{_≡_, refl, sym, ap, _∙_}
+use mathlib.Core.Path.{_≡_, ap}
 use Rattle.sums.specs.Sum.{sumTo}
 use Rattle.dealing.specs.Deal.{pour}
 use Rattle.sizing.specs.Columns.{cell, column}
@@ -11,10 +11,6 @@ use Rattle.sizing.proofs.Columns.{column-none, column-next, column-end}
 use Rattle.sizing.proofs.Pouring.{pour-here, pour-left}
 use Rattle.sizing.proofs.copies.second.Statement.{statement}
 use Rattle.sizing.proofs.copies.second.Tie as tie
-use Rattle.sizing.proofs.copies.second.Reads as reads
-use Rattle.sizing.proofs.copies.second.Lts as lts
-use Rattle.sizing.proofs.copies.less.Reads as less-reads
-use Rattle.sizing.proofs.totals.least.Reads as least-reads
 
 abbrev Inv-loop : tie.InvT-loop
 Inv-loop caps first n room copies₀ left₀ b₀ copies left b = (b ≤ n) × (n ≤ 32) × (left ≡ room - sumTo b (λ x. cell caps x - cell first x)) × (copies ≡ column (λ i. cell first i + pour room (λ x. cell caps x - cell first x) i) b)
@@ -78,11 +74,13 @@ loop-again c =
     let z = c .before .before .less in
     let x = c .before .least in
     let f : ℕ → ℕ = λ i. cell (a .caps .now) i - cell (a .first .now) i in
-    let v = pour-here f (a .room) (k .loop .b) (k .loop .left) (z .result) (x .result) (k .loop .inv .2) (z .ensures) (x .ensures) in
-    (search needs, search needs,
-    pour-left f (a .room) (k .loop .b) (k .loop .left) (z .result) (x .result) (k .loop .inv .2) (z .ensures) (x .ensures),
-    column-next (λ i. cell (a .first .now) i + pour (a .room) f i) (k .loop .copies) (k .loop .b) _ (k .loop .inv .3)
-    (ap (λ (y : ℕ). cell (a .first .now) (k .loop .b) + y) v))
+    let v = pour-here f (a .room) (k .loop .b) (k .loop .left) (z .result) (x .result) (k .loop .inv .2) (z .ensures) (x .ensures) in (
+      search needs,
+      search needs,
+      pour-left f (a .room) (k .loop .b) (k .loop .left) (z .result) (x .result) (k .loop .inv .2) (z .ensures) (x .ensures),
+      column-next (λ i. cell (a .first .now) i + pour (a .room) f i) (k .loop .copies) (k .loop .b) _ (k .loop .inv .3)
+          (ap (λ (y : ℕ). cell (a .first .now) (k .loop .b) + y) v),
+    )
 
 returns : tie.Need-returns Inv-loop μ-loop
 returns c =

@@ -5,11 +5,6 @@ use native.Mathlib.Omega.{arith}
 use Rattle.dealing.specs.Deal.{zoned}
 use Rattle.sizing.proofs.copies.zoned.Statement.{statement}
 use Rattle.sizing.proofs.copies.zoned.Tie as tie
-use Rattle.sizing.proofs.copies.zoned.Reads as reads
-use Rattle.sizing.proofs.copies.zoned.Lts as lts
-use Rattle.sizing.proofs.copies.less.Reads as less-reads
-use Rattle.sizing.proofs.totals.in_zone.Reads as in-zone-reads
-use Rattle.sizing.proofs.totals.least.Reads as least-reads
 
 mul-least : tie.Need-mul-least
 mul-least c = search needs

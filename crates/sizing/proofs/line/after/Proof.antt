@@ -1,12 +1,9 @@
 -- `sizing::line::after` meets its contract.
 -- Assumes nothing.
 use borrow.Author.Needs.{needs}
-use native.Mathlib.Omega.{arith}
 use Rattle.sizing.proofs.Lining.{after-round, after-on}
 use Rattle.sizing.proofs.line.after.Statement.{statement}
 use Rattle.sizing.proofs.line.after.Tie as tie
-use Rattle.sizing.proofs.line.after.Reads as reads
-use Rattle.sizing.proofs.line.after.Lts as lts
 
 add-result : tie.Need-add-result
 add-result c = search needs

@@ -3,7 +3,7 @@
 use borrow.Author.Needs.{needs}
 use native.Mathlib.Omega.{arith}
 use Prim.Native.Nat.{ℕ, _-_, _≤_}
-use mathlib.Core.Path.{_≡_, sym, ap, _∙_}
+use mathlib.Core.Path.{_≡_, ap, _∙_}
 use lib.ListN.{length}
 use Rattle.sets.specs.Bits.{maskOf}
 use Rattle.cells.specs.Cells.{put}
@@ -13,9 +13,6 @@ use Rattle.sizing.specs.Line.{reaches}
 use Rattle.sizing.proofs.Columns.{put-next}
 use Rattle.sizing.proofs.line.deal.Statement.{statement}
 use Rattle.sizing.proofs.line.deal.Tie as tie
-use Rattle.sizing.proofs.line.deal.Reads as reads
-use Rattle.sizing.proofs.line.deal.Lts as lts
-use Rattle.sizing.proofs.line.row.Reads as row-reads
 
 abbrev Inv-loop : tie.InvT-loop
 Inv-loop rows₀ starts copies n partitions p₀ rows p = (p ≤ partitions) × (partitions ≤ 256) × (partitions ≤ length rows₀) × (length rows ≡ length rows₀) × (rows ≡ put 0 (λ q. maskOf (λ b. reaches partitions (cell starts b) (cell copies b) q) n) p rows₀)
@@ -47,9 +44,13 @@ loop-less c = search needs
 loop-again : tie.Need-loop-again Inv-loop μ-loop
 loop-again c =
     let k = c .before .before in
-    let a = k .before .before .before .before .args in
-    (search needs, search needs, search needs, search needs,
-    put-next (λ q. maskOf (λ b. reaches (a .partitions) (cell (a .starts .now) b) (cell (a .copies .now) b) q) (a .n)) (a .rows .now) (k .loop .rows) (k .loop .p) (c .row .result) (k .loop .inv .4) (c .row .ensures))
+    let a = k .before .before .before .before .args in (
+      search needs,
+      search needs,
+      search needs,
+      search needs,
+      put-next (λ q. maskOf (λ b. reaches (a .partitions) (cell (a .starts .now) b) (cell (a .copies .now) b) q) (a .n)) (a .rows .now) (k .loop .rows) (k .loop .p) (c .row .result) (k .loop .inv .4) (c .row .ensures),
+    )
 
 same-length : tie.Need-same-length Inv-loop μ-loop
 same-length c = search needs

@@ -2,8 +2,8 @@
 -- Assumes nothing.
 use borrow.Author.Needs.{needs}
 use native.Mathlib.Omega.{arith}
-use Prim.Native.Nat.{ℕ, _+_, _*_, _-_, _≤_}
-use mathlib.Core.Path.{_≡_, refl, sym, ap, _∙_}
+use Prim.Native.Nat.{ℕ, _*_, _-_, _≤_}
+use mathlib.Core.Path.{_≡_, refl, ap, _∙_}
 use mathlib.Core.Logic.{⊎-elim}
 use Rattle.sums.specs.Sum.{sumTo}
 use Rattle.sizing.specs.Columns.{cell}
@@ -12,8 +12,6 @@ use Rattle.sizing.proofs.Adding.{sum-next}
 use Rattle.sizing.proofs.Lining.{heavy-some, heavy-none}
 use Rattle.sizing.proofs.line.heavy.Statement.{statement}
 use Rattle.sizing.proofs.line.heavy.Tie as tie
-use Rattle.sizing.proofs.line.heavy.Reads as reads
-use Rattle.sizing.proofs.line.heavy.Lts as lts
 
 abbrev Inv-loop : tie.InvT-loop
 Inv-loop sums n partitions sum₀ z₀ sum z = (z ≤ n) × (sum ≤ 8192 * z) × (sum ≡ sumTo z (heavyOf partitions (cell sums)))
@@ -52,11 +50,12 @@ loop-again : tie.Need-loop-again Inv-loop μ-loop
 loop-again c =
     let k = c .before .before .before in
     let a = k .before .args in
-    let f = cell (a .sums .now) in
-    (search needs,
-    ⊎-elim (λ w. omega (arith, k .before .pre .2 (k .loop .z) (omega arith))) (λ w. omega arith) (c .if1 .came),
-    ⊎-elim (λ w. w .2 ∙ sum-next (heavyOf (a .partitions) f) (k .loop .z) (k .loop .sum) (f (k .loop .z)) (k .loop .inv .2) (heavy-some (a .partitions) f (k .loop .z) (w .0 .taken)))
-    (λ w. w .1 ∙ omega (arith, sum-next (heavyOf (a .partitions) f) (k .loop .z) (k .loop .sum) 0 (k .loop .inv .2) (heavy-none (a .partitions) f (k .loop .z) (w .0 .left)))) (c .if1 .came))
+    let f = cell (a .sums .now) in (
+      search needs,
+      ⊎-elim (λ w. omega (arith, k .before .pre .2 (k .loop .z) (omega arith))) (λ w. omega arith) (c .if1 .came),
+      ⊎-elim (λ w. w .2 ∙ sum-next (heavyOf (a .partitions) f) (k .loop .z) (k .loop .sum) (f (k .loop .z)) (k .loop .inv .2) (heavy-some (a .partitions) f (k .loop .z) (w .0 .taken)))
+          (λ w. w .1 ∙ omega (arith, sum-next (heavyOf (a .partitions) f) (k .loop .z) (k .loop .sum) 0 (k .loop .inv .2) (heavy-none (a .partitions) f (k .loop .z) (w .0 .left)))) (c .if1 .came),
+    )
 
 returns : tie.Need-returns Inv-loop μ-loop
 returns c =

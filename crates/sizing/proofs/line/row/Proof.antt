@@ -2,8 +2,8 @@
 -- Assumes nothing.
 use borrow.Author.Needs.{needs}
 use native.Mathlib.Omega.{arith}
-use Prim.Native.Nat.{ℕ, _+_, _-_, _≤_}
-use mathlib.Core.Path.{_≡_, refl, sym, ap, _∙_}
+use Prim.Native.Nat.{ℕ, _-_, _≤_}
+use mathlib.Core.Path.{_≡_, refl, ap, _∙_}
 use mathlib.Core.Logic.{⊎-elim}
 use Rattle.sets.specs.Bits.{maskOf}
 use Rattle.sizing.specs.Columns.{cell}
@@ -12,10 +12,6 @@ use Rattle.sizing.proofs.Masks.{mask-here, mask-not-here}
 use Rattle.sizing.proofs.Lining.{reaches-some, reaches-none}
 use Rattle.sizing.proofs.line.row.Statement.{statement}
 use Rattle.sizing.proofs.line.row.Tie as tie
-use Rattle.sizing.proofs.line.row.Reads as reads
-use Rattle.sizing.proofs.line.row.Lts as lts
-use Rattle.sets.proofs.with.Reads as with-reads
-use Rattle.sizing.proofs.line.after.Reads as after-reads
 
 abbrev Inv-loop : tie.InvT-loop
 Inv-loop starts copies n partitions p mask₀ b₀ mask b = (b ≤ n) × (mask ≡ maskOf (λ i. reaches partitions (cell starts i) (cell copies i) p) b)
@@ -63,14 +59,15 @@ loop-again c =
     let d = c .before .before .after in
     let s = cell (a .starts .now) (k .loop .b) in
     let m = cell (a .copies .now) (k .loop .b) in
-    let f : ℕ → ℕ = λ i. reaches (a .partitions) (cell (a .starts .now) i) (cell (a .copies .now) i) (a .p) in
-    (search needs,
-    ⊎-elim
-    (λ w. w .2 ∙ (w .1 .ensures ∙ mask-here f (k .loop .b) (k .loop .mask) (k .loop .inv .1) (omega arith)
-    (omega (arith, reaches-some (a .partitions) s m (a .p) (d .result) (d .ensures) (w .0 .taken)))))
-    (λ w. w .1 ∙ mask-not-here f (k .loop .b) (k .loop .mask) (k .loop .inv .1)
-    (reaches-none (a .partitions) s m (a .p) (d .result) (d .ensures) (w .0 .left)))
-    (c .if1 .came))
+    let f : ℕ → ℕ = λ i. reaches (a .partitions) (cell (a .starts .now) i) (cell (a .copies .now) i) (a .p) in (
+      search needs,
+      ⊎-elim
+          (λ w. w .2 ∙ (w .1 .ensures ∙ mask-here f (k .loop .b) (k .loop .mask) (k .loop .inv .1) (omega arith)
+          (omega (arith, reaches-some (a .partitions) s m (a .p) (d .result) (d .ensures) (w .0 .taken)))))
+          (λ w. w .1 ∙ mask-not-here f (k .loop .b) (k .loop .mask) (k .loop .inv .1)
+          (reaches-none (a .partitions) s m (a .p) (d .result) (d .ensures) (w .0 .left)))
+          (c .if1 .came),
+    )
 
 returns : tie.Need-returns Inv-loop μ-loop
 returns c =

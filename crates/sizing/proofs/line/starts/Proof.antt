@@ -2,22 +2,15 @@
 -- Assumes nothing.
 use borrow.Author.Needs.{needs}
 use native.Mathlib.Omega.{arith}
-use Prim.Native.Nat.{ℕ, _+_, _*_, _-_, _%_, _≤_, _<_}
-use mathlib.Core.Path.{_≡_, sym, ap, _∙_}
-use mathlib.Core.List.{List}
-use Rattle.dealing.specs.Deal.{inZone, start}
+use Prim.Native.Nat.{ℕ, _-_, _%_, _≤_}
+use mathlib.Core.Path.{_≡_, ap}
+use Rattle.dealing.specs.Deal.{start}
 use Rattle.sizing.specs.Columns.{cell, column}
 use Rattle.sizing.proofs.Columns.{column-none, column-next, column-end}
 use Rattle.sizing.proofs.Adding.{zone-bound}
-use Rattle.sizing.proofs.Arrays.{cells-agree}
 use Rattle.sizing.proofs.Lining.{begins-bound, totals-most, start-cells}
 use Rattle.sizing.proofs.line.starts.Statement.{statement}
 use Rattle.sizing.proofs.line.starts.Tie as tie
-use Rattle.sizing.proofs.line.starts.Reads as reads
-use Rattle.sizing.proofs.line.starts.Lts as lts
-use Rattle.sizing.proofs.line.zone_begins.Reads as zone-begins-reads
-use Rattle.sizing.proofs.totals.in_zone.Reads as in-zone-reads
-use Rattle.sizing.proofs.totals.zone_totals.Reads as zone-totals-reads
 
 abbrev Inv-loop : tie.InvT-loop
 Inv-loop zones copies n partitions sums starts₀ b₀ starts b = (b ≤ n) × (n ≤ 32) × (starts ≡ column (λ i. start partitions n (cell zones) (cell copies) i % partitions) b)
@@ -49,9 +42,12 @@ zone-begins-requires : tie.Need-zone-begins-requires Inv-loop μ-loop
 zone-begins-requires c κs =
     let k = c .before .before .before in
     let s = k .before .before .before .before in
-    let t = k .before .zone-totals in
-    (omega (arith, s .pre .4 (k .loop .b) (omega arith)), search needs, search needs,
-    totals-most (cell (s .args .zones .now)) (cell (s .args .copies .now)) (s .args .n) (t .result) (search needs) (s .pre .5) (t .ensures))
+    let t = k .before .zone-totals in (
+      omega (arith, s .pre .4 (k .loop .b) (omega arith)),
+      search needs,
+      search needs,
+      totals-most (cell (s .args .zones .now)) (cell (s .args .copies .now)) (s .args .n) (t .result) (search needs) (s .pre .5) (t .ensures),
+    )
 
 in-zone-requires : tie.Need-in-zone-requires Inv-loop μ-loop
 in-zone-requires c κs =
@@ -66,10 +62,14 @@ add-starts c =
     let a = s .args in
     let t = k .before .zone-totals in
     let z = cell (a .zones .now) (k .loop .b) in
-    omega (arith, c .before .zone-begins .ensures, c .in-zone .ensures,
-    begins-bound (a .partitions) (cell (t .result)) (a .n) z (search needs) (omega (arith, s .pre .4 (k .loop .b) (omega arith)))
-    (totals-most (cell (a .zones .now)) (cell (a .copies .now)) (a .n) (t .result) (search needs) (s .pre .5) (t .ensures)),
-    zone-bound (cell (a .zones .now)) (cell (a .copies .now)) (k .loop .b) z 256 (λ i l. s .pre .5 i (omega arith)))
+    omega (
+      arith,
+      c .before .zone-begins .ensures,
+      c .in-zone .ensures,
+      begins-bound (a .partitions) (cell (t .result)) (a .n) z (search needs) (omega (arith, s .pre .4 (k .loop .b) (omega arith)))
+          (totals-most (cell (a .zones .now)) (cell (a .copies .now)) (a .n) (t .result) (search needs) (s .pre .5) (t .ensures)),
+      zone-bound (cell (a .zones .now)) (cell (a .copies .now)) (k .loop .b) z 256 (λ i l. s .pre .5 i (omega arith)),
+    )
 
 rem-starts : tie.Need-rem-starts Inv-loop μ-loop
 rem-starts c = search needs
@@ -91,12 +91,14 @@ loop-again c =
     let k = c .before .before .before .before .before in
     let s = k .before .before .before .before in
     let a = s .args in
-    let t = k .before .zone-totals in
-    (search needs, search needs,
-    column-next (λ i. start (a .partitions) (a .n) (cell (a .zones .now)) (cell (a .copies .now)) i % a .partitions) (k .loop .starts) (k .loop .b) _ (k .loop .inv .2)
-    (ap (λ (x : ℕ). x % a .partitions)
-    (start-cells (a .partitions) (a .n) (cell (a .zones .now)) (cell (a .copies .now)) (t .result) (k .loop .b) (c .before .zone-begins .result) (c .in-zone .result)
-    (search needs) (omega (arith, s .pre .4 (k .loop .b) (omega arith))) (t .ensures) (c .before .zone-begins .ensures) (c .in-zone .ensures))))
+    let t = k .before .zone-totals in (
+      search needs,
+      search needs,
+      column-next (λ i. start (a .partitions) (a .n) (cell (a .zones .now)) (cell (a .copies .now)) i % a .partitions) (k .loop .starts) (k .loop .b) _ (k .loop .inv .2)
+          (ap (λ (x : ℕ). x % a .partitions)
+          (start-cells (a .partitions) (a .n) (cell (a .zones .now)) (cell (a .copies .now)) (t .result) (k .loop .b) (c .before .zone-begins .result) (c .in-zone .result)
+          (search needs) (omega (arith, s .pre .4 (k .loop .b) (omega arith))) (t .ensures) (c .before .zone-begins .ensures) (c .in-zone .ensures))),
+    )
 
 returns : tie.Need-returns Inv-loop μ-loop
 returns c =

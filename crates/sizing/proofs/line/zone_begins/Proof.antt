@@ -2,18 +2,12 @@
 -- Assumes nothing.
 use borrow.Author.Needs.{needs}
 use native.Mathlib.Omega.{arith}
-use Prim.Native.Nat.{ℕ, _+_, _≤_}
-use mathlib.Core.Path.{_≡_, sym, ap, ap₂, _∙_}
-use Rattle.sums.specs.Sum.{sumTo}
+use Prim.Native.Nat.{_+_}
+use mathlib.Core.Path.{sym, ap₂, _∙_}
 use Rattle.sizing.specs.Columns.{cell}
-use Rattle.sizing.specs.Line.{lightOf, heavyOf}
-use Rattle.sizing.proofs.Lining.{begins-light, begins-heavy, begins-bound, light-bound, heavy-bound}
+use Rattle.sizing.proofs.Lining.{begins-light, begins-heavy, light-bound, heavy-bound}
 use Rattle.sizing.proofs.line.zone_begins.Statement.{statement}
 use Rattle.sizing.proofs.line.zone_begins.Tie as tie
-use Rattle.sizing.proofs.line.zone_begins.Reads as reads
-use Rattle.sizing.proofs.line.zone_begins.Lts as lts
-use Rattle.sizing.proofs.line.heavy.Reads as heavy-reads
-use Rattle.sizing.proofs.line.light.Reads as light-reads
 
 mul-if1 : tie.Need-mul-if1
 mul-if1 c = search needs
@@ -39,9 +33,13 @@ add-result : tie.Need-add-result
 add-result c =
     let s = c .before .before .before .before .before in
     let a = s .args in
-    omega (arith, c .before .light2 .ensures, c .heavy .ensures,
-    light-bound (a .partitions) (cell (a .sums .now)) (a .n) 8192 (λ z l. s .pre .3 z (omega arith)),
-    heavy-bound (a .partitions) (cell (a .sums .now)) (a .z) 8192 (λ z l. s .pre .3 z (omega arith)))
+    omega (
+      arith,
+      c .before .light2 .ensures,
+      c .heavy .ensures,
+      light-bound (a .partitions) (cell (a .sums .now)) (a .n) 8192 (λ z l. s .pre .3 z (omega arith)),
+      heavy-bound (a .partitions) (cell (a .sums .now)) (a .z) 8192 (λ z l. s .pre .3 z (omega arith)),
+    )
 
 returns-2 : tie.Need-returns-2
 returns-2 c =

@@ -7,13 +7,9 @@ use mathlib.Core.Path.{ap}
 use native.Mathlib.Nat.{div-zero, div-le-self}
 use Rattle.sizing.proofs.nodes.cap.Statement.{statement}
 use Rattle.sizing.proofs.nodes.cap.Tie as tie
-use Rattle.sizing.proofs.nodes.cap.Reads as reads
-use Rattle.sizing.proofs.nodes.cap.Lts as lts
-use Rattle.sizing.proofs.nodes.partitions.Reads as partitions-reads
-use Rattle.sizing.proofs.totals.least.Reads as least-reads
 
 returns : tie.Need-returns
-returns c = 
+returns c =
     let a = c .before .args in
     omega (arith, ap (λ (s : ℕ). a .capacity / s) (c .if1 .taken), div-zero (a .capacity))
 

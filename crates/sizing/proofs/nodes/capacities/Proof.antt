@@ -2,20 +2,15 @@
 -- Assumes nothing.
 use borrow.Author.Needs.{needs}
 use native.Mathlib.Omega.{arith}
-use Prim.Native.Nat.{ℕ, _-_, _≤_, _<_}
-use mathlib.Core.Path.{_≡_, sym, ap, _∙_}
-use mathlib.Core.List.{List}
-use lib.ListN.{length, set, getD}
-use Rattle.cluster.specs.Terms.{topology, nodeAt, noNode}
+use Prim.Native.Nat.{_-_, _≤_}
+use mathlib.Core.Path.{_≡_, sym, ap}
+use Rattle.cluster.specs.Terms.{topology, nodeAt}
 use Rattle.cluster.specs.declared.Node.{Node}
 use Rattle.sizing.specs.Columns.{column}
 use Rattle.sizing.proofs.Columns.{column-none, column-next, column-end}
 use Rattle.sizing.proofs.Slots.{node-slot}
 use Rattle.sizing.proofs.nodes.capacities.Statement.{statement}
 use Rattle.sizing.proofs.nodes.capacities.Tie as tie
-use Rattle.sizing.proofs.nodes.capacities.Reads as reads
-use Rattle.sizing.proofs.nodes.capacities.Lts as lts
-use Rattle.sizing.proofs.nodes.used.Reads as used-reads
 
 abbrev Inv-loop : tie.InvT-loop
 Inv-loop c n capacities₀ b₀ capacities b = (b ≤ n) × (n ≤ 32) × (n ≤ c .count) × (capacities ≡ column (λ i. nodeAt (topology c) i .capacity) b)

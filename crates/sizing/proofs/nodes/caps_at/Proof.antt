@@ -2,15 +2,12 @@
 -- Assumes nothing.
 use borrow.Author.Needs.{needs}
 use native.Mathlib.Omega.{arith}
-use Prim.Native.Nat.{ℕ, _/_, _-_, _^_, _≤_, min}
+use Prim.Native.Nat.{_/_, _-_, _^_, _≤_, min}
 use mathlib.Core.Path.{_≡_}
 use Rattle.sizing.specs.Columns.{cell, column}
 use Rattle.sizing.proofs.Columns.{column-none, column-next, column-end}
 use Rattle.sizing.proofs.nodes.caps_at.Statement.{statement}
 use Rattle.sizing.proofs.nodes.caps_at.Tie as tie
-use Rattle.sizing.proofs.nodes.caps_at.Reads as reads
-use Rattle.sizing.proofs.nodes.caps_at.Lts as lts
-use Rattle.sizing.proofs.nodes.cap.Reads as cap-reads
 
 abbrev Inv-loop : tie.InvT-loop
 Inv-loop capacities n bits size caps₀ b₀ caps b = (b ≤ n) × (n ≤ 32) × (caps ≡ column (λ i. min (2 ^ bits) (cell capacities i / size)) b)

@@ -2,8 +2,8 @@
 -- Assumes nothing.
 use borrow.Author.Needs.{needs}
 use native.Mathlib.Omega.{arith}
-use Prim.Native.Nat.{ℕ, _-_, _+_, _≤_}
-use mathlib.Core.Path.{_≡_, refl, sym, ap, _∙_}
+use Prim.Native.Nat.{_-_, _≤_}
+use mathlib.Core.Path.{_≡_, refl, ap, _∙_}
 use mathlib.Core.Logic.{⊎-elim}
 use Rattle.sums.specs.Sum.{is}
 use Rattle.sums.proofs.Sum.{is-eq, is-ne}
@@ -12,9 +12,6 @@ use Rattle.sizing.specs.Columns.{cell}
 use Rattle.sizing.proofs.Masks.{mask-here, mask-not-here}
 use Rattle.sizing.proofs.nodes.of_zone.Statement.{statement}
 use Rattle.sizing.proofs.nodes.of_zone.Tie as tie
-use Rattle.sizing.proofs.nodes.of_zone.Reads as reads
-use Rattle.sizing.proofs.nodes.of_zone.Lts as lts
-use Rattle.sets.proofs.with.Reads as with-reads
 
 abbrev Inv-loop : tie.InvT-loop
 Inv-loop zones n z mask₀ b₀ mask b = (b ≤ n) × (mask ≡ maskOf (λ i. is (cell zones i) z) b)
@@ -47,12 +44,13 @@ loop-less c = search needs
 loop-again : tie.Need-loop-again Inv-loop μ-loop
 loop-again c =
     let k = c .before .before .before in
-    let a = k .before .before .args in
-    (search needs,
-    ⊎-elim
-    (λ w. w .2 ∙ (w .1 .ensures ∙ mask-here (λ i. is (cell (a .zones .now) i) (a .z)) (k .loop .b) (k .loop .mask) (k .loop .inv .1) (omega arith) (omega (arith, is-eq (w .0 .taken)))))
-    (λ w. w .1 ∙ mask-not-here (λ i. is (cell (a .zones .now) i) (a .z)) (k .loop .b) (k .loop .mask) (k .loop .inv .1) (is-ne (w .0 .left)))
-    (c .if1 .came))
+    let a = k .before .before .args in (
+      search needs,
+      ⊎-elim
+          (λ w. w .2 ∙ (w .1 .ensures ∙ mask-here (λ i. is (cell (a .zones .now) i) (a .z)) (k .loop .b) (k .loop .mask) (k .loop .inv .1) (omega arith) (omega (arith, is-eq (w .0 .taken)))))
+          (λ w. w .1 ∙ mask-not-here (λ i. is (cell (a .zones .now) i) (a .z)) (k .loop .b) (k .loop .mask) (k .loop .inv .1) (is-ne (w .0 .left)))
+          (c .if1 .came),
+    )
 
 returns : tie.Need-returns Inv-loop μ-loop
 returns c =

@@ -2,13 +2,10 @@
 -- Assumes nothing.
 use borrow.Author.Needs.{needs}
 use native.Mathlib.Omega.{arith}
-use Prim.Native.Nat.{ℕ, _^_, _≤_}
 use lib.Pow.{pow-mono, pow-lt}
 use Rattle.sets.proofs.Words.{word-one}
 use Rattle.sizing.proofs.nodes.partitions.Statement.{statement}
 use Rattle.sizing.proofs.nodes.partitions.Tie as tie
-use Rattle.sizing.proofs.nodes.partitions.Reads as reads
-use Rattle.sizing.proofs.nodes.partitions.Lts as lts
 
 shl-result : tie.Need-shl-result
 shl-result c = search needs

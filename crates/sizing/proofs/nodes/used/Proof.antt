@@ -7,9 +7,6 @@ use lib.ListN.{length, length-take}
 use Rattle.cells.proofs.Cells.{length-of-map}
 use Rattle.sizing.proofs.nodes.used.Statement.{statement}
 use Rattle.sizing.proofs.nodes.used.Tie as tie
-use Rattle.sizing.proofs.nodes.used.Reads as reads
-use Rattle.sizing.proofs.nodes.used.Lts as lts
-use Rattle.sizing.proofs.nodes.cut.Reads as cut-reads
 
 long : (c : tie.Start) → length (c .args .c .nodes) ≡ 32
 long c = search length-of-map
@@ -18,7 +15,7 @@ cut-requires : tie.Need-cut-requires
 cut-requires c κs = search needs
 
 returns : tie.Need-returns
-returns c = 
+returns c =
     let s = c .before in
     (omega (arith, c .cut .ensures, long s, length-take (s .args .c .count) (s .args .c .nodes)), search needs, search needs)
 

@@ -5,14 +5,12 @@ use native.Mathlib.Omega.{arith}
 use Prim.Native.Nat.{ℕ, _-_, _≤_, _<_}
 use mathlib.Core.Path.{_≡_, refl, sym}
 use lib.ListN.{length, getD}
-use borrow.Author.Count.{below-none, below-more}
+use borrow.Author.Count.{below-more}
 use Rattle.cells.proofs.Cells.{length-of-map}
 use Rattle.cluster.specs.Terms.{noNode}
 use Rattle.sizing.proofs.Slots.{zone-found}
 use Rattle.sizing.proofs.nodes.zone_index.Statement.{statement}
 use Rattle.sizing.proofs.nodes.zone_index.Tie as tie
-use Rattle.sizing.proofs.nodes.zone_index.Reads as reads
-use Rattle.sizing.proofs.nodes.zone_index.Lts as lts
 
 abbrev Inv-loop : tie.InvT-loop
 Inv-loop b c zone i₀ i = (i ≤ b) × ((j : ℕ) → j < i → getD (c .nodes) j noNode .zone ≡ zone → ⊥)

@@ -2,16 +2,11 @@
 -- Assumes nothing.
 use borrow.Author.Needs.{needs}
 use native.Mathlib.Omega.{arith}
-use Prim.Native.Nat.{ℕ, _*_, _≤_, _<_}
 use native.Mathlib.Nat.{mul-le-mul}
 use Rattle.sizing.specs.Columns.{cell}
 use Rattle.sizing.proofs.Fitting.{fits-not, fits-wide}
 use Rattle.sizing.proofs.totals.fit.Statement.{statement}
 use Rattle.sizing.proofs.totals.fit.Tie as tie
-use Rattle.sizing.proofs.totals.fit.Reads as reads
-use Rattle.sizing.proofs.totals.fit.Lts as lts
-use Rattle.sizing.proofs.totals.total.Reads as total-reads
-use Rattle.sizing.proofs.totals.zone_totals.Reads as zone-totals-reads
 
 total-requires : tie.Need-total-requires
 total-requires c κs = search needs
@@ -45,7 +40,7 @@ total-requires-2 : tie.Need-total-requires-2
 total-requires-2 c κs = search needs
 
 returns-2 : tie.Need-returns-2
-returns-2 c = 
+returns-2 c =
     let s = c .before .before .before .before .before .before .before in
     let a = s .args in
     let t = c .before .before .before .before .total in

@@ -2,8 +2,8 @@
 -- Assumes nothing.
 use borrow.Author.Needs.{needs}
 use native.Mathlib.Omega.{arith}
-use Prim.Native.Nat.{ℕ, _+_, _*_, _-_, _≤_, _<_, min}
-use mathlib.Core.Path.{_≡_, refl, sym, ap, _∙_}
+use Prim.Native.Nat.{_*_, _-_, _≤_}
+use mathlib.Core.Path.{_≡_, refl, ap, _∙_}
 use mathlib.Core.Logic.{⊎-elim}
 use Rattle.sums.specs.Sum.{sumTo}
 use Rattle.dealing.specs.Deal.{inZone}
@@ -11,8 +11,6 @@ use Rattle.sizing.specs.Columns.{cell}
 use Rattle.sizing.proofs.Adding.{zone-here, zone-not-here}
 use Rattle.sizing.proofs.totals.in_zone.Statement.{statement}
 use Rattle.sizing.proofs.totals.in_zone.Tie as tie
-use Rattle.sizing.proofs.totals.in_zone.Reads as reads
-use Rattle.sizing.proofs.totals.in_zone.Lts as lts
 
 abbrev Inv-loop : tie.InvT-loop
 Inv-loop zones numbers z n sum₀ b₀ sum b = (b ≤ n) × (sum ≤ 256 * b) × (sum ≡ inZone (cell zones) (cell numbers) z b)
@@ -52,11 +50,12 @@ loop-again c =
     let k = c .before .before .before in
     let a = k .before .args in
     let f = cell (a .numbers .now) in
-    let zone = cell (a .zones .now) in
-    (search needs,
-    ⊎-elim (λ w. omega (arith, k .before .pre .3 (k .loop .b) (omega arith))) (λ w. omega arith) (c .if1 .came),
-    ⊎-elim (λ w. w .2 ∙ zone-here zone f (k .loop .b) (a .z) (k .loop .sum) (f (k .loop .b)) (w .0 .taken) (k .loop .inv .2) refl)
-    (λ w. w .1 ∙ zone-not-here zone f (k .loop .b) (a .z) (k .loop .sum) (w .0 .left) (k .loop .inv .2)) (c .if1 .came))
+    let zone = cell (a .zones .now) in (
+      search needs,
+      ⊎-elim (λ w. omega (arith, k .before .pre .3 (k .loop .b) (omega arith))) (λ w. omega arith) (c .if1 .came),
+      ⊎-elim (λ w. w .2 ∙ zone-here zone f (k .loop .b) (a .z) (k .loop .sum) (f (k .loop .b)) (w .0 .taken) (k .loop .inv .2) refl)
+          (λ w. w .1 ∙ zone-not-here zone f (k .loop .b) (a .z) (k .loop .sum) (w .0 .left) (k .loop .inv .2)) (c .if1 .came),
+    )
 
 returns : tie.Need-returns Inv-loop μ-loop
 returns c =

@@ -2,16 +2,13 @@
 -- Assumes nothing.
 use borrow.Author.Needs.{needs}
 use native.Mathlib.Omega.{arith}
-use Prim.Native.Nat.{ℕ, _+_, _*_, _-_, _≤_, _<_, min}
-use mathlib.Core.Path.{_≡_, refl, sym, ap, ap₂, _∙_}
+use Prim.Native.Nat.{ℕ, _*_, _-_, _≤_, min}
+use mathlib.Core.Path.{_≡_, refl, ap, _∙_}
 use Rattle.sums.specs.Sum.{sumTo}
 use Rattle.sizing.specs.Columns.{cell}
 use Rattle.sizing.proofs.Adding.{sum-next}
 use Rattle.sizing.proofs.totals.total.Statement.{statement}
 use Rattle.sizing.proofs.totals.total.Tie as tie
-use Rattle.sizing.proofs.totals.total.Reads as reads
-use Rattle.sizing.proofs.totals.total.Lts as lts
-use Rattle.sizing.proofs.totals.least.Reads as least-reads
 
 abbrev Inv-loop : tie.InvT-loop
 Inv-loop numbers n most sum₀ b₀ sum b = (b ≤ n) × (sum ≤ 256 * b) × (sum ≡ sumTo b (λ i. min most (cell numbers i)))
@@ -48,7 +45,7 @@ loop-again c =
     (search needs, search needs, sum-next (λ i. min (a .most) (cell (a .numbers .now) i)) (k .loop .b) (k .loop .sum) (c .least .result) (k .loop .inv .2) (c .least .ensures))
 
 returns : tie.Need-returns Inv-loop μ-loop
-returns c = 
+returns c =
     let k = c .before in
     let a = k .before .before .args in
     let e : k .loop .b ≡ a .n = omega arith in

@@ -2,18 +2,16 @@
 -- Assumes nothing.
 use borrow.Author.Needs.{needs}
 use native.Mathlib.Omega.{arith}
-use Prim.Native.Nat.{ℕ, _+_, _*_, _-_, _≤_, _<_, min}
-use mathlib.Core.Path.{_≡_, refl, sym, ap, ap₂, _∙_}
-use lib.ListN.{length, getD}
+use Prim.Native.Nat.{ℕ, _-_, _≤_, _<_}
+use mathlib.Core.Path.{_≡_, ap, _∙_}
+use lib.ListN.{length}
 use Rattle.sums.specs.Sum.{sumTo}
 use Rattle.dealing.specs.Deal.{inZone}
-use Rattle.sizing.specs.Columns.{cell, column}
+use Rattle.sizing.specs.Columns.{cell}
 use Rattle.sizing.proofs.Columns.{cell-blank, column-cells}
 use Rattle.sizing.proofs.Adding.{zone-bound, zones-next}
 use Rattle.sizing.proofs.totals.zone_totals.Statement.{statement}
 use Rattle.sizing.proofs.totals.zone_totals.Tie as tie
-use Rattle.sizing.proofs.totals.zone_totals.Reads as reads
-use Rattle.sizing.proofs.totals.zone_totals.Lts as lts
 
 abbrev Inv-loop : tie.InvT-loop
 Inv-loop zones numbers n sums₀ b₀ sums b = (b ≤ n) × (length sums ≡ 32) × ((z : ℕ) → z < 32 → cell sums z ≡ inZone (cell zones) (cell numbers) z b)
@@ -52,9 +50,12 @@ add-sums c =
     let a = k .before .args in
     let z = cell (a .zones .now) (k .loop .b) in
     let low : z < 32 = omega (arith, k .before .pre .3 (k .loop .b) (omega arith)) in
-    omega (arith, k .loop .inv .2 z low,
-    zone-bound (cell (a .zones .now)) (cell (a .numbers .now)) (k .loop .b) z 256 (λ i l. k .before .pre .4 i (omega arith)),
-    k .before .pre .4 (k .loop .b) (omega arith))
+    omega (
+      arith,
+      k .loop .inv .2 z low,
+      zone-bound (cell (a .zones .now)) (cell (a .numbers .now)) (k .loop .b) z 256 (λ i l. k .before .pre .4 i (omega arith)),
+      k .before .pre .4 (k .loop .b) (omega arith),
+    )
 
 mul-sums-3 : tie.Need-mul-sums-3 Inv-loop μ-loop
 mul-sums-3 c = let k = c .before .before .before in omega (arith, k .before .pre .3 (k .loop .b) (omega arith))

@@ -1,0 +1,237 @@
+-- The steps of the loops, over plain lists and numbers: scans for a first index, cells that are written or shifted, parts of a walk, and the
+-- exchanges of a walk.
+-- Assumes nothing.
+use Prim.Native.Nat.{ℕ, zero, suc, _+_, _-_, _≤_, _<_}
+use mathlib.Core.Path.{_≡_, refl, sym, ap, _∙_, subst}
+use mathlib.Core.Bool.{Bool, true, false}
+use mathlib.Core.List.{List}
+use mathlib.Core.Logic.{⊎-elim}
+use native.Mathlib.Nat.{mul-one, zero-add}
+use native.Mathlib.Numerals.{add-one}
+use native.Mathlib.Omega.{arith}
+use lib.Dec.{ltb}
+use lib.ListN.{length, getD, set, length-set}
+use lib.Seq.{getD-set-same, getD-set-other}
+use borrow.Author.Tests.{lt-ltb, le-ltb}
+use Rattle.sums.specs.Sum.{sumTo, pick}
+use Rattle.sums.proofs.Sum.{lt-or-ge}
+use Rattle.sets.specs.Bits.{memberOf, withOf, withoutOf}
+use Rattle.swaps.specs.ModelSwaps.{targetsOf}
+use Rattle.cells.specs.Cells.{put}
+use Rattle.cells.proofs.Cells.{put-more, length-put, getD-put-in, getD-put-out}
+use Rattle.exchange.specs.Levels.{firstFrom}
+use Rattle.exchange.specs.Circuit.{cost}
+use Rattle.exchange.specs.Uncross.{Walk, Same, partner, first, wrap, inner, outer, split, uncross}
+use Rattle.exchange.proofs.Uncross.{skip-low, skip-high, wrap-low, wrap-end, first-pair}
+use Rattle.exchange.proofs.Walk.{uncross-stop, uncross-go, uncross-same, same-trans}
+use Rattle.circuits.specs.ModelCircuits.{bitsOf, okOf, witnessOf, witnessIn, walkIn, innerGains, cycleOf, freedOf, exchanged, walkedOf}
+
+-- ---- a scan for the first index that passes a test
+
+module _ (t : ℕ → Bool) (n i : ℕ) where
+  -- It is here.
+  pub first-here : i < n → t i ≡ true → firstFrom t (n - i) i ≡ i
+  unfolding firstFrom
+  first-here l e = let d : n - i ≡ suc (n - (i + 1)) = omega arith in rw (d, e)
+
+  -- It is not here.
+  pub first-next : i < n → t i ≡ false → firstFrom t (n - i) i ≡ firstFrom t (n - (i + 1)) (i + 1)
+  unfolding firstFrom
+  first-next l e = let d : n - i ≡ suc (n - (i + 1)) = omega arith in rw (d, e, add-one i)
+
+  -- The scan is at its end.
+  pub first-end : n ≤ i → firstFrom t (n - i) i ≡ i
+  unfolding firstFrom
+  first-end l = let d : n - i ≡ 0 = omega arith in rw d
+
+-- The test for an exchange, as the code runs it: at the node after j in the cells ys.
+pub ok-at : (rows mates ys : List ℕ) (all z p j b to : ℕ) (r : Bool) → r ≡ memberOf to b → to ≡ targetsOf mates all z (getD rows p 0) (getD ys (j + 1) 0)
+    → r ≡ okOf rows mates all z p (getD ys (suc j) 0) b
+unfolding okOf
+ok-at rows mates ys all z p j b to r e f =
+    e
+    ∙ (ap (λ (x : ℕ). memberOf x b) f
+    ∙ ap (λ (k : ℕ). memberOf (targetsOf mates all z (getD rows p 0) (getD ys k 0)) b) (add-one j))
+
+-- ---- cells
+
+-- One cell more from the beginning.
+pub put-first : (f : ℕ → ℕ) (n : ℕ) (l : List ℕ) → set (put 0 f n l) n (f n) ≡ put 0 f (n + 1) l
+put-first f n l = ap (λ (i : ℕ). set (put 0 f n l) i (f n)) (sym (zero-add n)) ∙ put-more 0 f n l
+
+-- The cell of a list written from the beginning.
+pub getD-first : (f : ℕ → ℕ) (n : ℕ) (l : List ℕ) (i : ℕ) → i < n → n ≤ length l → getD (put 0 f n l) i 0 ≡ f i
+getD-first f n l i a b = ap (λ (k : ℕ). getD (put 0 f n l) k 0) (sym (zero-add i)) ∙ getD-put-in 0 f n l i 0 a (omega arith)
+
+-- One cell more that gives way to the one k further on.
+pub shift-more : (l : List ℕ) (b k t : ℕ)
+    → set (put b (λ s. getD l (b + s + k) 0) t l) (b + t) (getD (put b (λ s. getD l (b + s + k) 0) t l) (b + t + k) 0)
+    ≡ put b (λ s. getD l (b + s + k) 0) (t + 1) l
+shift-more l b k t =
+    ap (λ (v : ℕ). set (put b (λ s. getD l (b + s + k) 0) t l) (b + t) v)
+    (getD-put-out b (λ s. getD l (b + s + k) 0) t l (b + t + k) 0 (λ j m e. omega arith))
+    ∙ put-more b (λ s. getD l (b + s + k) 0) t l
+
+-- The n cells of l from b on, by those that stand k further on.
+abbrev pub shifted : List ℕ → ℕ → ℕ → ℕ → List ℕ
+shifted l b k n = put b (λ s. getD l (b + s + k) 0) n l
+
+shifted-in : (l : List ℕ) (b k n i : ℕ) → b ≤ i → i < b + n → b + n ≤ length l → getD (shifted l b k n) i 0 ≡ getD l (i + k) 0
+shifted-in l b k n i a c d =
+    let e : b + (i - b) ≡ i = omega arith in
+    ap (λ (j : ℕ). getD (shifted l b k n) j 0) (sym e)
+    ∙ (getD-put-in b (λ s. getD l (b + s + k) 0) n l (i - b) 0 (omega arith) d ∙ ap (λ (j : ℕ). getD l (j + k) 0) e)
+
+shifted-low : (l : List ℕ) (b k n i : ℕ) → i < b → getD (shifted l b k n) i 0 ≡ getD l i 0
+shifted-low l b k n i a = getD-put-out b (λ s. getD l (b + s + k) 0) n l i 0 (λ j m e. omega arith)
+
+-- ---- the parts of a walk in cells
+
+module _ (P m i j : ℕ) (g : ℕ → ℕ → ℕ) (ys qs : List ℕ) (l : i < j) (h : j < m) (a : m < length ys) (b : m ≤ length qs) where
+  -- The inner part: what stands after i comes to the beginning, and the first node of it is closed with.
+  pub inner-in : (zs rs : List ℕ) → zs ≡ shifted ys 0 (i + 1) (j - i) → rs ≡ shifted qs 0 (i + 1) (j - i)
+      → Same (inner (walkIn m ys qs) i j) (walkIn (j - i) (set zs (j - i) (getD zs 0 0)) rs)
+  inner-in zs rs z r =
+      let k = j - i in
+      record {
+        lens = refl;
+        nodes = λ t c. ⊎-elim
+            (λ d. ap (λ (s : ℕ). getD ys s 0) (wrap-low i k t d ∙ omega arith)
+            ∙ (sym (shifted-in ys 0 (i + 1) k t (omega arith) (omega arith) (omega arith))
+            ∙ (ap (λ (s : List ℕ). getD s t 0) (sym z) ∙ sym (getD-set-other zs k t (getD zs 0 0) 0 (λ e. omega arith)))))
+            (λ d. let e : t ≡ k = omega arith in
+            ap (λ (s : ℕ). getD ys s 0) (wrap-end i k t d ∙ omega arith)
+            ∙ (sym (shifted-in ys 0 (i + 1) k 0 (omega arith) (omega arith) (omega arith))
+            ∙ (ap (λ (s : List ℕ). getD s 0 0) (sym z)
+            ∙ (sym (getD-set-same zs k (getD zs 0 0) 0 (omega (arith, ap length z, length-put 0 (λ s. getD ys (0 + s + (i + 1)) 0) k ys)))
+            ∙ ap (λ (s : ℕ). getD (set zs k (getD zs 0 0)) s 0) (sym e)))))
+            (lt-or-ge t k);
+        partitions = λ t c.
+            ap (λ (s : ℕ). getD qs s 0) (wrap-low i k t c ∙ omega arith)
+            ∙ (sym (shifted-in qs 0 (i + 1) k t (omega arith) (omega arith) (omega arith)) ∙ ap (λ (s : List ℕ). getD s t 0) (sym r));
+      }
+
+  -- The outer part: what stands after j comes to stand after i.
+  pub outer-in : (zs rs : List ℕ) → zs ≡ shifted ys (i + 1) (j - i) (m - j) → rs ≡ shifted qs (i + 1) (j - i) (m - j - 1)
+      → Same (outer (walkIn m ys qs) i j) (walkIn (m - (j - i)) zs rs)
+  outer-in zs rs z r =
+      let k = j - i in
+      rw (z, r) record {
+        lens = refl;
+        nodes = λ t c. ⊎-elim
+            (λ d. ap (λ (s : ℕ). getD ys s 0) (skip-high i k t d)
+            ∙ sym (shifted-in ys (i + 1) k (m - j) t (omega arith) (omega arith) (omega arith)))
+            (λ d. ap (λ (s : ℕ). getD ys s 0) (skip-low i k t d) ∙ sym (shifted-low ys (i + 1) k (m - j) t (omega arith)))
+            (lt-or-ge i t);
+        partitions = λ t c. ⊎-elim
+            (λ d. ap (λ (s : ℕ). getD qs s 0) (skip-high i k t d)
+            ∙ sym (shifted-in qs (i + 1) k (m - j - 1) t (omega arith) (omega arith) (omega arith)))
+            (λ d. ap (λ (s : ℕ). getD qs s 0) (skip-low i k t d) ∙ sym (shifted-low qs (i + 1) k (m - j - 1) t (omega arith)))
+            (lt-or-ge i t);
+      }
+
+  -- The part to go on with.
+  pub split-inner : {w : Walk} → innerGains P g (walkIn (j + 1) ys qs) i j ≡ true → Same (inner (walkIn m ys qs) i j) w
+      → Same (split P 1 g (walkIn m ys qs) i j) w
+  unfolding split
+  split-inner e s = rw (mul-one (j - i), e) s
+
+  pub split-outer : {w : Walk} → innerGains P g (walkIn (j + 1) ys qs) i j ≡ false → Same (outer (walkIn m ys qs) i j) w
+      → Same (split P 1 g (walkIn m ys qs) i j) w
+  unfolding split
+  split-outer e s = rw (mul-one (j - i), e) s
+
+-- What the arc of the inner part after s arcs costs.
+abbrev pub innerCost : ℕ → (ℕ → ℕ → ℕ) → List ℕ → List ℕ → ℕ → ℕ → ℕ → ℕ
+innerCost P g ys qs i k s = cost P 1 g (getD qs (wrap i k s) 0) (getD ys (wrap i k (suc s)) 0) (getD ys (wrap i k s) 0)
+
+-- One arc more is added.
+pub gains-more : (P : ℕ) (g : ℕ → ℕ → ℕ) (ys qs : List ℕ) (i k t sum v a b : ℕ) → sum ≡ sumTo t (innerCost P g ys qs i k)
+    → v ≡ cost P 1 g (getD qs a 0) (getD ys b 0) (getD ys a 0) → a ≡ wrap i k t → b ≡ wrap i k (t + 1)
+    → sum + v ≡ sumTo (t + 1) (innerCost P g ys qs i k)
+unfolding sumTo
+gains-more P g ys qs i k t sum v a b e f x y = rw (e, f, x, y, add-one t)
+
+-- ---- freeing a walk
+
+module _ (P : ℕ) (g : ℕ → ℕ → ℕ) (ok : ℕ → ℕ → ℕ → Bool) (v : Walk) where
+  -- No pair is crossed.
+  pub free-stop : (n : ℕ) (w : Walk) → Same v (uncross n P 1 g ok w) → w .len ≤ first P ok w → Same v w
+  free-stop n w s l = subst (λ (u : Walk). Same v u) (uncross-stop P 1 g ok n w l) s
+
+  -- The first crossed pair.
+  pub pair-in : (w : Walk) (i j : ℕ) → i ≡ first P ok w → j ≡ partner P ok w i → i < w .len → (i < j) × (j < w .len)
+  pair-in w i j e f l =
+      let p = first-pair P ok w (omega arith) in
+      let d : partner P ok w i ≡ partner P ok w (first P ok w) = ap (partner P ok w) e in
+      omega arith
+
+  -- A pair is crossed.
+  pub free-go : (n : ℕ) (w u : Walk) (i j : ℕ) → 0 < n → Same v (uncross n P 1 g ok w) → i ≡ first P ok w → j ≡ partner P ok w i → i < w .len
+      → Same (split P 1 g w i j) u → Same v (uncross (n - 1) P 1 g ok u)
+  free-go n w u i j p s e f l t =
+      let d : n ≡ suc (n - 1) = omega arith in
+      same-trans
+      (subst (λ (x : Walk). Same v x) (ap (λ (k : ℕ). uncross k P 1 g ok w) d ∙ uncross-go P 1 g ok (n - 1) w (omega arith)) s)
+      (uncross-same P 1 g ok (n - 1)
+      (subst (λ (k : ℕ). Same (split P 1 g w k (partner P ok w k)) u) e (subst (λ (k : ℕ). Same (split P 1 g w i k) u) f t)))
+
+  -- There is no split left.
+  pub free-end : (n : ℕ) (w : Walk) → n ≤ 0 → Same v (uncross n P 1 g ok w) → Same v w
+  unfolding uncross
+  free-end n w l s = let e : n ≡ 0 = omega arith in subst (λ (k : ℕ). Same v (uncross k P 1 g ok w)) e s
+
+-- ---- the exchanges of a walk
+
+module _ (P : ℕ) (y q : ℕ → ℕ) (rows : List ℕ) where
+  -- An exchange.
+  pub exchanged-row : (i : ℕ) (r : List ℕ) → r ≡ exchanged P y q i rows → q i < P
+      → set r (q i) (withOf (withoutOf (getD r (q i) 0) (y (i + 1))) (y i)) ≡ exchanged P y q (i + 1) rows
+  unfolding exchanged
+  exchanged-row i r e l = rw (add-one i, lt-ltb (q i) P l, e)
+
+  -- A step over the store.
+  pub exchanged-store : (i : ℕ) (r : List ℕ) → r ≡ exchanged P y q i rows → P ≤ q i → r ≡ exchanged P y q (i + 1) rows
+  unfolding exchanged
+  exchanged-store i r e l = rw (add-one i, le-ltb (q i) P l) e
+
+  -- The rows stay as many.
+  pub length-exchanged : (n : ℕ) → length (exchanged P y q n rows) ≡ length rows
+  unfolding exchanged
+  length-exchanged zero = refl
+  length-exchanged (suc i) = go (length-exchanged i) (ltb (q i) P)
+    where
+      go : length (exchanged P y q i rows) ≡ length rows → (b : Bool)
+          → length (pick b (set (exchanged P y q i rows) (q i) (withOf (withoutOf (getD (exchanged P y q i rows) (q i) 0) (y (suc i))) (y i))) (exchanged P y q i rows))
+          ≡ length rows
+      go e true = length-set (exchanged P y q i rows) (q i) (withOf (withoutOf (getD (exchanged P y q i rows) (q i) 0) (y (suc i))) (y i)) ∙ e
+      go e false = e
+
+-- Walks that are the same make the same exchanges.
+pub exchanged-same : (P : ℕ) {w u : Walk} → Same w u → (rows : List ℕ) (n : ℕ) → n ≤ w .len
+    → exchanged P (w .node) (w .partition) n rows ≡ exchanged P (u .node) (u .partition) n rows
+unfolding exchanged
+exchanged-same P s rows zero l = refl
+exchanged-same P s rows (suc i) l =
+    rw (s .partitions i l, s .nodes i (omega arith), s .nodes (suc i) l, exchanged-same P s rows i (omega arith))
+
+-- The rows after the exchanges of a walk that is loaded into cells and freed there.
+module _ (rows former : List ℕ) (P : ℕ) (mates arcs : List ℕ) (all z : ℕ) (nodes : List ℕ) (m : ℕ) where
+  pub loaded : (ys qs y₀ q₀ : List ℕ) → ys ≡ put 0 (λ t. getD nodes t 0) (m + 1) y₀ → m + 1 ≤ length y₀
+      → qs ≡ put 0 (witnessIn nodes rows former P mates arcs all z) m q₀ → m ≤ length q₀
+      → Same (cycleOf rows former P mates arcs all z nodes m) (walkIn m ys qs)
+  loaded ys qs y₀ q₀ e a f b =
+      record {
+        lens = refl;
+        nodes = λ t l. sym (ap (λ (s : List ℕ). getD s t 0) e ∙ getD-first (λ t. getD nodes t 0) (m + 1) y₀ t (omega arith) a);
+        partitions = λ t l.
+            ap (λ (k : ℕ). witnessOf rows former P mates arcs all z (getD nodes k 0) (getD nodes t 0)) (sym (add-one t))
+            ∙ sym (ap (λ (s : List ℕ). getD s t 0) f ∙ getD-first (witnessIn nodes rows former P mates arcs all z) m q₀ t l b);
+      }
+
+  pub turned-in : (w u : Walk) → Same (cycleOf rows former P mates arcs all z nodes m) w → Same (uncross m P 1 (bitsOf former) (okOf rows mates all z) w) u
+      → walkedOf P u rows ≡ walkedOf P (freedOf rows former P mates arcs all z nodes m) rows
+  turned-in w u s t =
+      let r = same-trans (uncross-same P 1 (bitsOf former) (okOf rows mates all z) m s) t in
+      let v = freedOf rows former P mates arcs all z nodes m in
+      sym (exchanged-same P r rows (v .len) (omega arith) ∙ ap (λ (k : ℕ). exchanged P (u .node) (u .partition) k rows) (r .lens))

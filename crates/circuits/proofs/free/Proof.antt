@@ -1,0 +1,123 @@
+-- `circuits::free` meets its contract. What is freed of crossed pairs from here, with the splits that are left, is what is freed from the beginning. Assumes nothing.
+use borrow.Author.Needs.{needs}
+use Rattle.circuits.proofs.Steps.{pair-in, free-stop, free-go, free-end}
+use Rattle.circuits.specs.ModelCircuits.{bitsOf, okOf, walkIn}
+use Rattle.exchange.proofs.Walk.{same-refl}
+use Rattle.exchange.specs.Uncross.{Same, uncross}
+use lib.ListN.{length}
+use mathlib.Core.Path.{_≡_, subst}
+use Prim.Native.Nat.{ℕ, _≤_, _<_}
+use Rattle.circuits.proofs.free.Statement.{statement}
+use Rattle.circuits.proofs.free.Tie as tie
+
+abbrev Inv-loop : tie.InvT-loop
+Inv-loop y₀ q₀ m rows former partitions mates all z len₀ left₀ y q len left = (len ≤ m) × (length y ≡ length y₀) × (length q ≡ length q₀)
+    × Same (uncross m partitions 1 (bitsOf former) (okOf rows mates all z) (walkIn m y₀ q₀))
+    (uncross left partitions 1 (bitsOf former) (okOf rows mates all z) (walkIn len y q))
+
+abbrev μ-loop : tie.MeasureT-loop
+μ-loop y₀ q₀ m rows former partitions mates all z len₀ left₀ y q len left = left
+
+loop-holds : tie.Need-loop-holds Inv-loop μ-loop
+loop-holds c = (search needs, search needs, search needs, same-refl _)
+
+earlier-requires : tie.Need-earlier-requires Inv-loop μ-loop
+earlier-requires c κs = search needs
+
+same-length : tie.Need-same-length Inv-loop μ-loop
+same-length c = search needs
+
+same-length-2 : tie.Need-same-length-2 Inv-loop μ-loop
+same-length-2 c = search needs
+
+returns : tie.Need-returns Inv-loop μ-loop
+returns c = let k = c .before .before .before .before .before in
+    let a = k .before .before .before .before .before .before .args in
+    let g = bitsOf (a .former .now) in
+    let ok = okOf (a .rows .now) (a .mates .now) (a .all) (a .z) in
+    let w = walkIn (k .loop .len) (k .loop .y) (k .loop .q) in
+    let v = uncross (a .m) (a .partitions) 1 g ok (walkIn (a .m) (a .y .now) (a .q .now)) in (
+      search needs,
+      search needs,
+      search needs,
+      free-stop (a .partitions) g ok v (k .loop .left) w (k .loop .inv .3)
+          (subst (λ (n : ℕ). k .loop .len ≤ n) (c .before .earlier .ensures) (c .if1 .taken)),
+    )
+
+later-requires : tie.Need-later-requires Inv-loop μ-loop
+later-requires c κs = search needs
+
+divide-requires : tie.Need-divide-requires Inv-loop μ-loop
+divide-requires c κs = let r = c .before .before in
+    let e = r .before .before .before .before in
+    let k = e .before .before .before .before in
+    let a = k .before .before .before .before .before .before .args in
+    let g = bitsOf (a .former .now) in
+    let ok = okOf (a .rows .now) (a .mates .now) (a .all) (a .z) in
+    let w = walkIn (k .loop .len) (k .loop .y) (k .loop .q) in
+    let v = uncross (a .m) (a .partitions) 1 g ok (walkIn (a .m) (a .y .now) (a .q .now)) in
+    let p : (e .earlier .result < r .later .result) × (r .later .result < k .loop .len) =
+    pair-in (a .partitions) g ok v w (e .earlier .result) (r .later .result) (e .earlier .ensures) (r .later .ensures) (search needs) in
+    search needs
+
+sub-left : tie.Need-sub-left Inv-loop μ-loop
+sub-left c = search needs
+
+loop-less : tie.Need-loop-less Inv-loop μ-loop
+loop-less c = search needs
+
+loop-again : tie.Need-loop-again Inv-loop μ-loop
+loop-again c = let d = c .before .before .before .before in
+    let r = d .before .before .before in
+    let e = r .before .before .before .before in
+    let k = e .before .before .before .before in
+    let a = k .before .before .before .before .before .before .args in
+    let g = bitsOf (a .former .now) in
+    let ok = okOf (a .rows .now) (a .mates .now) (a .all) (a .z) in
+    let w = walkIn (k .loop .len) (k .loop .y) (k .loop .q) in
+    let v = uncross (a .m) (a .partitions) 1 g ok (walkIn (a .m) (a .y .now) (a .q .now)) in (
+      search needs,
+      search needs,
+      search needs,
+      free-go (a .partitions) g ok v (k .loop .left) w (walkIn (d .divide .result) (d .divide .last .0) (d .divide .last .1 .0)) (e .earlier .result)
+          (r .later .result) (search needs) (k .loop .inv .3) (e .earlier .ensures) (r .later .ensures) (search needs) (d .divide .ensures .3),
+    )
+
+same-length-3 : tie.Need-same-length-3 Inv-loop μ-loop
+same-length-3 c = search needs
+
+same-length-4 : tie.Need-same-length-4 Inv-loop μ-loop
+same-length-4 c = search needs
+
+returns-2 : tie.Need-returns-2 Inv-loop μ-loop
+returns-2 c = let k = c .before in
+    let a = k .before .before .before .before .before .before .args in
+    let g = bitsOf (a .former .now) in
+    let ok = okOf (a .rows .now) (a .mates .now) (a .all) (a .z) in
+    let w = walkIn (k .loop .len) (k .loop .y) (k .loop .q) in
+    let v = uncross (a .m) (a .partitions) 1 g ok (walkIn (a .m) (a .y .now) (a .q .now)) in (
+      search needs,
+      search needs,
+      search needs,
+      free-end (a .partitions) g ok v (k .loop .left) w (search needs) (k .loop .inv .3),
+    )
+
+pub free-spec : {M : Type 1} → statement M
+free-spec =
+    tie.close
+    (tie.spec
+    Inv-loop
+    μ-loop
+    loop-holds
+    earlier-requires
+    same-length
+    same-length-2
+    returns
+    later-requires
+    divide-requires
+    sub-left
+    loop-less
+    loop-again
+    same-length-3
+    same-length-4
+    returns-2)

@@ -1,0 +1,118 @@
+-- `circuits::make` meets its contract. The loop has made the exchanges of the arcs that it passed. Assumes nothing.
+use borrow.Author.Needs.{needs}
+use native.Mathlib.Omega.{arith}
+use Rattle.sets.specs.Bits.{withOf}
+use lib.ListN.{set, length-set}
+use Rattle.circuits.proofs.Steps.{exchanged-row, exchanged-store}
+use Rattle.circuits.specs.ModelCircuits.{exchanged}
+use lib.ListN.{length, getD}
+use mathlib.Core.Logic.{⊎-elim}
+use mathlib.Core.Path.{_≡_, refl, ap, _∙_}
+use Prim.Native.Nat.{ℕ, _≤_, _-_}
+use Rattle.circuits.proofs.make.Statement.{statement}
+use Rattle.circuits.proofs.make.Tie as tie
+
+abbrev Inv-loop : tie.InvT-loop
+Inv-loop rows₀ partitions y q m i₀ rows i = (i ≤ m) × (length rows ≡ length rows₀) × (rows ≡ exchanged partitions (λ t. getD y t 0) (λ t. getD q t 0) i rows₀)
+
+abbrev μ-loop : tie.MeasureT-loop
+μ-loop rows₀ partitions y q m i₀ rows i = m - i
+
+loop-holds : tie.Need-loop-holds Inv-loop μ-loop
+unfolding exchanged
+loop-holds c = (search needs, search needs, refl)
+
+mul-p : tie.Need-mul-p Inv-loop μ-loop
+mul-p c = search needs
+
+shared-slice-read-p : tie.Need-shared-slice-read-p Inv-loop μ-loop
+shared-slice-read-p c = search needs
+
+mul-without : tie.Need-mul-without Inv-loop μ-loop
+mul-without c = search needs
+
+slice-read-without : tie.Need-slice-read-without Inv-loop μ-loop
+slice-read-without c = search needs
+
+add-without : tie.Need-add-without Inv-loop μ-loop
+add-without c = search needs
+
+mul-without-2 : tie.Need-mul-without-2 Inv-loop μ-loop
+mul-without-2 c = search needs
+
+shared-slice-read-without : tie.Need-shared-slice-read-without Inv-loop μ-loop
+shared-slice-read-without c = search needs
+
+without-requires : tie.Need-without-requires Inv-loop μ-loop
+without-requires c κs = search needs
+
+mul-with : tie.Need-mul-with Inv-loop μ-loop
+mul-with c = search needs
+
+shared-slice-read-with : tie.Need-shared-slice-read-with Inv-loop μ-loop
+shared-slice-read-with c = search needs
+
+with-requires : tie.Need-with-requires Inv-loop μ-loop
+with-requires c κs = search needs
+
+mul-rows : tie.Need-mul-rows Inv-loop μ-loop
+mul-rows c = search needs
+
+slice-write-rows : tie.Need-slice-write-rows Inv-loop μ-loop
+slice-write-rows c = search needs
+
+add-i : tie.Need-add-i Inv-loop μ-loop
+add-i c = search needs
+
+loop-less : tie.Need-loop-less Inv-loop μ-loop
+loop-less c = search needs
+
+loop-again : tie.Need-loop-again Inv-loop μ-loop
+loop-again c = let k = c .before .before .before in
+    let a = c .before .before .before .before .before .before .before .args in
+    let y : ℕ → ℕ = λ t. getD (a .y .now) t 0 in
+    let q : ℕ → ℕ = λ t. getD (a .q .now) t 0 in (
+      search needs,
+      ⊎-elim (λ w. ap length (w .6) ∙ simp length-set (k .loop .inv .1)) (λ w. ap length (w .1) ∙ k .loop .inv .1) (c .if1 .came),
+      ⊎-elim
+          (λ w. w .6
+          ∙ (ap (λ (v : ℕ). set (k .loop .rows) (q (k .loop .i)) v) (w .5 .ensures ∙ ap (λ (v : ℕ). withOf v (y (k .loop .i))) (w .3 .ensures))
+          ∙ exchanged-row (a .partitions) y q (a .rows .now) (k .loop .i) (k .loop .rows) (k .loop .inv .2) (w .0 .taken)))
+          (λ w. w .1 ∙ exchanged-store (a .partitions) y q (a .rows .now) (k .loop .i) (k .loop .rows) (k .loop .inv .2) (w .0 .left))
+          (c .if1 .came),
+    )
+
+same-length : tie.Need-same-length Inv-loop μ-loop
+same-length c = search needs
+
+returns : tie.Need-returns Inv-loop μ-loop
+returns c = let k = c .before in
+    let a = c .before .before .before .before .before .args in
+    let e : k .loop .i ≡ a .m = omega arith in
+    k .loop .inv .2 ∙ ap (λ (n : ℕ). exchanged (a .partitions) (λ t. getD (a .y .now) t 0) (λ t. getD (a .q .now) t 0) n (a .rows .now)) e
+
+pub make-spec : {M : Type 1} → statement M
+make-spec =
+    tie.close
+    (tie.spec
+    Inv-loop
+    μ-loop
+    loop-holds
+    mul-p
+    shared-slice-read-p
+    mul-without
+    slice-read-without
+    add-without
+    mul-without-2
+    shared-slice-read-without
+    without-requires
+    mul-with
+    shared-slice-read-with
+    with-requires
+    mul-rows
+    slice-write-rows
+    add-i
+    loop-less
+    loop-again
+    same-length
+    returns)

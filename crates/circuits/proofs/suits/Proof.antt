@@ -1,0 +1,91 @@
+-- `circuits::suits` meets its contract. Assumes nothing.
+use borrow.Author.Needs.{needs}
+use native.Mathlib.Omega.{arith}
+use borrow.Author.Tests.{not-true, not-false}
+use Rattle.sets.specs.Bits.{bit}
+use borrow.Author.Tests.{ne-eqb, eq-eqb}
+use mathlib.Core.Path.{_≡_}
+use Prim.Native.Nat.{_+_}
+use Rattle.circuits.specs.ModelCircuits.{suitsOf}
+use Rattle.sets.specs.Bits.{memberOf}
+use mathlib.Core.Bool.{true, false}
+use mathlib.Core.Path.{sym, _∙_}
+use Rattle.circuits.proofs.suits.Statement.{statement}
+use Rattle.circuits.proofs.suits.Tie as tie
+
+member-requires : tie.Need-member-requires
+member-requires c κs = search needs
+
+returns : tie.Need-returns
+unfolding suitsOf
+returns c = let a = c .before .before .before .args in
+    let e : memberOf (a .row) (a .u) ≡ false = sym (c .before .member .ensures) ∙ not-true (c .before .member .result) (c .if1 .taken) in
+    rw e
+
+member-requires-2 : tie.Need-member-requires-2
+member-requires-2 c κs = search needs
+
+returns-2 : tie.Need-returns-2
+unfolding suitsOf
+returns-2 c = let k = c .before .before in
+    let a = k .before .before .before .args in
+    let d : memberOf (a .row) (a .u) ≡ true = sym (k .before .member .ensures) ∙ not-false (k .before .member .result) (k .if1 .left) in
+    let e : memberOf (a .row) (a .v) ≡ true = cc in
+    rw (d, e)
+
+digit-requires : tie.Need-digit-requires
+digit-requires c κs = search needs
+
+add-if3 : tie.Need-add-if3
+add-if3 c = search needs
+
+digit-requires-2 : tie.Need-digit-requires-2
+digit-requires-2 c κs = search needs
+
+add-if3-2 : tie.Need-add-if3-2
+add-if3-2 c = search needs
+
+returns-3 : tie.Need-returns-3
+unfolding suitsOf
+returns-3 c = let k = c .before .before .before .before .before in
+    let a = k .before .before .before .args in
+    let d : memberOf (a .row) (a .u) ≡ true = sym (k .before .member .ensures) ∙ not-false (k .before .member .result) (k .if1 .left) in
+    let e : memberOf (a .row) (a .v) ≡ false = cc in
+    let x : c .before .before .digit .result ≡ bit (a .old) (a .u) = c .before .before .digit .ensures .0 in
+    let y : c .before .digit2 .result ≡ bit (a .old) (a .v) = c .before .digit2 .ensures .0 in
+    let f = ne-eqb (1 + bit (a .old) (a .u)) (a .w + bit (a .old) (a .v)) (λ q. omega arith) in
+    rw (d, e, f)
+
+targets-requires : tie.Need-targets-requires
+targets-requires c κs = search needs
+
+member-requires-3 : tie.Need-member-requires-3
+member-requires-3 c κs = search needs
+
+returns-4 : tie.Need-returns-4
+unfolding suitsOf
+returns-4 c = let k = c .before .before .before .before .before .before .before in
+    let a = k .before .before .before .args in
+    let d : memberOf (a .row) (a .u) ≡ true = sym (k .before .member .ensures) ∙ not-false (k .before .member .result) (k .if1 .left) in
+    let e : memberOf (a .row) (a .v) ≡ false = cc in
+    let x : c .before .before .before .before .digit .result ≡ bit (a .old) (a .u) = c .before .before .before .before .digit .ensures .0 in
+    let y : c .before .before .before .digit2 .result ≡ bit (a .old) (a .v) = c .before .before .before .digit2 .ensures .0 in
+    let f = eq-eqb (1 + bit (a .old) (a .u)) (a .w + bit (a .old) (a .v)) (omega arith) in
+    rw (d, e, f) (cc)
+
+pub suits-spec : {M : Type 1} → statement M
+suits-spec =
+    tie.close
+    (tie.spec
+    member-requires
+    returns
+    member-requires-2
+    returns-2
+    digit-requires
+    add-if3
+    digit-requires-2
+    add-if3-2
+    returns-3
+    targets-requires
+    member-requires-3
+    returns-4)

@@ -1,0 +1,4 @@
+pub mod Firsts
+pub mod Offers
+pub mod Parts
+pub mod Sweeps

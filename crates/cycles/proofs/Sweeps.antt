@@ -1,0 +1,99 @@
+-- A look at the arcs of a node is three offers, and a sweep is a scan at every node.
+-- Assumes nothing.
+use Prim.Native.Nat.{ℕ, zero, suc, _+_, _-_, _*_, _≤_, _<_, max}
+use mathlib.Core.Path.{_≡_, refl, sym, ap, ap₂, _∙_, subst}
+use mathlib.Core.Bool.{Bool, true, false, cond, _&&_}
+use mathlib.Core.List.{List}
+use mathlib.Core.Logic.{⊎-elim}
+use native.Mathlib.Numerals.{add-one}
+use native.Mathlib.Omega.{arith}
+use lib.Dec.{ltb, eqb}
+use lib.ListN.{length, getD}
+use borrow.Author.Tests.{lt-ltb, le-ltb, eq-eqb}
+use Rattle.sums.specs.Sum.{one-if}
+use Rattle.sums.proofs.Sum.{lt-or-ge}
+use Rattle.sets.specs.Bits.{bit, memberOf}
+use Rattle.sets.proofs.Laws.{bit-le, bit-zero}
+use Rattle.exchange.specs.Levels.{Graph, Fall, relax, scan}
+use Rattle.cycles.specs.ModelGraph.{graphOf, arcOf, weightOf}
+use Rattle.cycles.specs.Turns.{Held, Turns, Swept, offered}
+use Rattle.cycles.proofs.Offers.{offered-not, offered-less, offered-more}
+
+-- What was offered stands no higher.
+offered-low : (c u : ℕ) (f : Fall) → offered 1 c u f .dist ≤ c
+offered-low c u f =
+    ⊎-elim (λ l. omega (arith, ap (λ (g : Fall). g .dist) (offered-less c u f l))) (λ l. omega (arith, ap (λ (g : Fall). g .dist) (offered-more 1 c u f l)))
+    (lt-or-ge c (f .dist))
+
+-- One offer, with weights shifted by 1.
+offered-one : (c e u : ℕ) (f : Fall) → e ≡ c + 1 → offered 1 c u f ≡ cond (ltb e (f .dist + 1)) (record { dist = e - 1; from = u }) f
+offered-one c e u f q =
+    ⊎-elim
+    (λ l. offered-less c u f l ∙ (ap (λ (i : ℕ). record { dist = i; from = u }) (omega arith) ∙ ap (λ (b : Bool). cond b (record { dist = e - 1; from = u }) f) (sym (lt-ltb e (f .dist + 1) (omega arith)))))
+    (λ l. offered-more 1 c u f l ∙ ap (λ (b : Bool). cond b (record { dist = e - 1; from = u }) f) (sym (le-ltb e (f .dist + 1) (omega arith))))
+    (lt-or-ge c (f .dist))
+
+-- An offer after a lower one is of no use.
+offered-twice : (p c' c u : ℕ) (f : Fall) → c ≤ c' → offered p c' u (offered 1 c u f) ≡ offered 1 c u f
+offered-twice p c' c u f l = offered-more p c' u (offered 1 c u f) (omega (arith, offered-low c u f))
+
+-- Three offers, by the least weight.
+three : (a b p d u : ℕ) (f : Fall) → a ≤ 1 → b ≤ 1 → p ≤ 1 → 1 ≤ d
+    → offered p (d + 1) u (offered b d u (offered a (d - 1) u f))
+    ≡ cond (eqb (max a (max b p)) 1 && ltb (d + cond (eqb a 1) 0 (cond (eqb b 1) 1 2)) (f .dist + 1))
+    (record { dist = d + cond (eqb a 1) 0 (cond (eqb b 1) 1 2) - 1; from = u }) f
+three zero zero zero d u f ha hb hp h = rw (offered-not, offered-not, offered-not)
+three zero zero (suc zero) d u f ha hb hp h = rw (offered-not (d - 1) u f, offered-not d u f) (offered-one (d + 1) (d + 2) u f (omega arith))
+three zero zero (suc (suc p)) d u f ha hb hp h = absurd (omega arith)
+three zero (suc zero) p d u f ha hb hp h =
+    rw (eq-eqb (max 0 (max 1 p)) 1 (omega arith), offered-not (d - 1) u f, offered-twice p (d + 1) d u f (omega arith)) (offered-one d (d + 1) u f refl)
+three zero (suc (suc b)) p d u f ha hb hp h = absurd (omega arith)
+three (suc zero) b p d u f ha hb hp h =
+    rw (eq-eqb (max 1 (max b p)) 1 (omega arith), offered-twice b d (d - 1) u f (omega arith), offered-twice p (d + 1) (d - 1) u f (omega arith)) (offered-one (d - 1) (d + 0) u f (omega arith))
+three (suc (suc a)) b p d u f ha hb hp h = absurd (omega arith)
+
+-- A look at the arcs of u is three offers: at weight −1, then 0, then +1.
+pub look-offers : (arcs : List ℕ) (n d v u : ℕ) (f : Fall) → 1 ≤ d
+    → offered (bit (getD arcs (64 + u) 0) v) (d + 1) u (offered (bit (getD arcs (32 + u) 0) v) d u (offered (bit (getD arcs u 0) v) (d - 1) u f))
+    ≡ relax (graphOf arcs n) (λ _. d) v u true f
+unfolding relax arcOf weightOf memberOf
+look-offers arcs n d v u f h =
+    three (bit (getD arcs u 0) v) (bit (getD arcs (32 + u) 0) v) (bit (getD arcs (64 + u) 0) v) d u f (bit-le (getD arcs u 0) v) (bit-le (getD arcs (32 + u) 0) v)
+    (bit-le (getD arcs (64 + u) 0) v) h
+
+-- A node that is not looked at changes nothing.
+pub look-not : (arcs : List ℕ) (n d u fell : ℕ) (on : Bool) (next row : List ℕ) → on ≡ false
+    → Turns n (λ v f. relax (graphOf arcs n) (λ _. d) v u on f) next row fell next row fell
+unfolding relax
+look-not arcs n d u fell on next row o v e f l g h =
+    subst (λ (i : Bool). Held e (relax (graphOf arcs n) (λ _. d) v u i f) (getD next v 0) (getD row v 0) (bit fell v)) (sym o) h
+
+-- Three offers one after the other are a look.
+pub look-turns : (arcs : List ℕ) (n d u a b fell r : ℕ) (on : Bool) (next₀ row₀ next₁ row₁ next₂ row₂ next row : List ℕ) → 1 ≤ d → on ≡ true
+    → Turns n (λ v f. offered (bit (getD arcs u 0) v) (d - 1) u f) next₀ row₀ fell next₁ row₁ a
+    → Turns n (λ v f. offered (bit (getD arcs (32 + u) 0) v) d u f) next₁ row₁ a next₂ row₂ b
+    → Turns n (λ v f. offered (bit (getD arcs (64 + u) 0) v) (d + 1) u f) next₂ row₂ b next row r
+    → Turns n (λ v f. relax (graphOf arcs n) (λ _. d) v u on f) next₀ row₀ fell next row r
+look-turns arcs n d u a b fell r on next₀ row₀ next₁ row₁ next₂ row₂ next row p o s t w v e f l g h =
+    subst (λ (k : Fall). Held e k (getD next v 0) (getD row v 0) (bit r v)) (look-offers arcs n d v u f p ∙ ap (λ (i : Bool). relax (graphOf arcs n) (λ _. d) v u i f) (sym o))
+    (w v e (offered (bit (getD arcs (32 + u) 0) v) d u (offered (bit (getD arcs u 0) v) (d - 1) u f)) l g
+    (t v e (offered (bit (getD arcs u 0) v) (d - 1) u f) l g (s v e f l g h)))
+
+-- The fall of v by the arcs from the members of a set below u, where nodes stand at the cells of d.
+abbrev pub fallTo : List ℕ → ℕ → ℕ → List ℕ → ℕ → ℕ → Fall
+fallTo arcs n mask d v u = scan (graphOf arcs n) (memberOf mask) (λ i. getD d i 0) v u
+
+-- Before the first look every node stands where it stood.
+pub sweep-start : (arcs : List ℕ) (n mask : ℕ) (d next row : List ℕ) (v : ℕ) → getD next v 0 ≡ getD d v 0
+    → Held (getD d v 0) (fallTo arcs n mask d v 0) (getD next v 0) (getD row v 0) (bit 0 v)
+unfolding scan one-if
+sweep-start arcs n mask d next row v e =
+    record { low = omega arith; dist = e; from = λ l. absurd (omega arith); mark = bit-zero v ∙ ap one-if (sym (le-ltb (getD d v 0) (getD d v 0) (omega arith))) }
+
+-- One look more.
+pub sweep-more : (arcs : List ℕ) (n mask u fell r : ℕ) (d next row next' row' : List ℕ) (v : ℕ) → v < 32 → getD d v 0 ≤ n
+    → Turns n (λ v f. relax (graphOf arcs n) (λ _. getD d u 0) v u (memberOf mask u) f) next row fell next' row' r
+    → Held (getD d v 0) (fallTo arcs n mask d v u) (getD next v 0) (getD row v 0) (bit fell v)
+    → Held (getD d v 0) (fallTo arcs n mask d v (u + 1)) (getD next' v 0) (getD row' v 0) (bit r v)
+unfolding scan relax
+sweep-more arcs n mask u fell r d next row next' row' v l g t h = rw (add-one u) (t v (getD d v 0) (fallTo arcs n mask d v u) l g h)

@@ -1,0 +1,124 @@
+// A search for a simple negative cycle in a graph of at most 32 nodes with weights −1, 0 and +1, level by level.
+ghost use mathlib.Core.Path.{_≡_};
+ghost use mathlib.Core.Bool.{true};
+ghost use Prim.Native.Nat.{ℕ, _+_, _≤_, _<_};
+ghost use lib.ListN.{length, getD};
+ghost use Rattle.cells.specs.Cells.{put};
+ghost use Rattle.sets.specs.Bits.{bit, memberOf, withOf};
+ghost use Rattle.exchange.specs.Levels.{relax};
+ghost use Rattle.cycles.specs.ModelGraph.{graphOf};
+ghost use Rattle.cycles.specs.Turns.{offered, Turns, Swept, before, closer, trail, trailLength};
+
+// Offers distance c from node u to the members of m, where all stand at top or below. The members that take it are set in fell, which is returned.
+fn offer(top: u32, m: u32, c: u32, u: u32, fell: u32, next: &mut [u32], row: &mut [u32]) -> u32
+    requires { ⌜ (32 ≤ length (now next)) × (32 ≤ length (now row)) ⌝ }
+    ensures { λ r. ⌜ Turns top (λ v f. offered (bit m v) c u f) (now (next .entry)) (now (row .entry)) fell (now (next .exit)) (now (row .exit)) r ⌝ }
+{
+    if top <= c {
+        return fell;
+    }
+    let mut marks = fell;
+    let mut left = m;
+    while left != 0 {
+        let v = sets::least(left);
+        let i = v as usize;
+        left = sets::without(left, v);
+        if c < next[i] {
+            next[i] = c;
+            row[i] = u;
+            marks = sets::with(marks, v);
+        }
+    }
+    marks
+}
+
+// Looks at the arcs of node u, which stands at d, if it is a member of mask. The nodes that fall are set in fell, which is returned.
+fn look(arcs: &[u32], n: u32, mask: u32, u: u32, d: u32, fell: u32, next: &mut [u32], row: &mut [u32]) -> u32
+    requires { ⌜ (96 ≤ length (now arcs)) × (u < 32) × (1 ≤ d) × (d ≤ 32) × (32 ≤ length (now next)) × (32 ≤ length (now row)) ⌝ }
+    ensures { λ r. ⌜ Turns n (λ v f. relax (graphOf (now (arcs .entry)) n) (λ _. d) v u (memberOf mask u) f) (now (next .entry)) (now (row .entry)) fell (now (next .exit)) (now (row .exit)) r ⌝ }
+{
+    if sets::member(mask, u) {
+        let i = u as usize;
+        let a = offer(n, arcs[i], d - 1, u, fell, next, row);
+        let b = offer(n, arcs[32 + i], d, u, a, next, row);
+        offer(n, arcs[64 + i], d + 1, u, b, next, row)
+    } else {
+        fell
+    }
+}
+
+// Looks at the arcs of the members of mask, from their distances dist, which next holds too. The set of the nodes that fall is returned.
+fn sweep(arcs: &[u32], n: u32, mask: u32, dist: &[u32], next: &mut [u32], row: &mut [u32]) -> u32
+    requires { ⌜ (n ≤ 32) × (96 ≤ length (now arcs)) × (32 ≤ length (now dist)) × (32 ≤ length (now next)) × (32 ≤ length (now row)) × ((v : ℕ) → v < n → (1 ≤ getD (now dist) v 0) × (getD (now dist) v 0 ≤ n) × (getD (now next) v 0 ≡ getD (now dist) v 0)) ⌝ }
+    ensures { λ r. ⌜ Swept (now (arcs .entry)) n mask (now (dist .entry)) (now (next .exit)) (now (row .exit)) r ⌝ }
+{
+    let mut fell = 0;
+    let mut u = 0;
+    while u < n {
+        fell = look(arcs, n, mask, u, dist[u as usize], fell, next, row);
+        u += 1;
+    }
+    fell
+}
+
+// The way that v's way grows from: that of the node it came from, where it fell, else its own way but v.
+fn grown_from(fell: u32, v: u32, row: &[u32], way: &[u32]) -> u32
+    requires { ⌜ (v < 32) × (32 ≤ length (now row)) × (32 ≤ length (now way)) × (memberOf fell v ≡ true → getD (now row) v 0 < 32) ⌝ }
+    ensures { λ r. ⌜ r ≡ before fell (now (row .entry)) (now (way .entry)) v ⌝ }
+{
+    let i = v as usize;
+    if sets::member(fell, v) {
+        way[row[i] as usize]
+    } else {
+        sets::without(way[i], v)
+    }
+}
+
+// The first node that its way comes to again; n where there is none, and then grown has the ways with one level more.
+fn close(n: u32, fell: u32, row: &[u32], way: &[u32], grown: &mut [u32]) -> u32
+    requires { ⌜ (n ≤ 32) × (32 ≤ length (now row)) × (32 ≤ length (now way)) × (32 ≤ length (now grown)) × ((v : ℕ) → v < n → memberOf fell v ≡ true → getD (now row) v 0 < 32) ⌝ }
+    ensures first { λ r. ⌜ r ≡ closer n fell (now (row .entry)) (now (way .entry)) ⌝ }
+    ensures grows { λ r. ⌜ (r ≡ n → now (grown .exit) ≡ put 0 (λ v. withOf (before fell (now (row .entry)) (now (way .entry)) v) v) n (now (grown .entry))) ⌝ }
+{
+    let mut v = 0;
+    while v < n {
+        let w = grown_from(fell, v, row, way);
+        if sets::member(w, v) {
+            return v;
+        }
+        grown[v as usize] = sets::with(w, v);
+        v += 1;
+    }
+    n
+}
+
+// Writes the walk back from v at level k, through the rows of the table, until it is at v again. Its length is returned.
+fn trace(table: &[u32], k: u32, v: u32, walk: &mut [u32]) -> u32
+    requires { ⌜ (k ≤ 32) × (1056 ≤ length (now table)) × (33 ≤ length (now walk)) × (trailLength (now table) k v ≤ k) × ((t : ℕ) → t < k → trail (now table) k v t < 32) ⌝ }
+    ensures { λ r. ⌜ (r ≡ trailLength (now (table .entry)) k v) × (now (walk .exit) ≡ put 0 (trail (now (table .entry)) k v) (trailLength (now (table .entry)) k v + 1) (now (walk .entry))) ⌝ }
+{
+    let mut x = v;
+    let mut t = 0;
+    while t < k {
+        walk[t as usize] = x;
+        x = table[((k - t) * 32 + x) as usize];
+        t += 1;
+        if x == v {
+            walk[t as usize] = x;
+            return t;
+        }
+    }
+    t
+}
+
+// Fills in the way of each node at level 0: the node itself.
+fn begin(way: &mut [u32])
+    requires { ⌜ 32 ≤ length (now way) ⌝ }
+    ensures { λ _. ⌜ now (way .exit) ≡ put 0 (λ v. withOf 0 v) 32 (now (way .entry)) ⌝ }
+{
+    let mut v = 0;
+    while v < 32 {
+        way[v as usize] = sets::with(0, v);
+        v += 1;
+    }
+}

@@ -1,0 +1,166 @@
+-- `graph::add_row` meets its contract. The loop's invariant: the nodes of the row that are no more left have been noted and counted.
+-- The measure is the number of nodes that are left. Assumes nothing.
+use Prim.Native.Nat.{ℕ, _+_, _-_, _/_, _%_, _≤_, _<_, min, max}
+use mathlib.Core.Path.{_≡_, sym, ap, _∙_, subst}
+use mathlib.Core.List.{List}
+use lib.ListN.{length, getD}
+use Rattle.sets.specs.Bits.{bit, countOf, leastOf, withoutOf}
+use Rattle.swaps.specs.ModelSwaps.{targetsOf}
+use Rattle.graph.specs.Growth.{Grown, Added}
+use Rattle.graph.proofs.Growing.{added-same, Left, left-all, least-word, left-less}
+use Rattle.graph.proofs.Turns.{doing, row-none, row-turn, row-all, count-turn, count-all}
+use Rattle.sets.proofs.Laws.{bit-le, least-at, least-taken}
+use borrow.Author.Needs.{needs}
+use native.Mathlib.Omega.{arith}
+use Rattle.graph.proofs.add_row.Statement.{statement}
+use Rattle.graph.proofs.add_row.Tie as tie
+use Rattle.graph.proofs.add_row.Reads as reads
+use Rattle.graph.proofs.add_row.Lts as lts
+use Rattle.graph.proofs.note.Reads as note-reads
+use Rattle.sets.proofs.least.Reads as least-reads
+use Rattle.sets.proofs.without.Reads as without-reads
+use Rattle.swaps.proofs.cell.Reads as cell-reads
+use Rattle.swaps.proofs.targets_in.Reads as targets-in-reads
+use Rattle.swaps.proofs.touched.Reads as touched-reads
+
+abbrev Inv-loop : tie.InvT-loop
+Inv-loop arcs₀ counts₀ row former mates all z zones nodes spare left₀ arcs counts left =
+    (96 ≤ length arcs₀)
+    × (32 ≤ length counts₀)
+    × Left row left
+    × Grown (doing mates all z row former left) arcs₀ arcs
+    × Added (λ c. bit row c - bit left c) counts₀ counts
+
+abbrev μ-loop : tie.MeasureT-loop
+μ-loop arcs₀ counts₀ row former mates all z zones nodes spare left₀ arcs counts left = countOf left
+
+touched-requires : tie.Need-touched-requires Inv-loop μ-loop
+touched-requires c κs = search needs
+
+loop-holds : tie.Need-loop-holds Inv-loop μ-loop
+loop-holds c =
+    let a = c .before .before .before .before .args in (
+      search needs,
+      search needs,
+      left-all (a .row) (search needs),
+      row-none (a .mates .now) (a .all) (a .z) (a .row) (a .former) (a .arcs .now),
+      added-same (λ c. bit (a .row) c - bit (a .row) c) (a .counts .now) (λ c p. omega arith),
+    )
+
+least-requires : tie.Need-least-requires Inv-loop μ-loop
+least-requires c κs = search needs
+
+-- Within a turn, the node is below 32, and the lists are long enough.
+bounds : (c : tie.After-least Inv-loop μ-loop)
+    → (c .least .result < 32) × (96 ≤ length (c .before .before .loop .arcs)) × (32 ≤ length (c .before .before .loop .counts))
+bounds c =
+    let k = c .before .before in
+    let w = least-word (k .before .before .before .before .before .args .row) (k .loop .left) (k .loop .inv .2) (c .before .loop-test .taken) in
+    omega (arith, w, c .least .ensures, k .loop .inv .3 .long, k .loop .inv .4 .long)
+
+cast-i : tie.Need-cast-i Inv-loop μ-loop
+cast-i c = search needs
+
+cell-requires : tie.Need-cell-requires Inv-loop μ-loop
+cell-requires c κs = search needs
+
+targets-in-requires : tie.Need-targets-in-requires Inv-loop μ-loop
+targets-in-requires c κs = search needs
+
+note-requires : tie.Need-note-requires Inv-loop μ-loop
+note-requires c κs = omega (arith, bounds (c .before .before .before))
+
+mul-counts : tie.Need-mul-counts Inv-loop μ-loop
+mul-counts c = search needs
+
+slice-read-counts : tie.Need-slice-read-counts Inv-loop μ-loop
+slice-read-counts c = omega (arith, bounds (c .before .before .before .before .before .before .before))
+
+add-counts : tie.Need-add-counts Inv-loop μ-loop
+add-counts c =
+    let l = c .before .before .before .before .before .before .before in
+    let k = l .before .before in
+    let a = k .before .before .before .before .before .args in
+    let w = least-word (a .row) (k .loop .left) (k .loop .inv .2) (l .before .loop-test .taken) in
+    let i = l .least .result in
+    let h = bounds l .0 in
+    omega (
+      arith,
+      k .loop .inv .4 .cells i h,
+      k .before .before .before .before .before .pre .2 i h,
+      bit-le (a .row) i,
+      least-at (k .loop .left) w,
+      ap (bit (k .loop .left)) (l .least .ensures),
+    )
+
+mul-counts-2 : tie.Need-mul-counts-2 Inv-loop μ-loop
+mul-counts-2 c = search needs
+
+slice-write-counts : tie.Need-slice-write-counts Inv-loop μ-loop
+slice-write-counts c = omega (arith, bounds (c .before .before .before .before .before .before .before))
+
+without-requires : tie.Need-without-requires Inv-loop μ-loop
+without-requires c κs = search needs
+
+loop-less : tie.Need-loop-less Inv-loop μ-loop
+loop-less c =
+    let k = c .before .before .before .before .before .before .before .before .before .before in
+    let t = c .before .before .before .before .before .before .before .before .before .loop-test .taken in
+    omega (arith, least-taken (k .loop .left) (k .loop .inv .2 .word) t, ap countOf (c .without .ensures ∙ ap (λ (x : ℕ). withoutOf (k .loop .left) x) (c .before .before .before .before .before .before .before .before .least .ensures)))
+
+loop-again : tie.Need-loop-again Inv-loop μ-loop
+loop-again c =
+    let k = c .before .before .before .before .before .before .before .before .before .before in
+    let n = c .before .before .before .before in
+    let t = c .before .before .before .before .before .before .before .before .before .loop-test .taken in
+    let a = k .before .before .before .before .before .args in
+    let i = n .before .before .before .before .least .result in
+    let ei = n .before .before .before .before .least .ensures in
+    let en = c .without .ensures ∙ ap (λ (x : ℕ). withoutOf (k .loop .left) x) ei in
+    let e : n .before .before .targets-in .result ≡ targetsOf (a .mates .now) (a .all) (a .z) (a .row) i = unfold targetsOf in cc in (
+      k .loop .inv .0,
+      k .loop .inv .1,
+      subst (λ (x : ℕ). Left (a .row) x) (sym en) (left-less (a .row) (k .loop .left) (k .loop .inv .2) t),
+      row-turn (a .mates .now) (a .all) (a .z) (a .row) (a .former) (a .arcs .now) (k .loop .left) i (c .without .result) (n .before .before .targets-in .result) (k .loop .arcs)
+          (n .note .last .0) (k .loop .inv .2) t (k .loop .inv .0) ei (c .without .ensures) e (n .note .ensures) (k .loop .inv .3),
+      count-turn (a .row) (k .loop .left) i (c .without .result) (a .counts .now) (k .loop .counts) (k .loop .inv .2) t (k .loop .inv .1) ei (c .without .ensures) (k .loop .inv .4),
+    )
+
+same-length : tie.Need-same-length Inv-loop μ-loop
+same-length c = c .before .loop .inv .3 .long
+
+same-length-2 : tie.Need-same-length-2 Inv-loop μ-loop
+same-length-2 c = c .before .loop .inv .4 .long
+
+returns : tie.Need-returns Inv-loop μ-loop
+returns c =
+    let k = c .before in
+    let a = k .before .before .before .before .before .args in (
+      row-all (a .mates .now) (a .all) (a .z) (a .row) (a .former) (a .arcs .now) (k .loop .left) (k .loop .arcs) (c .loop-test .left) (k .loop .inv .3),
+      count-all (a .row) (k .loop .left) (a .counts .now) (k .loop .counts) (c .loop-test .left) (k .loop .inv .4),
+    )
+
+pub add-row-spec : {M : Type 1} → statement M
+add-row-spec =
+    tie.close
+    (tie.spec
+    Inv-loop
+    μ-loop
+    touched-requires
+    loop-holds
+    least-requires
+    cast-i
+    cell-requires
+    targets-in-requires
+    note-requires
+    mul-counts
+    slice-read-counts
+    add-counts
+    mul-counts-2
+    slice-write-counts
+    without-requires
+    loop-less
+    loop-again
+    same-length
+    same-length-2
+    returns)

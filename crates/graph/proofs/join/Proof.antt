@@ -1,0 +1,43 @@
+-- `graph::join` meets its contract. Assumes nothing.
+use Rattle.graph.specs.ModelArcs.{joined}
+use borrow.Author.Needs.{needs}
+use native.Mathlib.Omega.{arith}
+use Rattle.graph.proofs.join.Statement.{statement}
+use Rattle.graph.proofs.join.Tie as tie
+use Rattle.graph.proofs.join.Reads as reads
+use Rattle.graph.proofs.join.Lts as lts
+use Rattle.sets.proofs.union.Reads as union-reads
+
+mul-union : tie.Need-mul-union
+mul-union c = search needs
+
+slice-read-union : tie.Need-slice-read-union
+slice-read-union c = search needs
+
+union-requires : tie.Need-union-requires
+union-requires c κs = search needs
+
+mul-arcs : tie.Need-mul-arcs
+mul-arcs c = search needs
+
+slice-write-arcs : tie.Need-slice-write-arcs
+slice-write-arcs c = search needs
+
+same-length : tie.Need-same-length
+same-length c = search needs
+
+returns : tie.Need-returns
+unfolding joined
+returns c = cc
+
+pub join-spec : {M : Type 1} → statement M
+join-spec =
+    tie.close
+    (tie.spec
+    mul-union
+    slice-read-union
+    union-requires
+    mul-arcs
+    slice-write-arcs
+    same-length
+    returns)

@@ -1,0 +1,64 @@
+-- `graph::note` meets its contract. Assumes nothing.
+use Rattle.graph.specs.ModelArcs.{noted}
+use Rattle.sets.proofs.Laws.{bit-shr}
+use borrow.Author.Needs.{needs}
+use native.Mathlib.Omega.{arith}
+use Rattle.graph.proofs.note.Statement.{statement}
+use Rattle.graph.proofs.note.Tie as tie
+use Rattle.graph.proofs.note.Reads as reads
+use Rattle.graph.proofs.note.Lts as lts
+use Rattle.graph.proofs.join.Reads as join-reads
+use Rattle.sets.proofs.difference.Reads as difference-reads
+use Rattle.sets.proofs.meet.Reads as meet-reads
+
+shr-i : tie.Need-shr-i
+shr-i c = search needs
+
+mul-i : tie.Need-mul-i
+mul-i c = search needs
+
+add-i : tie.Need-add-i
+add-i c = search needs
+
+cast-i : tie.Need-cast-i
+cast-i c = search needs
+
+meet-requires : tie.Need-meet-requires
+meet-requires c κs = search needs
+
+join-requires : tie.Need-join-requires
+join-requires c κs = search needs
+
+add-join : tie.Need-add-join
+add-join c = search needs
+
+difference-requires : tie.Need-difference-requires
+difference-requires c κs = search needs
+
+join-requires-2 : tie.Need-join-requires-2
+join-requires-2 c κs = search needs
+
+same-length : tie.Need-same-length
+same-length c = search needs
+
+returns : tie.Need-returns
+unfolding noted
+returns c =
+    let a = c .before .before .before .before .before .before .before .before .before .before .before .args in
+    cc (bit-shr (a .former) (a .a))
+
+pub note-spec : {M : Type 1} → statement M
+note-spec =
+    tie.close
+    (tie.spec
+    shr-i
+    mul-i
+    add-i
+    cast-i
+    meet-requires
+    join-requires
+    add-join
+    difference-requires
+    join-requires-2
+    same-length
+    returns)

@@ -1,0 +1,2 @@
+pub mod ModelArcs
+pub mod Growth

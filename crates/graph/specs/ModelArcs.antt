@@ -1,0 +1,49 @@
+-- The exchange graph of a layout as 96 sets: cell 32 * h + a has the nodes that one of a's copies can go to at weight h - 1.
+-- Assumes nothing.
+use Prim.Native.Nat.{ℕ, _+_, _*_, _/_, _%_, min, max}
+use mathlib.Core.List.{List, _++_}
+use lib.ListN.{length, getD, set, drop}
+use lib.Dec.{ltb}
+use Rattle.sums.specs.Sum.{sumTo, maxTo, one-if, is, pick}
+use Rattle.sets.specs.Bits.{bit, maskOf, unionOf, meetOf, differenceOf}
+use Rattle.cells.specs.Cells.{tab}
+use Rattle.swaps.specs.ModelSwaps.{targetsOf}
+
+-- 1 where the exchange of a for b, in a row that was `former`, has weight h - 1: 1 where a was there, less 1 where b was.
+unfoldable pub weighs : ℕ → ℕ → ℕ → ℕ → ℕ
+weighs former h a b = is (bit former b + h) (1 + bit former a)
+
+-- 1 where the row has the node a = j % 32, which may give way to b at weight j / 32 - 1.
+unfoldable pub moves : List ℕ → ℕ → ℕ → ℕ → ℕ → ℕ → ℕ → ℕ
+moves mates all z row former j b =
+    min (bit row (j % 32)) (min (bit (targetsOf mates all z row (j % 32)) b) (weighs former (j / 32) (j % 32) b))
+
+-- 1 where one of the first p rows allows it.
+unfoldable pub movesTo : List ℕ → List ℕ → ℕ → List ℕ → ℕ → ℕ → ℕ → ℕ → ℕ
+movesTo rows former p mates all z j b = maxTo p (λ q. moves mates all z (getD rows q 0) (getD former q 0) j b)
+
+-- How many of the first p rows have node a.
+unfoldable pub copiesTo : List ℕ → ℕ → ℕ → ℕ
+copiesTo rows p a = sumTo p (λ q. bit (getD rows q 0) a)
+
+-- 1 where j is the cell at weight 0 of a node of `all` with fewer copies than its cap, and b is of `all`.
+unfoldable pub roomy : (ℕ → ℕ) → List ℕ → ℕ → ℕ → ℕ → ℕ
+roomy copies caps all j b =
+    min (bit all (j % 32)) (min (is 1 (j / 32)) (min (one-if (ltb (copies (j % 32)) (getD caps (j % 32) 0))) (bit all b)))
+
+-- The set in cell j.
+unfoldable pub cellOf : List ℕ → List ℕ → ℕ → List ℕ → List ℕ → ℕ → ℕ → ℕ → ℕ
+cellOf rows former P mates caps all z j =
+    maskOf (λ b. max (movesTo rows former P mates all z j b) (roomy (copiesTo rows P) caps all j b)) 32
+
+-- The 96 sets, in a list that has room for them.
+unfoldable pub arcsOf : List ℕ → List ℕ → ℕ → List ℕ → List ℕ → ℕ → ℕ → List ℕ → List ℕ
+arcsOf rows former P mates caps all z l = pick (ltb (length l) 96) l (tab (cellOf rows former P mates caps all z) 96 ++ drop 96 l)
+
+-- The list with the members of s added to the set in cell i.
+unfoldable pub joined : List ℕ → ℕ → ℕ → List ℕ
+joined l i s = set l i (unionOf (getD l i 0) s)
+
+-- The list with the nodes `to` in a's sets: those of the former row at the lower weight, the others at the higher.
+unfoldable pub noted : List ℕ → ℕ → ℕ → ℕ → List ℕ
+noted l a former to = joined (joined l (a + bit former a * 32) (meetOf to former)) (a + bit former a * 32 + 32) (differenceOf to former)

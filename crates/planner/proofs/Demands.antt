@@ -1,0 +1,44 @@
+-- Demand 3 of the planner, and what refusal 9 means: the theorems that a customer reads. Their statements are in the terms of document 01.
+-- Assumes nothing.
+use Prim.Native.Nat.{ℕ, _+_, _*_, _≤_, _<_}
+use mathlib.Core.Path.{_≡_, refl, sym, subst}
+use native.Mathlib.Omega.{arith}
+use native.Mathlib.Nat.{le-antisymm}
+use Rattle.cluster.specs.Terms.{Topology, Layout, ValidAt, IsSize, IsFormer}
+use Rattle.cluster.specs.Faults.{Accepted}
+use Rattle.cluster.proofs.TieLayouts.{valid-of-within}
+use Rattle.sizing.specs.Model.{Fits32, sizeOf}
+use Rattle.sizing.proofs.Sizes.{size-none, none-size, size-largest}
+use Rattle.planner.specs.Demand.{Demand3, Rules}
+use Rattle.planner.specs.ModelRun.{ranOf, planOf, bitsAt, startRows, layoutRows, farRows, improvesAt, nextAt}
+use Rattle.planner.proofs.Rules.{Machine, rules}
+use Rattle.planner.proofs.Machines.{Good, start-good, machine}
+
+-- A cluster with a layout valid at size 1 has a size.
+has-size : (t : Topology) → Accepted t → Fits32 t → (L : Layout) → ValidAt t L 1 → 1 ≤ sizeOf t
+has-size t a low L v = size-largest t a low L 1 v
+
+-- The beginning is valid at the size.
+start-valid : (t : Topology) (a : Accepted t) → 1 ≤ sizeOf t → ValidAt t (layoutRows t (startRows t)) (sizeOf t)
+unfolding layoutRows
+start-valid t a large = valid-of-within t (a .ids) (bitsAt (startRows t)) (sizeOf t) large (start-good t a large .within)
+
+-- Demand 3: whatever the former layout and the allowance, the answers of planning obey the rules of planning by allowance.
+pub demand3 : (t : Topology) → Accepted t → Fits32 t → (L : Layout) → ValidAt t L 1 → Demand3 t (planOf t)
+unfolding planOf ranOf
+demand3 t a low L v =
+    let large = has-size t a low L v in
+    record {
+      beginning = layoutRows t (startRows t);
+      beginning-valid = λ s h.
+          subst (λ (k : ℕ). ValidAt t (layoutRows t (startRows t)) k)
+          (le-antisymm (h .largest (layoutRows t (startRows t)) (sizeOf t) (start-valid t a large)) (size-largest t a low (h .reached .0) s (h .reached .1)))
+          (start-valid t a large);
+      rules = λ F fo.
+          rules t F (sizeOf t) (improvesAt t F) (nextAt t F) (layoutRows t) (farRows t F) (startRows t) (Good t a) (machine t a F fo low large)
+          (layoutRows t (startRows t)) refl
+    }
+
+-- Demand 2: the size that planning finds is 0 exactly when no layout is valid at size 1.
+pub no-layout : (t : Topology) → Accepted t → (sizeOf t ≡ 0 → (L : Layout) → ValidAt t L 1 → ⊥) × (((L : Layout) → ValidAt t L 1 → ⊥) → sizeOf t ≡ 0)
+no-layout t a = (size-none t a, none-size t a)

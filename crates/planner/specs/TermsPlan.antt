@@ -1,0 +1,56 @@
+-- What planning refuses, answers and leaves in the lent buffers.
+-- Assumes nothing.
+use Prim.Native.Nat.{ℕ}
+use mathlib.Core.Bool.{Bool, true, false, not, _||_}
+use mathlib.Core.List.{List, _++_}
+use lib.Dec.{ltb, eqb}
+use lib.ListN.{length, drop, replicate}
+use Rattle.sums.specs.Sum.{pick}
+use Rattle.cluster.specs.Limits.{layoutCells, scratchCells}
+use Rattle.cluster.specs.Terms.{Topology, topology, partitions, Layout}
+use Rattle.cluster.specs.TermsCells.{rowsIn, cellsOf}
+use Rattle.cluster.specs.Faults.{faultOf}
+use Rattle.cluster.specs.declared.Cluster.{Cluster}
+use Rattle.masks.specs.Model.{rowsFormed}
+use Rattle.sizing.specs.Model.{sizeOf}
+use Rattle.planner.specs.Demand.{Answer}
+use Rattle.planner.specs.ModelRun.{planOf}
+use Rattle.planner.specs.declared.Planned.{Planned}
+
+-- "8: any buffer too short. 6: more than 32 boxes. 4: bits, replication, redundancy or an id out of range. 5: ids not rising, or one of the
+-- first P former rows not rising ids followed by zeros."
+unfoldable pub unusable : Cluster → List ℕ → ℕ → ℕ → ℕ
+unusable c former assignment scratch =
+    pick (ltb (length former) layoutCells || ltb assignment layoutCells || ltb scratch scratchCells) 8
+    (pick (eqb (faultOf c) 0) (pick (rowsFormed former (partitions (topology c))) 0 5) (faultOf c))
+
+-- "9: no layout is valid at size 1", where nothing else is refused. That the size found is 0 exactly then is a theorem.
+unfoldable pub planRefusal : Cluster → List ℕ → ℕ → ℕ → ℕ
+planRefusal c former assignment scratch =
+    pick (eqb (unusable c former assignment scratch) 0) (pick (eqb (sizeOf (topology c)) 0) 9 0) (unusable c former assignment scratch)
+
+-- The answer for an accepted cluster with a layout.
+abbrev pub answerOf : Cluster → List ℕ → ℕ → Answer
+answerOf c former a = planOf (topology c) (rowsIn (partitions (topology c)) former) a
+
+-- "every number for which nothing is laid down here is 0"
+abbrev pub refusedWith : ℕ → Planned
+refusedWith n = record { refusal = n; size = 0; distance = 0; finished = false; improvements = 0 }
+
+abbrev pub answered : Answer → Planned
+answered x = record { refusal = 0; size = x .size; distance = x .distance; finished = x .finished; improvements = x .improvements }
+
+-- What planning answers, for every cluster, former layout, allowance and length of the other buffers.
+unfoldable pub plannedOf : Cluster → List ℕ → ℕ → ℕ → ℕ → Planned
+plannedOf c former a assignment scratch =
+    pick (eqb (planRefusal c former assignment scratch) 0) (answered (answerOf c former a)) (refusedWith (planRefusal c former assignment scratch))
+
+-- "On success .. planning [sets] all 2,048 assignment cells. On refusal these cells keep what was lent"; cells beyond are never touched.
+unfoldable pub assignmentAfter : Cluster → List ℕ → ℕ → List ℕ → ℕ → List ℕ
+assignmentAfter c former a assignment scratch =
+    pick (eqb (planRefusal c former (length assignment) scratch) 0) (cellsOf (answerOf c former a .layout) ++ drop layoutCells assignment) assignment
+
+-- "Planning zeroes scratch on success and on refusal 9; on any other refusal scratch keeps what was lent."
+unfoldable pub scratchAfter : Cluster → List ℕ → ℕ → List ℕ → List ℕ
+scratchAfter c former assignment scratch =
+    pick (eqb (unusable c former assignment (length scratch)) 0) (replicate scratchCells 0 ++ drop scratchCells scratch) scratch

@@ -1,0 +1,75 @@
+-- How the answers are read: the size, the sets of mates, and the dealt rows, of a cluster without fault.
+-- Assumes nothing.
+use Prim.Native.Nat.{ℕ, _≤_, _<_, min}
+use mathlib.Core.Path.{_≡_, sym, ap, ap₂, _∙_}
+use mathlib.Core.Bool.{Bool, _&&_}
+use mathlib.Core.List.{List}
+use native.Mathlib.Nat.{zero-add}
+use native.Mathlib.Omega.{arith}
+use lib.ListN.{length}
+use borrow.Author.Tests.{eq-eqb, ne-eqb, le-leb}
+use Rattle.sums.specs.Sum.{is, pick}
+use Rattle.sets.specs.Bits.{bit, maskOf}
+use Rattle.sets.proofs.Bits.{bit-maskOf, mask-cong}
+use Rattle.cells.specs.Cells.{put}
+use Rattle.cells.proofs.Cells.{length-put, getD-put-in, getD-put-out}
+use Rattle.cluster.specs.Terms.{Topology, topology, partitions}
+use Rattle.cluster.specs.Faults.{faultOf}
+use Rattle.cluster.specs.Tie.{zoneIndex}
+use Rattle.cluster.specs.declared.Cluster.{Cluster}
+use Rattle.sizing.specs.Columns.{cell, column}
+use Rattle.sizing.specs.Model.{nodesOf, zoneCells, mateCells, sizeOf, sizeIn, beginning, dealtRows, dealtIn}
+use Rattle.sizing.proofs.Agree.{SameBelow}
+use Rattle.sizing.proofs.Arrays.{cells-agree, zones-hold}
+use Rattle.sizing.proofs.Sizes.{beginning-le}
+
+-- Without fault the size is answered.
+pub size-in : (c : Cluster) → faultOf c ≡ 0 → sizeIn c ≡ sizeOf (topology c)
+unfolding sizeIn
+size-in c e = ap (λ (b : Bool). pick b (sizeOf (topology c)) 0) (eq-eqb (faultOf c) 0 e)
+
+-- With a fault it is 0.
+pub size-fault : (c : Cluster) → (faultOf c ≡ 0 → ⊥) → sizeIn c ≡ 0
+unfolding sizeIn
+size-fault c h = ap (λ (b : Bool). pick b (sizeOf (topology c)) 0) (ne-eqb (faultOf c) 0 h)
+
+-- The mates of each node, from the array of zones.
+pub mates-hold : (t : Topology) → nodesOf t ≤ 32 → (zones mates : List ℕ) → zones ≡ zoneCells t → mates ≡ mateCells zones (nodesOf t)
+    → SameBelow (nodesOf t) (cell mates) (λ b. maskOf (λ x. is (zoneIndex t x) (zoneIndex t b)) (nodesOf t))
+unfolding mateCells
+mates-hold t few zones mates z e b l =
+    let n : min (nodesOf t) 32 ≡ nodesOf t = omega arith in
+    cells-agree (λ b. maskOf (λ x. is (cell zones x) (cell zones b)) (nodesOf t)) (nodesOf t) mates few
+    (e ∙ ap (λ (k : ℕ). column (λ b. maskOf (λ x. is (cell zones x) (cell zones b)) k) k) n) b l
+    ∙ mask-cong (λ x. is (cell zones x) (cell zones b)) (λ x. is (zoneIndex t x) (zoneIndex t b)) (nodesOf t)
+    (λ x m. ap₂ is (zones-hold t few zones z x m) (zones-hold t few zones z b l))
+
+-- Without fault, and with cells enough, the rows are dealt.
+pub deal-in : (c : Cluster) (s : ℕ) (l : List ℕ) → faultOf c ≡ 0 → partitions (topology c) ≤ length l → dealtIn c s l ≡ dealtRows (topology c) s l
+unfolding dealtIn
+deal-in c s l e h =
+    ap (λ (b : Bool). pick b (dealtRows (topology c) s l) l)
+    (ap₂ _&&_ (eq-eqb (faultOf c) 0 e) (le-leb (partitions (topology c)) (length l) h))
+
+module _ (t : Topology) (s : ℕ) (l : List ℕ) where
+  -- No cell comes or goes.
+  pub deal-length : length (dealtRows t s l) ≡ length l
+  unfolding dealtRows
+  deal-length = length-put 0 (λ p. maskOf (beginning t s p) (nodesOf t)) (partitions t) l
+
+  -- The cells from P on are kept.
+  pub deal-kept : (p : ℕ) → partitions t ≤ p → cell (dealtRows t s l) p ≡ cell l p
+  unfolding dealtRows
+  deal-kept p h = getD-put-out 0 (λ p. maskOf (beginning t s p) (nodesOf t)) (partitions t) l p 0 (λ j m e. omega arith)
+
+  -- A cell before P is the row of its partition.
+  pub deal-cell : partitions t ≤ length l → (p : ℕ) → p < partitions t → cell (dealtRows t s l) p ≡ maskOf (beginning t s p) (nodesOf t)
+  unfolding dealtRows
+  deal-cell h p m =
+      ap (cell (put 0 (λ p. maskOf (beginning t s p) (nodesOf t)) (partitions t) l)) (sym (zero-add p))
+      ∙ getD-put-in 0 (λ p. maskOf (beginning t s p) (nodesOf t)) (partitions t) l p 0 m (omega arith)
+
+  -- Its bits are the row of the beginning.
+  pub deal-bit : partitions t ≤ length l → (p : ℕ) → p < partitions t → SameBelow (nodesOf t) (bit (cell (dealtRows t s l) p)) (beginning t s p)
+  deal-bit h p m b k =
+      ap (λ (x : ℕ). bit x b) (deal-cell h p m) ∙ bit-maskOf (beginning t s p) (nodesOf t) b k (beginning-le t s p b)
