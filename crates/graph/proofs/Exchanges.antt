@@ -2,17 +2,16 @@
 -- to every node at weight 0, and each arc is an exchange of its weight, or such a step.
 -- Assumes nothing.
 use Prim.Native.Nat.{ℕ, zero, suc, _+_, _*_, _%_, _^_, _≤_, _<_, max}
-use mathlib.Core.Path.{_≡_, refl, sym, ap, ap₂, _∙_}
-use mathlib.Core.Bool.{Bool, true, false, cond}
-use mathlib.Core.List.{List, _++_}
+use mathlib.Core.Path.{_≡_, sym, ap, _∙_}
+use mathlib.Core.List.{List}
 use mathlib.Core.Logic.{_⊎_, inl, inr, ⊎-elim}
 use native.Mathlib.Omega.{arith}
 use lib.ListN.{length, getD, drop, List·getD-append}
 use lib.Seq.{drop-at}
 use borrow.Author.Tests.{lt-ltb, le-ltb}
 use Rattle.sums.proofs.Sum.{lt-or-ge}
-use Rattle.sets.specs.Bits.{bit, belowOf, memberOf}
-use Rattle.sets.proofs.Laws.{bit-le, bit-zero, bit-true, bit-false}
+use Rattle.sets.specs.Bits.{bit, belowOf}
+use Rattle.sets.proofs.Laws.{bit-le, bit-true, bit-false}
 use Rattle.cells.specs.Cells.{tab}
 use Rattle.cells.proofs.Cells.{length-tab, getD-tab}
 use Rattle.exchange.specs.Row.{Valid, Exchange, copies}

@@ -1,8 +1,8 @@
 -- What the 96 sets of a layout hold: in a layout of valid rows, each exchange that leaves its row valid is in the set of its weight, each node
 -- with room leads to every node at weight 0, and nothing else is in a set.
 -- Assumes nothing.
-use Prim.Native.Nat.{ℕ, suc, _+_, _-_, _*_, _/_, _%_, _^_, _≤_, _<_, min, max}
-use mathlib.Core.Path.{_≡_, refl, sym, ap, ap₂, _∙_, subst}
+use Prim.Native.Nat.{ℕ, _+_, _-_, _*_, _/_, _%_, _^_, _≤_, _<_, min, max}
+use mathlib.Core.Path.{_≡_, refl, sym, ap, ap₂, _∙_}
 use mathlib.Core.Bool.{Bool, true, false}
 use mathlib.Core.List.{List}
 use mathlib.Core.Logic.{_⊎_, inl, inr, ⊎-elim}
@@ -10,12 +10,12 @@ use native.Mathlib.Omega.{arith}
 use lib.ListN.{getD}
 use lib.Dec.{ltb}
 use borrow.Author.Tests.{lt-ltb, ltb-true}
-use Rattle.sums.specs.Sum.{sumTo, maxTo, one-if, is}
+use Rattle.sums.specs.Sum.{maxTo, one-if, is}
 use Rattle.sums.proofs.Sum.{lt-or-ge, is-eq, is-le, is-one}
 use Rattle.sums.proofs.Count.{max-ge, max-le, max-at}
-use Rattle.sets.specs.Bits.{bit, maskOf, belowOf}
+use Rattle.sets.specs.Bits.{bit, belowOf}
 use Rattle.sets.proofs.Laws.{bit-le, bit-high, bit-none, bit-maskOf, bit-mask-high, mask-lt, bit-below, bit-below-not}
-use Rattle.exchange.specs.Row.{Valid, Exchange, copies, swap}
+use Rattle.exchange.specs.Row.{Valid, Exchange, copies}
 use Rattle.swaps.specs.ModelSwaps.{targetsOf}
 use Rattle.swaps.specs.Mates.{Mates}
 use Rattle.swaps.proofs.Fitting.{targets-high, target-valid, valid-target}

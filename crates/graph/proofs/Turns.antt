@@ -1,11 +1,9 @@
 -- One turn of each loop, and what the whole leaves, over plain numbers and lists.
 -- Assumes nothing.
 use Prim.Native.Nat.{ℕ, zero, suc, _+_, _-_, _/_, _%_, _^_, _≤_, _<_, min, max}
-use mathlib.Core.Path.{_≡_, refl, sym, ap, ap₂, _∙_, subst}
-use mathlib.Core.Bool.{Bool, true, false}
+use mathlib.Core.Path.{_≡_, refl, sym, ap, ap₂, _∙_}
 use mathlib.Core.List.{List, _++_}
 use mathlib.Core.Logic.{_⊎_, ⊎-elim}
-use native.Mathlib.Nat.{add-zero}
 use native.Mathlib.Numerals.{add-one}
 use native.Mathlib.Omega.{arith}
 use lib.ListN.{length, getD, set, drop, take, replicate, length-append, length-drop, getD-replicate, List·getD-append, take-append-drop}
@@ -13,15 +11,14 @@ use lib.Seq.{ext-getD, drop-at, length-take-le, getD-take}
 use lib.Dec.{ltb}
 use borrow.Author.Tests.{lt-ltb, le-ltb}
 use Rattle.sums.specs.Sum.{sumTo, maxTo, one-if, is}
-use Rattle.sums.proofs.Sum.{is-eq, is-ne, is-le, is-cases}
-use Rattle.sets.specs.Bits.{bit, maskOf, withoutOf, leastOf}
+use Rattle.sets.specs.Bits.{bit, withoutOf, leastOf}
 use Rattle.sets.proofs.Laws.{bit-le, bit-zero, mask-unique}
 use Rattle.cells.specs.Cells.{tab}
 use Rattle.cells.proofs.Cells.{length-tab, getD-tab}
 use Rattle.swaps.specs.ModelSwaps.{targetsOf}
 use Rattle.graph.specs.ModelArcs.{weighs, moves, movesTo, copiesTo, roomy, cellOf, arcsOf, joined, noted}
 use Rattle.graph.specs.Growth.{Grown, Added}
-use Rattle.graph.proofs.Growing.{grown-same, grown-then, grown-joined, grown-noted, slot, added-same, added-then, added-one, Left, least-word, left-less, done-more, done-grows, done-all}
+use Rattle.graph.proofs.Growing.{grown-same, grown-then, grown-joined, grown-noted, slot, added-same, added-then, added-one, Left, least-word, done-more, done-grows, done-all}
 
 -- ---- the nodes of a row
 

@@ -14,7 +14,7 @@ use Rattle.sets.specs.Bits.{bit, unionOf, meetOf, differenceOf, belowOf, countO
 use Rattle.sets.proofs.Laws.{bit-le, bit-high, bit-union, bit-meet, bit-difference, bit-below, bit-below-not, meet-lt, difference-lt}
 use Rattle.exchange.specs.Row.{zoneCount, cover, Valid, swap}
 use Rattle.exchange.specs.Swap.{fits}
-use Rattle.exchange.proofs.Row.{zone-one, fits-valid, valid-fits}
+use Rattle.exchange.proofs.Row.{fits-valid, valid-fits}
 use Rattle.swaps.specs.ModelSwaps.{targetsIn, targetsOf, coverOf, coveredOf}
 use Rattle.swaps.specs.Mates.{Mates}
 use Rattle.swaps.proofs.Steps.{targets-spare, targets-crowded, targets-few}

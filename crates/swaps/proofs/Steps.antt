@@ -1,18 +1,16 @@
 -- One step of each scan, over plain numbers and lists.
 -- Assumes nothing.
 use Prim.Native.Nat.{ℕ, zero, suc, _+_, _-_, _^_, _≤_, _<_}
-use mathlib.Core.Path.{_≡_, refl, sym, ap, _∙_}
-use mathlib.Core.Bool.{Bool, true, false, _||_}
+use mathlib.Core.Path.{_≡_, refl, ap, _∙_}
+use mathlib.Core.Bool.{Bool, true, false}
 use mathlib.Core.List.{List}
 use mathlib.Core.Logic.{⊎-elim}
 use native.Mathlib.Omega.{arith}
 use lib.ListN.{getD}
-use lib.Dec.{eqb, ltb}
 use borrow.Author.Tests.{eq-eqb, ne-eqb, lt-ltb, le-ltb}
-use Rattle.sums.specs.Sum.{pick}
 use Rattle.sums.proofs.Sum.{eq-or-ne}
 use Rattle.sets.specs.Bits.{withoutOf, unionOf, meetOf, differenceOf, countOf, leastOf}
-use Rattle.sets.proofs.Laws.{meet-lt, without-lt, without-none, least-none, least-taken, count-difference, count-empty}
+use Rattle.sets.proofs.Laws.{without-lt, without-none, least-none, least-taken, count-difference, count-empty}
 use Rattle.swaps.specs.ModelSwaps.{restOf, coverIn, coveredIn, targetsIn}
 
 -- A scan's next fuel.

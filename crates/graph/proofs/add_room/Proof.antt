@@ -1,10 +1,10 @@
 -- `graph::add_room` meets its contract. The loop's invariant: the nodes of `all` that are no more left have all nodes where they have room.
 -- The measure is the number of nodes that are left. Assumes nothing.
-use Prim.Native.Nat.{ℕ, _+_, _≤_, _<_}
-use mathlib.Core.Path.{_≡_, sym, ap, _∙_, subst}
+use Prim.Native.Nat.{ℕ, _≤_, _<_}
+use mathlib.Core.Path.{sym, ap, _∙_, subst}
 use mathlib.Core.Logic.{inl, inr, ⊎-elim}
 use lib.ListN.{length, getD}
-use Rattle.sets.specs.Bits.{bit, countOf, leastOf, withoutOf}
+use Rattle.sets.specs.Bits.{countOf, withoutOf}
 use Rattle.sets.proofs.Laws.{least-taken}
 use Rattle.graph.specs.Growth.{Grown}
 use Rattle.graph.proofs.Growing.{Left, left-all, least-word, left-less}
@@ -13,12 +13,6 @@ use borrow.Author.Needs.{needs}
 use native.Mathlib.Omega.{arith}
 use Rattle.graph.proofs.add_room.Statement.{statement}
 use Rattle.graph.proofs.add_room.Tie as tie
-use Rattle.graph.proofs.add_room.Reads as reads
-use Rattle.graph.proofs.add_room.Lts as lts
-use Rattle.graph.proofs.join.Reads as join-reads
-use Rattle.sets.proofs.least.Reads as least-reads
-use Rattle.sets.proofs.without.Reads as without-reads
-use Rattle.swaps.proofs.cell.Reads as cell-reads
 
 abbrev Inv-loop : tie.InvT-loop
 Inv-loop arcs₀ counts caps all left₀ arcs left =

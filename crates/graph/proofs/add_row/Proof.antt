@@ -1,10 +1,9 @@
 -- `graph::add_row` meets its contract. The loop's invariant: the nodes of the row that are no more left have been noted and counted.
 -- The measure is the number of nodes that are left. Assumes nothing.
-use Prim.Native.Nat.{ℕ, _+_, _-_, _/_, _%_, _≤_, _<_, min, max}
+use Prim.Native.Nat.{ℕ, _-_, _≤_, _<_}
 use mathlib.Core.Path.{_≡_, sym, ap, _∙_, subst}
-use mathlib.Core.List.{List}
-use lib.ListN.{length, getD}
-use Rattle.sets.specs.Bits.{bit, countOf, leastOf, withoutOf}
+use lib.ListN.{length}
+use Rattle.sets.specs.Bits.{bit, countOf, withoutOf}
 use Rattle.swaps.specs.ModelSwaps.{targetsOf}
 use Rattle.graph.specs.Growth.{Grown, Added}
 use Rattle.graph.proofs.Growing.{added-same, Left, left-all, least-word, left-less}
@@ -14,14 +13,6 @@ use borrow.Author.Needs.{needs}
 use native.Mathlib.Omega.{arith}
 use Rattle.graph.proofs.add_row.Statement.{statement}
 use Rattle.graph.proofs.add_row.Tie as tie
-use Rattle.graph.proofs.add_row.Reads as reads
-use Rattle.graph.proofs.add_row.Lts as lts
-use Rattle.graph.proofs.note.Reads as note-reads
-use Rattle.sets.proofs.least.Reads as least-reads
-use Rattle.sets.proofs.without.Reads as without-reads
-use Rattle.swaps.proofs.cell.Reads as cell-reads
-use Rattle.swaps.proofs.targets_in.Reads as targets-in-reads
-use Rattle.swaps.proofs.touched.Reads as touched-reads
 
 abbrev Inv-loop : tie.InvT-loop
 Inv-loop arcs₀ counts₀ row former mates all z zones nodes spare left₀ arcs counts left =

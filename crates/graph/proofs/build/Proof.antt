@@ -1,8 +1,8 @@
 -- `graph::build` meets its contract. The loop's invariant: the rows passed have been added and counted.
 -- Assumes nothing.
-use Prim.Native.Nat.{ℕ, _+_, _-_, _^_, _≤_, _<_}
-use mathlib.Core.Path.{_≡_, sym, ap, _∙_, subst}
-use lib.ListN.{length, getD, replicate, length-replicate, getD-replicate}
+use Prim.Native.Nat.{ℕ, _-_, _≤_}
+use mathlib.Core.Path.{_≡_, sym, _∙_, subst}
+use lib.ListN.{length, replicate, getD-replicate}
 use borrow.Author.Tests.{lt-ltb}
 use Rattle.graph.specs.ModelArcs.{movesTo, copiesTo, arcsOf}
 use Rattle.graph.specs.Growth.{Grown, Added}
@@ -11,12 +11,6 @@ use borrow.Author.Needs.{needs}
 use native.Mathlib.Omega.{arith}
 use Rattle.graph.proofs.build.Statement.{statement}
 use Rattle.graph.proofs.build.Tie as tie
-use Rattle.graph.proofs.build.Reads as reads
-use Rattle.graph.proofs.build.Lts as lts
-use Rattle.graph.proofs.add_room.Reads as add-room-reads
-use Rattle.graph.proofs.add_row.Reads as add-row-reads
-use Rattle.graph.proofs.clear.Reads as clear-reads
-use Rattle.swaps.proofs.cell.Reads as cell-reads
 
 abbrev Inv-loop : tie.InvT-loop
 Inv-loop rows former partitions mates caps all z arcs₀ counts₀ p₀ arcs counts p =

@@ -9,8 +9,6 @@ use borrow.Author.Needs.{needs}
 use native.Mathlib.Omega.{arith}
 use Rattle.graph.proofs.clear.Statement.{statement}
 use Rattle.graph.proofs.clear.Tie as tie
-use Rattle.graph.proofs.clear.Reads as reads
-use Rattle.graph.proofs.clear.Lts as lts
 
 abbrev Inv-loop : tie.InvT-loop
 Inv-loop arcs₀ i₀ arcs i = (i ≤ 96) × (length arcs ≡ length arcs₀) × (arcs ≡ tab (λ k. 0) i ++ drop i arcs₀)

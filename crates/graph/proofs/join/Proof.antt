@@ -1,12 +1,8 @@
 -- `graph::join` meets its contract. Assumes nothing.
 use Rattle.graph.specs.ModelArcs.{joined}
 use borrow.Author.Needs.{needs}
-use native.Mathlib.Omega.{arith}
 use Rattle.graph.proofs.join.Statement.{statement}
 use Rattle.graph.proofs.join.Tie as tie
-use Rattle.graph.proofs.join.Reads as reads
-use Rattle.graph.proofs.join.Lts as lts
-use Rattle.sets.proofs.union.Reads as union-reads
 
 mul-union : tie.Need-mul-union
 mul-union c = search needs

@@ -2,14 +2,8 @@
 use Rattle.graph.specs.ModelArcs.{noted}
 use Rattle.sets.proofs.Laws.{bit-shr}
 use borrow.Author.Needs.{needs}
-use native.Mathlib.Omega.{arith}
 use Rattle.graph.proofs.note.Statement.{statement}
 use Rattle.graph.proofs.note.Tie as tie
-use Rattle.graph.proofs.note.Reads as reads
-use Rattle.graph.proofs.note.Lts as lts
-use Rattle.graph.proofs.join.Reads as join-reads
-use Rattle.sets.proofs.difference.Reads as difference-reads
-use Rattle.sets.proofs.meet.Reads as meet-reads
 
 shr-i : tie.Need-shr-i
 shr-i c = search needs

@@ -5,8 +5,6 @@ use borrow.Author.Needs.{needs}
 use native.Mathlib.Omega.{arith}
 use Rattle.swaps.proofs.cell.Statement.{statement}
 use Rattle.swaps.proofs.cell.Tie as tie
-use Rattle.swaps.proofs.cell.Reads as reads
-use Rattle.swaps.proofs.cell.Lts as lts
 
 mul-result : tie.Need-mul-result
 mul-result c = search needs

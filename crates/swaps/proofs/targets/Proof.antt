@@ -3,11 +3,6 @@ use borrow.Author.Needs.{needs}
 use Rattle.swaps.specs.ModelSwaps.{targetsOf}
 use Rattle.swaps.proofs.targets.Statement.{statement}
 use Rattle.swaps.proofs.targets.Tie as tie
-use Rattle.swaps.proofs.targets.Reads as reads
-use Rattle.swaps.proofs.targets.Lts as lts
-use Rattle.swaps.proofs.cell.Reads as cell-reads
-use Rattle.swaps.proofs.targets_in.Reads as targets-in-reads
-use Rattle.swaps.proofs.touched.Reads as touched-reads
 
 touched-requires : tie.Need-touched-requires
 touched-requires c κs = search needs

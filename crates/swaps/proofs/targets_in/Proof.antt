@@ -5,16 +5,8 @@ use Rattle.sets.specs.Bits.{withoutOf, unionOf, meetOf, differenceOf, leastOf}
 use Rattle.sets.proofs.Laws.{meet-lt}
 use Rattle.swaps.proofs.Steps.{two-members, one-member, targets-spare, targets-crowded, targets-few}
 use borrow.Author.Needs.{needs}
-use native.Mathlib.Omega.{arith}
 use Rattle.swaps.proofs.targets_in.Statement.{statement}
 use Rattle.swaps.proofs.targets_in.Tie as tie
-use Rattle.swaps.proofs.targets_in.Reads as reads
-use Rattle.swaps.proofs.targets_in.Lts as lts
-use Rattle.sets.proofs.difference.Reads as difference-reads
-use Rattle.sets.proofs.least.Reads as least-reads
-use Rattle.sets.proofs.meet.Reads as meet-reads
-use Rattle.sets.proofs.union.Reads as union-reads
-use Rattle.sets.proofs.without.Reads as without-reads
 
 -- The nodes of the row in the zone, without the least.
 abbrev gone : ℕ → ℕ → ℕ

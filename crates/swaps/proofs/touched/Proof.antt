@@ -6,18 +6,11 @@ use lib.ListN.{getD}
 use Rattle.sets.specs.Bits.{countOf, unionOf, leastOf}
 use Rattle.sets.proofs.Laws.{difference-lt, count-le}
 use Rattle.swaps.specs.ModelSwaps.{restOf, coverOf, coveredOf, coverIn, coveredIn}
-use Rattle.swaps.proofs.Steps.{fuel, cover-more, cover-done, covered-more, covered-done, rest-count, some-count}
+use Rattle.swaps.proofs.Steps.{fuel, cover-more, cover-done, covered-more, covered-done, rest-count}
 use borrow.Author.Needs.{needs}
 use native.Mathlib.Omega.{arith}
 use Rattle.swaps.proofs.touched.Statement.{statement}
 use Rattle.swaps.proofs.touched.Tie as tie
-use Rattle.swaps.proofs.touched.Reads as reads
-use Rattle.swaps.proofs.touched.Lts as lts
-use Rattle.sets.proofs.difference.Reads as difference-reads
-use Rattle.sets.proofs.least.Reads as least-reads
-use Rattle.sets.proofs.union.Reads as union-reads
-use Rattle.sets.proofs.without.Reads as without-reads
-use Rattle.swaps.proofs.cell.Reads as cell-reads
 
 abbrev Inv-loop : tie.InvT-loop
 Inv-loop mates row left₀ count₀ nodes₀ left count nodes =
