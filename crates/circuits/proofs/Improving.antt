@@ -137,141 +137,141 @@ module _ (P N R Z : ℕ) (zone cap : ℕ → ℕ) (free : ℕ → ℕ → ℕ) (
         (u v : ℕ) → u < N → v < N → arcOf arcs u v ≡ 1
         → (q : ℕ) × (Allowed P N R Z zone cap free (bitsOf rows) q u v × (cost P 1 (bitsOf former) q u v ≡ weightOf arcs u v)))
       where
-      -- The first partition that suits an arc, or P, allows it, and the arc costs there what it weighs.
-      first-right : (u v r : ℕ) → u < N → v < N → arcOf arcs u v ≡ 1 → First (suitsAt rows former mates (belowOf N) Z (weightOf arcs u v) u v) P 0 r
-          → Allowed P N R Z zone cap free (bitsOf rows) r u v × (cost P 1 (bitsOf former) r u v ≡ weightOf arcs u v)
-      unfolding okOf
-      first-right u v r l k a (inl f) =
-          let h = suits-has mates (belowOf N) Z (getD rows r 0) (getD former r 0) (weightOf arcs u v) u v (f .2) in
-          let i : r < P = omega (arith, f .1) in
-          (inl (i, ok-right .sound r u v i l k (h .0) (h .1) (h .3)), omega (arith, h .2, cost-row P 1 (bitsOf former) light r u v i))
-      first-right u v r l k a (inr f) = none (there u v l k a .0) (there u v l k a .1 .0) (there u v l k a .1 .1)
-        where
-          none : (q : ℕ) → Allowed P N R Z zone cap free (bitsOf rows) q u v → cost P 1 (bitsOf former) q u v ≡ weightOf arcs u v
-              → Allowed P N R Z zone cap free (bitsOf rows) r u v × (cost P 1 (bitsOf former) r u v ≡ weightOf arcs u v)
-          none q (inl d) t =
-              absurd
-              (true≢false
-              (sym
-              (has-suits mates (belowOf N) Z (getD rows q 0) (getD former q 0) (weightOf arcs u v) u v (d .1 .a-in) (d .1 .b-out)
-              (omega (arith, cost-row P 1 (bitsOf former) light q u v (d .0))) (ok-right .complete q u v (d .0) (d .1)))
-              ∙ f .1 q (omega arith) (omega (arith, d .0))))
-          none q (inr d) t =
-              let e : r ≡ P = omega (arith, f .0) in (
-                inr (e, d .1, d .2, d .3),
-                omega (
-                  arith,
-                  cost-store P 1 (bitsOf former) light q u v (omega (arith, d .0)),
-                  cost-store P 1 (bitsOf former) light r u v (omega arith),
-                ),
-              )
+        -- The first partition that suits an arc, or P, allows it, and the arc costs there what it weighs.
+        first-right : (u v r : ℕ) → u < N → v < N → arcOf arcs u v ≡ 1 → First (suitsAt rows former mates (belowOf N) Z (weightOf arcs u v) u v) P 0 r
+            → Allowed P N R Z zone cap free (bitsOf rows) r u v × (cost P 1 (bitsOf former) r u v ≡ weightOf arcs u v)
+        unfolding okOf
+        first-right u v r l k a (inl f) =
+            let h = suits-has mates (belowOf N) Z (getD rows r 0) (getD former r 0) (weightOf arcs u v) u v (f .2) in
+            let i : r < P = omega (arith, f .1) in
+            (inl (i, ok-right .sound r u v i l k (h .0) (h .1) (h .3)), omega (arith, h .2, cost-row P 1 (bitsOf former) light r u v i))
+        first-right u v r l k a (inr f) = none (there u v l k a .0) (there u v l k a .1 .0) (there u v l k a .1 .1)
+          where
+            none : (q : ℕ) → Allowed P N R Z zone cap free (bitsOf rows) q u v → cost P 1 (bitsOf former) q u v ≡ weightOf arcs u v
+                → Allowed P N R Z zone cap free (bitsOf rows) r u v × (cost P 1 (bitsOf former) r u v ≡ weightOf arcs u v)
+            none q (inl d) t =
+                absurd
+                (true≢false
+                (sym
+                (has-suits mates (belowOf N) Z (getD rows q 0) (getD former q 0) (weightOf arcs u v) u v (d .1 .a-in) (d .1 .b-out)
+                (omega (arith, cost-row P 1 (bitsOf former) light q u v (d .0))) (ok-right .complete q u v (d .0) (d .1)))
+                ∙ f .1 q (omega arith) (omega (arith, d .0))))
+            none q (inr d) t =
+                let e : r ≡ P = omega (arith, f .0) in (
+                  inr (e, d .1, d .2, d .3),
+                  omega (
+                    arith,
+                    cost-store P 1 (bitsOf former) light q u v (omega (arith, d .0)),
+                    cost-store P 1 (bitsOf former) light r u v (omega arith),
+                  ),
+                )
 
-      -- The partition that is looked up for an arc allows it, and the arc costs there what it weighs.
-      pub witness-right : (u v : ℕ) → u < N → v < N → arcOf arcs u v ≡ 1
-          → Allowed P N R Z zone cap free (bitsOf rows) (wit u v) u v × (cost P 1 (bitsOf former) (wit u v) u v ≡ weightOf arcs u v)
-      unfolding witnessOf
-      witness-right u v l k a =
-          first-right u v (wit u v) l k a (first-cases (suitsAt rows former mates (belowOf N) Z (weightOf arcs u v) u v) P 0)
+        -- The partition that is looked up for an arc allows it, and the arc costs there what it weighs.
+        pub witness-right : (u v : ℕ) → u < N → v < N → arcOf arcs u v ≡ 1
+            → Allowed P N R Z zone cap free (bitsOf rows) (wit u v) u v × (cost P 1 (bitsOf former) (wit u v) u v ≡ weightOf arcs u v)
+        unfolding witnessOf
+        witness-right u v l k a =
+            first-right u v (wit u v) l k a (first-cases (suitsAt rows former mates (belowOf N) Z (weightOf arcs u v) u v) P 0)
 
-      -- The graph with the partitions that are looked up.
-      pub witness-graph : ExchangeGraph P N R Z 1 zone cap (bitsOf former) free (bitsOf rows) (graphOf arcs N) wit
-      witness-graph =
-          record { nodes = refl; shift = refl; exchanges = exchanges; room = room; witness = λ u v l k a. witness-right u v l k a }
+        -- The graph with the partitions that are looked up.
+        pub witness-graph : ExchangeGraph P N R Z 1 zone cap (bitsOf former) free (bitsOf rows) (graphOf arcs N) wit
+        witness-graph =
+            record { nodes = refl; shift = refl; exchanges = exchanges; room = room; witness = λ u v l k a. witness-right u v l k a }
 
-      -- The rows after the exchanges of a cycle over the nodes of a list.
-      module _ (nodes : List ℕ) (m : ℕ) (c : IsCycle (graphOf arcs N) m (λ t. getD nodes t 0)) (many : P ≤ 256) (a : P ≤ length rows) (b : P ≤ length former)
-          (d : 96 ≤ length arcs) (e : m < length nodes)
-        where
-          abbrev new : List ℕ
-          new = turnedOf rows former P mates arcs (belowOf N) Z nodes m
+        -- The rows after the exchanges of a cycle over the nodes of a list.
+        module _ (nodes : List ℕ) (m : ℕ) (c : IsCycle (graphOf arcs N) m (λ t. getD nodes t 0)) (many : P ≤ 256) (a : P ≤ length rows) (b : P ≤ length former)
+            (d : 96 ≤ length arcs) (e : m < length nodes)
+          where
+            abbrev new : List ℕ
+            new = turnedOf rows former P mates arcs (belowOf N) Z nodes m
 
-          abbrev walkThere : Walk
-          walkThere = freedOf rows former P mates arcs (belowOf N) Z nodes m
+            abbrev walkThere : Walk
+            walkThere = freedOf rows former P mates arcs (belowOf N) Z nodes m
 
-          new-walked : new ≡ walkedOf P walkThere rows
-          unfolding turnedOf
-          new-walked =
-              rw (
-                le-ltb 32 m (omega (arith, c .few, M .few)),
-                le-ltb 256 P many,
-                le-ltb (length rows) P a,
-                le-ltb (length former) P b,
-                le-ltb (length arcs) 96 d,
-                lt-ltb m (length nodes) e,
-              )
+            new-walked : new ≡ walkedOf P walkThere rows
+            unfolding turnedOf
+            new-walked =
+                rw (
+                  le-ltb 32 m (omega (arith, c .few, M .few)),
+                  le-ltb 256 P many,
+                  le-ltb (length rows) P a,
+                  le-ltb (length former) P b,
+                  le-ltb (length arcs) 96 d,
+                  lt-ltb m (length nodes) e,
+                )
 
-          round : Round P N R Z 1 zone cap (bitsOf former) free (bitsOf rows) (cycleOf rows former P mates arcs (belowOf N) Z nodes m)
-          round = graph-circuit P N R Z 1 zone cap (bitsOf former) free (bitsOf rows) (graphOf arcs N) wit witness-graph m (λ t. getD nodes t 0) c
+            round : Round P N R Z 1 zone cap (bitsOf former) free (bitsOf rows) (cycleOf rows former P mates arcs (belowOf N) Z nodes m)
+            round = graph-circuit P N R Z 1 zone cap (bitsOf former) free (bitsOf rows) (graphOf arcs N) wit witness-graph m (λ t. getD nodes t 0) c
 
-          freed : Round P N R Z 1 zone cap (bitsOf former) free (bitsOf rows) walkThere
-          freed =
-              uncross-circuit P N R Z 1 zone cap (bitsOf former) free (bitsOf rows) ok ok-right light m (cycleOf rows former P mates arcs (belowOf N) Z nodes m)
-              (omega arith) round
-              .0
+            freed : Round P N R Z 1 zone cap (bitsOf former) free (bitsOf rows) walkThere
+            freed =
+                uncross-circuit P N R Z 1 zone cap (bitsOf former) free (bitsOf rows) ok ok-right light m (cycleOf rows former P mates arcs (belowOf N) Z nodes m)
+                (omega arith) round
+                .0
 
-          -- They are the layout that the circuit leads to.
-          pub turned-improved : SameLayout P N (improved P 1 (bitsOf former) ok (cycleOf rows former P mates arcs (belowOf N) Z nodes m) (bitsOf rows)) (bitsOf new)
-          unfolding improved
-          turned-improved p l t k =
-              sym
-              (ap (λ (r : List ℕ). bitsOf r p t) new-walked
-              ∙ walked-bit P N R Z 1 zone cap (bitsOf former) free rows walkThere a freed p l t (omega (arith, M .few)))
+            -- They are the layout that the circuit leads to.
+            pub turned-improved : SameLayout P N (improved P 1 (bitsOf former) ok (cycleOf rows former P mates arcs (belowOf N) Z nodes m) (bitsOf rows)) (bitsOf new)
+            unfolding improved
+            turned-improved p l t k =
+                sym
+                (ap (λ (r : List ℕ). bitsOf r p t) new-walked
+                ∙ walked-bit P N R Z 1 zone cap (bitsOf former) free rows walkThere a freed p l t (omega (arith, M .few)))
 
-          -- They are rows of nodes below N.
-          pub turned-small : (p : ℕ) → p < P → getD new p 0 < 2 ^ N
-          turned-small p l =
-              subst (λ (r : List ℕ). getD r p 0 < 2 ^ N) (sym new-walked)
-              (walked-small P N R Z 1 zone cap (bitsOf former) free rows walkThere a freed p l (M .few) (small p l))
+            -- They are rows of nodes below N.
+            pub turned-small : (p : ℕ) → p < P → getD new p 0 < 2 ^ N
+            turned-small p l =
+                subst (λ (r : List ℕ). getD r p 0 < 2 ^ N) (sym new-walked)
+                (walked-small P N R Z 1 zone cap (bitsOf former) free rows walkThere a freed p l (M .few) (small p l))
 
-          -- They are a better layout.
-          pub turned-better : Better P N R Z 1 zone cap (bitsOf former) free (bitsOf rows) (bitsOf new)
-          turned-better =
-              better-cong P N R Z 1 zone cap (bitsOf former) free (bitsOf rows)
-              (improved P 1 (bitsOf former) ok (cycleOf rows former P mates arcs (belowOf N) Z nodes m) (bitsOf rows)) (bitsOf rows) (bitsOf new)
-              (λ p l t k. refl) turned-improved
-              (improved-better P N R Z 1 zone cap (bitsOf former) free (bitsOf rows) ok ok-right (M .inside) light s
-              (cycleOf rows former P mates arcs (belowOf N) Z nodes m) round)
+            -- They are a better layout.
+            pub turned-better : Better P N R Z 1 zone cap (bitsOf former) free (bitsOf rows) (bitsOf new)
+            turned-better =
+                better-cong P N R Z 1 zone cap (bitsOf former) free (bitsOf rows)
+                (improved P 1 (bitsOf former) ok (cycleOf rows former P mates arcs (belowOf N) Z nodes m) (bitsOf rows)) (bitsOf rows) (bitsOf new)
+                (λ p l t k. refl) turned-improved
+                (improved-better P N R Z 1 zone cap (bitsOf former) free (bitsOf rows) ok ok-right (M .inside) light s
+                (cycleOf rows former P mates arcs (belowOf N) Z nodes m) round)
 
-      -- The rows after the exchanges of the cycle that the search ends with, where the list holds its way back.
-      module _ (some : 1 ≤ N) (k v : ℕ) (o : outcome (graphOf arcs N) ≡ Cycle k v) (nodes : List ℕ)
-          (held : (t : ℕ) → t ≤ cycleLength (graphOf arcs N) k v → getD nodes t 0 ≡ back (graphOf arcs N) k v t) (many : P ≤ 256) (a : P ≤ length rows)
-          (b : P ≤ length former) (d : 96 ≤ length arcs) (e : cycleLength (graphOf arcs N) k v < length nodes)
-        where
-          abbrev m : ℕ
-          m = cycleLength (graphOf arcs N) k v
+        -- The rows after the exchanges of the cycle that the search ends with, where the list holds its way back.
+        module _ (some : 1 ≤ N) (k v : ℕ) (o : outcome (graphOf arcs N) ≡ Cycle k v) (nodes : List ℕ)
+            (held : (t : ℕ) → t ≤ cycleLength (graphOf arcs N) k v → getD nodes t 0 ≡ back (graphOf arcs N) k v t) (many : P ≤ 256) (a : P ≤ length rows)
+            (b : P ≤ length former) (d : 96 ≤ length arcs) (e : cycleLength (graphOf arcs N) k v < length nodes)
+          where
+            abbrev m : ℕ
+            m = cycleLength (graphOf arcs N) k v
 
-          -- The list holds a cycle of the graph.
-          pub held-cycle : IsCycle (graphOf arcs N) m (λ t. getD nodes t 0)
-          held-cycle =
-              let c = outcome-cycle (graphOf arcs N) k v some o .cycle in
-              record {
-                some = c .some;
-                few = c .few;
-                nodes = λ i l. subst (λ (t : ℕ). t < N) (sym (held i l)) (c .nodes i l);
-                closed = held m (omega arith) ∙ (c .closed ∙ sym (held 0 (omega arith)));
-                distinct = λ i j l h f. c .distinct i j l h (sym (held i (omega arith)) ∙ (f ∙ held j (omega arith)));
-                arcs = λ i l. ap₂ (arcOf arcs) (held (suc i) l) (held i (omega arith)) ∙ c .arcs i l;
-                negative = omega (
-                  arith,
-                  c .negative,
-                  sum-cong m (λ i. weightOf arcs (getD nodes (suc i) 0) (getD nodes i 0))
-                      (λ i. weightOf arcs (back (graphOf arcs N) k v (suc i)) (back (graphOf arcs N) k v i))
-                      (λ i l. ap₂ (weightOf arcs) (held (suc i) l) (held i (omega arith))),
-                );
-              }
+            -- The list holds a cycle of the graph.
+            pub held-cycle : IsCycle (graphOf arcs N) m (λ t. getD nodes t 0)
+            held-cycle =
+                let c = outcome-cycle (graphOf arcs N) k v some o .cycle in
+                record {
+                  some = c .some;
+                  few = c .few;
+                  nodes = λ i l. subst (λ (t : ℕ). t < N) (sym (held i l)) (c .nodes i l);
+                  closed = held m (omega arith) ∙ (c .closed ∙ sym (held 0 (omega arith)));
+                  distinct = λ i j l h f. c .distinct i j l h (sym (held i (omega arith)) ∙ (f ∙ held j (omega arith)));
+                  arcs = λ i l. ap₂ (arcOf arcs) (held (suc i) l) (held i (omega arith)) ∙ c .arcs i l;
+                  negative = omega (
+                    arith,
+                    c .negative,
+                    sum-cong m (λ i. weightOf arcs (getD nodes (suc i) 0) (getD nodes i 0))
+                        (λ i. weightOf arcs (back (graphOf arcs N) k v (suc i)) (back (graphOf arcs N) k v i))
+                        (λ i l. ap₂ (weightOf arcs) (held (suc i) l) (held i (omega arith))),
+                  );
+                }
 
-          -- They are the next layout.
-          pub turned-next : SameLayout P N (nextLayout P 1 (bitsOf former) ok (graphOf arcs N) wit (bitsOf rows) (Cycle k v))
-              (bitsOf (turnedOf rows former P mates arcs (belowOf N) Z nodes m))
-          unfolding nextLayout cycleWalk
-          turned-next p l t h =
-              improved-same P 1 (bitsOf former) ok
-              {w = cycleWalk (graphOf arcs N) wit k v}
-              {u = cycleOf rows former P mates arcs (belowOf N) Z nodes m}
-              record {
-                lens = refl;
-                nodes = λ i g. sym (held i g);
-                partitions = λ i g. ap₂ wit (sym (held (suc i) g)) (sym (held i (omega arith)));
-              }
-              (bitsOf rows) p t
-              ∙ turned-improved nodes m held-cycle many a b d e p l t h
+            -- They are the next layout.
+            pub turned-next : SameLayout P N (nextLayout P 1 (bitsOf former) ok (graphOf arcs N) wit (bitsOf rows) (Cycle k v))
+                (bitsOf (turnedOf rows former P mates arcs (belowOf N) Z nodes m))
+            unfolding nextLayout cycleWalk
+            turned-next p l t h =
+                improved-same P 1 (bitsOf former) ok
+                {w = cycleWalk (graphOf arcs N) wit k v}
+                {u = cycleOf rows former P mates arcs (belowOf N) Z nodes m}
+                record {
+                  lens = refl;
+                  nodes = λ i g. sym (held i g);
+                  partitions = λ i g. ap₂ wit (sym (held (suc i) g)) (sym (held i (omega arith)));
+                }
+                (bitsOf rows) p t
+                ∙ turned-improved nodes m held-cycle many a b d e p l t h

@@ -3,13 +3,12 @@
 ghost use mathlib.Core.Path.{_≡_};
 ghost use Prim.Native.Nat.{ℕ, suc, _+_, _-_, _≤_, _<_};
 ghost use lib.ListN.{length, getD};
-ghost use Rattle.sums.specs.Sum.{sumTo};
 ghost use Rattle.sets.specs.Bits.{bit};
 ghost use Rattle.cells.specs.Cells.{put};
 ghost use Rattle.exchange.specs.Circuit.{cost};
-ghost use Rattle.exchange.specs.Uncross.{crosses, partner, first, wrap, inner, walk-costs, split, uncross, Same};
+ghost use Rattle.exchange.specs.Uncross.{crosses, partner, first, split, uncross, Same};
 ghost use Rattle.cycles.specs.ModelGraph.{weightOf};
-ghost use Rattle.circuits.specs.ModelCircuits.{bitsOf, okOf, suitsOf, witnessOf, witnessIn, walkIn, innerGains, cycleOf, freedOf, walkedOf, turnedOf};
+ghost use Rattle.circuits.specs.ModelCircuits.{bitsOf, okOf, suitsOf, witnessOf, witnessIn, walkIn, innerGains, freedOf, walkedOf, turnedOf};
 
 // Digit i of s.
 fn digit(s: u32, i: u32) -> u32
@@ -61,7 +60,7 @@ fn witness(
     v: u32,
 ) -> usize
     requires { ⌜ (partitions ≤ length (now rows)) × (partitions ≤ length (now former)) ⌝ }
-    ensures { λ r. ⌜ r ≡ witnessOf (now (rows .entry)) (now (former .entry)) partitions (now (mates .entry)) (now (arcs .entry)) all z u v ⌝ }
+    ensures { λ r. ⌜ (r ≡ witnessOf (now (rows .entry)) (now (former .entry)) partitions (now (mates .entry)) (now (arcs .entry)) all z u v) × (r ≤ partitions) ⌝ }
 {
     let w = weight(arcs, u, v);
     let mut p = 0;
@@ -74,21 +73,10 @@ fn witness(
     p
 }
 
-// The nodes of a walk into y.
-fn copy(y: &mut [u32], walk: &[u32], n: usize)
-    requires { ⌜ (n ≤ length (now y)) × (n ≤ length (now walk)) ⌝ }
-    ensures { λ _. ⌜ now (y .exit) ≡ put 0 (λ t. getD (now (walk .entry)) t 0) n (now (y .entry)) ⌝ }
-{
-    let mut t = 0;
-    while t < n {
-        y[t] = walk[t];
-        t += 1;
-    }
-}
-
-// The witnesses of its arcs into q.
-fn look_up(
-    q: &mut [usize],
+// The nodes of a walk into y, and the witnesses of its arcs into q.
+fn load(
+    y: &mut [u32],
+    q: &mut [u32],
     walk: &[u32],
     m: usize,
     rows: &[u32],
@@ -99,12 +87,16 @@ fn look_up(
     all: u32,
     z: u32,
 )
-    requires { ⌜ (m ≤ length (now q)) × (m < length (now walk)) × (partitions ≤ length (now rows)) × (partitions ≤ length (now former)) ⌝ }
-    ensures { λ _. ⌜ now (q .exit)
-        ≡ put 0 (witnessIn (now (walk .entry)) (now (rows .entry)) (now (former .entry)) partitions (now (mates .entry)) (now (arcs .entry)) all z) m (now (q .entry)) ⌝ }
+    requires { ⌜ (m < length (now y)) × (m ≤ length (now q)) × (m < length (now walk)) × (partitions ≤ length (now rows)) × (partitions ≤ length (now former))
+        × (partitions ≤ 256) ⌝ }
+    ensures { λ _. ⌜ (now (y .exit) ≡ put 0 (λ t. getD (now (walk .entry)) t 0) (m + 1) (now (y .entry)))
+        × (now (q .exit)
+        ≡ put 0 (witnessIn (now (walk .entry)) (now (rows .entry)) (now (former .entry)) partitions (now (mates .entry)) (now (arcs .entry)) all z) m
+        (now (q .entry))) ⌝ }
 {
     let mut t = 0;
     while t < m {
+        y[t] = walk[t];
         q[t] = witness(
             rows,
             former,
@@ -115,15 +107,16 @@ fn look_up(
             z,
             walk[t + 1],
             walk[t],
-        );
+        ) as u32;
         t += 1;
     }
+    y[m] = walk[m];
 }
 
 // Whether the arcs i and j of the walk can be crossed.
 fn crossed(
     y: &[u32],
-    q: &[usize],
+    q: &[u32],
     i: usize,
     j: usize,
     rows: &[u32],
@@ -136,11 +129,12 @@ fn crossed(
     ensures { λ r. ⌜ r
         ≡ crosses partitions (okOf (now (rows .entry)) (now (mates .entry)) all z) (λ t. getD (now (y .entry)) t 0) (λ t. getD (now (q .entry)) t 0) i j ⌝ }
 {
-    let p = q[i];
+    let e = q[i];
+    let p = e as usize;
     if partitions <= p {
         return false;
     }
-    if p != q[j] {
+    if e != q[j] {
         return false;
     }
     let row = rows[p];
@@ -153,7 +147,7 @@ fn crossed(
 // The first arc after i that can be crossed with it.
 fn later(
     y: &[u32],
-    q: &[usize],
+    q: &[u32],
     m: usize,
     i: usize,
     rows: &[u32],
@@ -178,7 +172,7 @@ fn later(
 // The first arc that can be crossed with a later one.
 fn earlier(
     y: &[u32],
-    q: &[usize],
+    q: &[u32],
     m: usize,
     rows: &[u32],
     partitions: usize,
@@ -211,51 +205,28 @@ fn arc_cost(former: &[u32], partitions: usize, q: usize, a: u32, b: u32) -> u32
     1
 }
 
-// Where entry t of the inner part stands: it has the k entries after i, and then the first of them again.
-fn place(i: usize, k: usize, t: usize) -> usize
-    requires { ⌜ (i + k < 32) × (0 < k) ⌝ }
-    ensures { λ r. ⌜ (r ≡ wrap i k t) × (r ≤ i + k) ⌝ }
-{
-    if t < k { t + i + 1 } else { i + 1 }
-}
-
-// Whether the inner part of the walk, at the arcs i and j, gains.
-fn gains(y: &[u32], q: &[usize], i: usize, j: usize, former: &[u32], partitions: usize) -> bool
+// Whether the inner part of the walk, at the arcs i and j, gains: the arcs between them, and the one that closes it.
+fn gains(y: &[u32], q: &[u32], i: usize, j: usize, former: &[u32], partitions: usize) -> bool
     requires { ⌜ (i < j) × (j < 32) × (j < length (now y)) × (j < length (now q)) × (partitions ≤ length (now former)) ⌝ }
     ensures { λ r. ⌜ r ≡ innerGains partitions (bitsOf (now (former .entry))) (walkIn (j + 1) (now (y .entry)) (now (q .entry))) i j ⌝ }
 {
-    let k = j - i;
-    let mut sum = 0;
-    let mut t = 0;
-    while t < k {
-        let here = place(i, k, t);
-        let from = place(i, k, t + 1);
-        sum += arc_cost(former, partitions, q[here], y[from], y[here]);
+    let mut sum = arc_cost(former, partitions, q[j] as usize, y[i + 1], y[j]);
+    let mut t = i + 1;
+    while t < j {
+        sum += arc_cost(former, partitions, q[t] as usize, y[t + 1], y[t]);
         t += 1;
     }
-    (sum as usize) < k
+    (sum as usize) < j - i
 }
 
-// The n nodes from `start` on give way to those that stand k further on.
-fn shift_nodes(y: &mut [u32], start: usize, k: usize, n: usize)
-    requires { ⌜ start + k + n ≤ length (now y) ⌝ }
-    ensures { λ _. ⌜ now (y .exit) ≡ put start (λ t. getD (now (y .entry)) (start + t + k) 0) n (now (y .entry)) ⌝ }
+// The n cells from `start` on give way to those that stand k further on.
+fn shift(cells: &mut [u32], start: usize, k: usize, n: usize)
+    requires { ⌜ start + k + n ≤ length (now cells) ⌝ }
+    ensures { λ _. ⌜ now (cells .exit) ≡ put start (λ t. getD (now (cells .entry)) (start + t + k) 0) n (now (cells .entry)) ⌝ }
 {
     let mut t = 0;
     while t < n {
-        y[start + t] = y[start + t + k];
-        t += 1;
-    }
-}
-
-// The same of partitions.
-fn shift_partitions(q: &mut [usize], start: usize, k: usize, n: usize)
-    requires { ⌜ start + k + n ≤ length (now q) ⌝ }
-    ensures { λ _. ⌜ now (q .exit) ≡ put start (λ t. getD (now (q .entry)) (start + t + k) 0) n (now (q .entry)) ⌝ }
-{
-    let mut t = 0;
-    while t < n {
-        q[start + t] = q[start + t + k];
+        cells[start + t] = cells[start + t + k];
         t += 1;
     }
 }
@@ -263,7 +234,7 @@ fn shift_partitions(q: &mut [usize], start: usize, k: usize, n: usize)
 // The walk goes on with the inner part at the arcs i and j if it gains, else with the outer part. Its new length is answered.
 fn divide(
     y: &mut [u32],
-    q: &mut [usize],
+    q: &mut [u32],
     m: usize,
     i: usize,
     j: usize,
@@ -276,20 +247,20 @@ fn divide(
 {
     let k = j - i;
     if gains(y, q, i, j, former, partitions) {
-        shift_nodes(y, 0, i + 1, k);
-        shift_partitions(q, 0, i + 1, k);
+        shift(y, 0, i + 1, k);
+        shift(q, 0, i + 1, k);
         y[k] = y[0];
         return k;
     }
-    shift_nodes(y, i + 1, k, m - j);
-    shift_partitions(q, i + 1, k, m - j - 1);
+    shift(y, i + 1, k, m - j);
+    shift(q, i + 1, k, m - j - 1);
     m - k
 }
 
 // The walk is freed of crossed pairs. Its new length is answered.
 fn free(
     y: &mut [u32],
-    q: &mut [usize],
+    q: &mut [u32],
     m: usize,
     rows: &[u32],
     former: &[u32],
@@ -318,13 +289,13 @@ fn free(
 }
 
 // The exchanges of the walk are made: each takes its source from its row and adds its target.
-fn make(rows: &mut [u32], partitions: usize, y: &[u32], q: &[usize], m: usize)
+fn make(rows: &mut [u32], partitions: usize, y: &[u32], q: &[u32], m: usize)
     requires { ⌜ (m < length (now y)) × (m ≤ length (now q)) × (partitions ≤ length (now rows)) ⌝ }
     ensures { λ _. ⌜ now (rows .exit) ≡ walkedOf partitions (walkIn m (now (y .entry)) (now (q .entry))) (now (rows .entry)) ⌝ }
 {
     let mut i = 0;
     while i < m {
-        let p = q[i];
+        let p = q[i] as usize;
         if p < partitions {
             rows[p] = sets::with(sets::without(rows[p], y[i + 1]), y[i]);
         }
@@ -344,16 +315,16 @@ fn turn_all(
     walk: &[u32],
     m: usize,
 )
-    requires { ⌜ (m ≤ 32) × (partitions ≤ length (now rows)) × (partitions ≤ length (now former)) × (m < length (now walk)) ⌝ }
+    requires { ⌜ (m ≤ 32) × (partitions ≤ 256) × (partitions ≤ length (now rows)) × (partitions ≤ length (now former)) × (m < length (now walk)) ⌝ }
     ensures { λ _. ⌜ now (rows .exit)
         ≡ walkedOf partitions
         (freedOf (now (rows .entry)) (now (former .entry)) partitions (now (mates .entry)) (now (arcs .entry)) all z (now (walk .entry)) m)
         (now (rows .entry)) ⌝ }
 {
     let mut y = [0u32; 33];
-    let mut q = [0usize; 33];
-    copy(&mut y, walk, m + 1);
-    look_up(
+    let mut q = [0u32; 33];
+    load(
+        &mut y,
         &mut q,
         walk,
         m,

@@ -6,6 +6,8 @@ pub mod Accepting
 pub mod Lists
 pub mod TieRows
 pub mod TieZones
+pub mod Slots
 pub mod TieDistance
 pub mod TieLayouts
+pub mod Columns
 pub mod Examples

@@ -1,3 +1,4 @@
+pub mod Columns
 pub mod Faults
 pub mod Limits
 pub mod RowScan

@@ -5,6 +5,7 @@ ghost use Rattle.cluster.specs.Faults.{noNodes, faultOf};
 mod faults;
 pub mod refusal;
 pub mod rows;
+pub mod zones;
 
 // A node ("box" in the papers): one storage box of the cluster.
 pub struct Node {

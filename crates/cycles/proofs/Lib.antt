@@ -1,4 +1,8 @@
+pub mod Ends
 pub mod Firsts
+pub mod Found
 pub mod Offers
 pub mod Parts
+pub mod Rows
+pub mod States
 pub mod Sweeps

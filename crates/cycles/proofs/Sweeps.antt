@@ -3,20 +3,21 @@
 use Prim.Native.Nat.{ℕ, zero, suc, _+_, _-_, _*_, _≤_, _<_, max}
 use mathlib.Core.Path.{_≡_, refl, sym, ap, ap₂, _∙_, subst}
 use mathlib.Core.Bool.{Bool, true, false, cond, _&&_}
-use mathlib.Core.List.{List}
+use mathlib.Core.List.{List, _++_}
 use mathlib.Core.Logic.{⊎-elim}
 use native.Mathlib.Numerals.{add-one}
 use native.Mathlib.Omega.{arith}
 use lib.Dec.{ltb, eqb}
-use lib.ListN.{length, getD}
+use lib.ListN.{length, getD, take, List·getD-append}
+use lib.Seq.{length-take-le, getD-append-add, getD-take}
 use borrow.Author.Tests.{lt-ltb, le-ltb, eq-eqb}
 use Rattle.sums.specs.Sum.{one-if}
 use Rattle.sums.proofs.Sum.{lt-or-ge}
-use Rattle.sets.specs.Bits.{bit, memberOf}
-use Rattle.sets.proofs.Laws.{bit-le, bit-zero}
+use Rattle.sets.specs.Bits.{bit, memberOf, meetOf, belowOf}
+use Rattle.sets.proofs.Laws.{bit-le, bit-zero, bit-meet, bit-below, bit-below-not}
 use Rattle.exchange.specs.Levels.{Graph, Fall, relax, scan}
 use Rattle.cycles.specs.ModelGraph.{graphOf, arcOf, weightOf}
-use Rattle.cycles.specs.Turns.{Held, Turns, Swept, offered}
+use Rattle.cycles.specs.Turns.{Held, Turns, Swept, Descended, offered}
 use Rattle.cycles.proofs.Offers.{offered-not, offered-less, offered-more}
 
 -- What was offered stands no higher.
@@ -97,3 +98,29 @@ pub sweep-more : (arcs : List ℕ) (n mask u fell r : ℕ) (d next row next' row
     → Held (getD d v 0) (fallTo arcs n mask d v (u + 1)) (getD next' v 0) (getD row' v 0) (bit r v)
 unfolding scan relax
 sweep-more arcs n mask u fell r d next row next' row' v l g t h = rw (add-one u) (t v (getD d v 0) (fallTo arcs n mask d v u) l g h)
+
+-- ---- one level down
+
+-- A part that is put back leaves the cells before it as they were.
+part-before : (a i : ℕ) (xs ys rest : List ℕ) → a ≤ length xs → i < a → getD (take a xs ++ (ys ++ rest)) i 0 ≡ getD xs i 0
+part-before a i xs ys rest h l = List·getD-append (take a xs) (ys ++ rest) 0 i (omega (arith, length-take-le a xs h)) ∙ getD-take a xs i 0 l
+
+-- The cells of a part that is put back.
+part-in : (a v : ℕ) (xs ys rest : List ℕ) → a ≤ length xs → v < length ys → getD (take a xs ++ (ys ++ rest)) (a + v) 0 ≡ getD ys v 0
+part-in a v xs ys rest h l =
+    ap (λ (i : ℕ). getD (take a xs ++ (ys ++ rest)) (i + v) 0) (sym (length-take-le a xs h))
+    ∙ (getD-append-add (take a xs) (ys ++ rest) v 0 ∙ List·getD-append ys rest 0 v l)
+
+-- A sweep into row k + 1 of the table is one level down.
+pub descended : (arcs : List ℕ) (n k mask swept r : ℕ) (d next table row rest : List ℕ) → n ≤ 32 → (k + 1) * 32 ≤ length table → 32 ≤ length row
+    → r ≡ meetOf swept (belowOf n) → Swept arcs n mask d next row swept
+    → Descended arcs n k mask d next table (take ((k + 1) * 32) table ++ (row ++ rest)) r
+descended arcs n k mask swept r d next table row rest small h g e s =
+    record {
+      swept = λ v l. rw (part-in ((k + 1) * 32) v table row rest h (omega arith), kept v l) (s v l);
+      kept = λ i l. part-before ((k + 1) * 32) i table row rest h l;
+      nodes = λ v l m. omega (arith, ap (λ (i : ℕ). bit i v) e, bit-meet swept (belowOf n) v l, bit-below-not n v m);
+    }
+  where
+    kept : (v : ℕ) → v < n → bit r v ≡ bit swept v
+    kept v l = omega (arith, ap (λ (i : ℕ). bit i v) e, bit-meet swept (belowOf n) v (omega arith), bit-below n v (omega arith) l, bit-le swept v)

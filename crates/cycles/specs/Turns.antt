@@ -35,6 +35,14 @@ Swept arcs n mask d next row fell =
     (v : ℕ) → v < n
     → Held (getD d v 0) (scan (graphOf arcs n) (memberOf mask) (λ u. getD d u 0) v n) (getD next v 0) (getD row v 0) (bit fell v)
 
+-- One level down from level k: the scan of each node below n in next, in row k + 1 of the table, and in the set of the nodes that fell. The rows
+-- before it stay.
+pub record Descended (arcs : List ℕ) (n k mask : ℕ) (d next table₀ table : List ℕ) (fell : ℕ) : Type 0 where
+  pub swept : (v : ℕ) → v < n
+      → Held (getD d v 0) (scan (graphOf arcs n) (memberOf mask) (λ u. getD d u 0) v n) (getD next v 0) (getD table ((k + 1) * 32 + v) 0) (bit fell v)
+  pub kept : (i : ℕ) → i < (k + 1) * 32 → getD table i 0 ≡ getD table₀ i 0
+  pub nodes : (v : ℕ) → v < 32 → n ≤ v → bit fell v ≡ 0
+
 -- The way that v's way grows from: that of the node it came from, where it fell, else its own way but v.
 unfoldable pub before : ℕ → List ℕ → List ℕ → ℕ → ℕ
 before fell row way v = cond (memberOf fell v) (getD way (getD row v 0) 0) (withoutOf (getD way v 0) v)

@@ -5,9 +5,10 @@ ghost use Prim.Native.Nat.{ℕ, _+_, _≤_, _<_};
 ghost use lib.ListN.{length, getD};
 ghost use Rattle.cells.specs.Cells.{put};
 ghost use Rattle.sets.specs.Bits.{bit, memberOf, withOf};
-ghost use Rattle.exchange.specs.Levels.{relax};
+ghost use Rattle.exchange.specs.Levels.{relax, outcome};
+ghost use Rattle.cycles.specs.ModelFound.{endLength, endWalk, foundLength, foundWalk};
 ghost use Rattle.cycles.specs.ModelGraph.{graphOf};
-ghost use Rattle.cycles.specs.Turns.{offered, Turns, Swept, before, closer, trail, trailLength};
+ghost use Rattle.cycles.specs.Turns.{offered, Turns, Swept, Descended, before, closer, trail, trailLength};
 
 // Offers distance c from node u to the members of m, where all stand at top or below. The members that take it are set in fell, which is returned.
 fn offer(top: u32, m: u32, c: u32, u: u32, fell: u32, next: &mut [u32], row: &mut [u32]) -> u32
@@ -33,7 +34,16 @@ fn offer(top: u32, m: u32, c: u32, u: u32, fell: u32, next: &mut [u32], row: &mu
 }
 
 // Looks at the arcs of node u, which stands at d, if it is a member of mask. The nodes that fall are set in fell, which is returned.
-fn look(arcs: &[u32], n: u32, mask: u32, u: u32, d: u32, fell: u32, next: &mut [u32], row: &mut [u32]) -> u32
+fn look(
+    arcs: &[u32],
+    n: u32,
+    mask: u32,
+    u: u32,
+    d: u32,
+    fell: u32,
+    next: &mut [u32],
+    row: &mut [u32],
+) -> u32
     requires { ⌜ (96 ≤ length (now arcs)) × (u < 32) × (1 ≤ d) × (d ≤ 32) × (32 ≤ length (now next)) × (32 ≤ length (now row)) ⌝ }
     ensures { λ r. ⌜ Turns n (λ v f. relax (graphOf (now (arcs .entry)) n) (λ _. d) v u (memberOf mask u) f) (now (next .entry)) (now (row .entry)) fell (now (next .exit)) (now (row .exit)) r ⌝ }
 {
@@ -59,6 +69,25 @@ fn sweep(arcs: &[u32], n: u32, mask: u32, dist: &[u32], next: &mut [u32], row: &
         u += 1;
     }
     fell
+}
+
+// One level down from level k: the distances of the next level in next, and in row k + 1 of the table the nodes that the fallen came from. The set
+// of the nodes that fell is returned.
+fn descend(
+    arcs: &[u32],
+    n: u32,
+    k: u32,
+    mask: u32,
+    dist: &[u32],
+    next: &mut [u32],
+    table: &mut [u32],
+) -> u32
+    requires { ⌜ (k < 32) × (n ≤ 32) × (96 ≤ length (now arcs)) × (32 ≤ length (now dist)) × (32 ≤ length (now next)) × (1056 ≤ length (now table)) × ((v : ℕ) → v < n → (1 ≤ getD (now dist) v 0) × (getD (now dist) v 0 ≤ n) × (getD (now next) v 0 ≡ getD (now dist) v 0)) ⌝ }
+    ensures { λ r. ⌜ Descended (now (arcs .entry)) n k mask (now (dist .entry)) (now (next .exit)) (now (table .entry)) (now (table .exit)) r ⌝ }
+{
+    let a = ((k + 1) * 32) as usize;
+    let swept = sweep(arcs, n, mask, dist, next, &mut table[a..a + 32]);
+    sets::meet(swept, sets::below(n))
 }
 
 // The way that v's way grows from: that of the node it came from, where it fell, else its own way but v.
@@ -121,4 +150,55 @@ fn begin(way: &mut [u32])
         way[v as usize] = sets::with(0, v);
         v += 1;
     }
+}
+
+// The search, level by level.
+fn search(arcs: &[u32], n: u32, walk: &mut [u32]) -> u32
+    requires { ⌜ (1 ≤ n) × (n ≤ 32) × (96 ≤ length (now arcs)) × (33 ≤ length (now walk)) ⌝ }
+    ensures { λ r. ⌜ (r ≡ endLength (graphOf (now (arcs .entry)) n) (outcome (graphOf (now (arcs .entry)) n))) × (now (walk .exit) ≡ endWalk (graphOf (now (arcs .entry)) n) (outcome (graphOf (now (arcs .entry)) n)) (now (walk .entry))) ⌝ }
+{
+    let mut dist = [n; 32];
+    let mut next = [n; 32];
+    let mut way = [0u32; 32];
+    let mut grown = [0u32; 32];
+    let mut table = [0u32; 1056];
+    begin(&mut way);
+    let mut mask = sets::below(n);
+    let mut k = 0;
+    while k < n {
+        let fell = descend(arcs, n, k, mask, &dist, &mut next, &mut table);
+        if fell == 0 {
+            return 0;
+        }
+        let a = ((k + 1) * 32) as usize;
+        let v = close(n, fell, &table[a..a + 32], &way, &mut grown);
+        if v < n {
+            return trace(&table, k + 1, v, walk);
+        }
+        dist = next;
+        way = grown;
+        mask = fell;
+        k += 1;
+    }
+    0
+}
+
+// Searches the graph of arcs on n nodes for a simple negative cycle: its length, and the walk back around it in walk, whose first node comes again
+// at its end. 0, and walk as it is, where there is none, n is 0 or above 32, arcs is shorter than 96 or walk shorter than 33.
+pub fn find(arcs: &[u32], n: u32, walk: &mut [u32]) -> u32
+    ensures { λ r. ⌜ (r ≡ foundLength (now (arcs .entry)) n (now (walk .entry))) × (now (walk .exit) ≡ foundWalk (now (arcs .entry)) n (now (walk .entry))) ⌝ }
+{
+    if n == 0 {
+        return 0;
+    }
+    if 32 < n {
+        return 0;
+    }
+    if arcs.len() < 96 {
+        return 0;
+    }
+    if walk.len() < 33 {
+        return 0;
+    }
+    search(arcs, n, walk)
 }

@@ -16,12 +16,20 @@ use borrow.Author.Tests.{leb-true, le-leb, ltb-true, eqb-true, ne-eqb, eq-eqb}
 use Rattle.sums.proofs.Sum.{lt-or-ge, is-cases}
 use Rattle.sets.specs.Bits.{bit, memberOf, withOf}
 use Rattle.sets.proofs.Laws.{bit-high, bit-zero, bit-with, bit-true, member-true, with-lt}
-use Rattle.cluster.proofs.Lists.{and-left, and-right, test-cases}
+use Rattle.cluster.proofs.Lists.{test-cases}
+use Rattle.cluster.proofs.CellRows.{both}
 use Rattle.fields.specs.RecordField.{bytesOf, Bytes, part, numberAt, field, noLength, rules, ruleOf, legal, legalAs, judged, fieldAt, Whole, Within}
 use Rattle.fields.specs.declared.Rule.{Rule}
 use Rattle.fields.specs.declared.Field.{Field}
 use Rattle.fields.specs.declared.Field.the-variants.{Body, Refused}
 use Rattle.fields.proofs.Numbers.{length-bytes, has-true, has-false, number-byte, number-here, bytes-there, bytes-byte, bytes-join, length-part}
+
+-- Of two tests that both hold each holds.
+and-left : (a b : Bool) → a && b ≡ true → a ≡ true
+and-left a b e = both a b e .0
+
+and-right : (a b : Bool) → a && b ≡ true → b ≡ true
+and-right a b e = both a b e .1
 
 -- ---- the table
 

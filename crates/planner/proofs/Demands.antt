@@ -36,7 +36,7 @@ demand3 t a low L v =
           (start-valid t a large);
       rules = λ F fo.
           rules t F (sizeOf t) (improvesAt t F) (nextAt t F) (layoutRows t) (farRows t F) (startRows t) (Good t a) (machine t a F fo low large)
-          (layoutRows t (startRows t)) refl
+          (layoutRows t (startRows t)) refl;
     }
 
 -- Demand 2: the size that planning finds is 0 exactly when no layout is valid at size 1.

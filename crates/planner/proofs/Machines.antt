@@ -83,7 +83,7 @@ module _ (t : Topology) (acc : Accepted t) where
       record {
         few = acc .few;
         inside = zone-below t;
-        mate = mates-hold t (acc .few) (zoneCells t) (matesOf t) refl refl
+        mate = mates-hold t (acc .few) (zoneCells t) (matesOf t) refl refl;
       }
 
   caps-are : (b : ℕ) → b < N → getD (capCells t (sizeOf t)) b 0 ≡ cap b
@@ -116,7 +116,7 @@ module _ (t : Topology) (acc : Accepted t) where
         within =
             within-cong P N (beginning t (sizeOf t)) (bitsAt (dealtRows t (sizeOf t) (replicate bufferRows 0)))
             (λ p l b k. sym (deal-bit t (sizeOf t) (replicate bufferRows 0) long p l b k)) R Z zone cap
-            (beginning-within t acc (sizeOf t) some (omega arith))
+            (beginning-within t acc (sizeOf t) some (omega arith));
       }
 
   -- ---- a former layout
@@ -141,7 +141,7 @@ module _ (t : Topology) (acc : Accepted t) where
 
     -- The weight of rows: the pairs that they share with the former rows.
     shared-row : (rows : List ℕ) → Good rows → (p : ℕ) → p < P
-      → countOf (meetOf (getD rows p 0) (getD fm p 0)) ≡ sumTo N (λ b. bitsAt rows p b * incidence t F p b)
+        → countOf (meetOf (getD rows p 0) (getD fm p 0)) ≡ sumTo N (λ b. bitsAt rows p b * incidence t F p b)
     shared-row rows g p l =
         let m = meetOf (getD rows p 0) (getD fm p 0) in
         count-sum N m (acc .few)
@@ -149,8 +149,8 @@ module _ (t : Topology) (acc : Accepted t) where
         (λ i h k. bit-meet (getD rows p 0) (getD fm p 0) i k ∙ omega (arith, bit-high N (getD rows p 0) i (g .small p l) h)))
         ∙ sum-cong N (λ b. bit m b) (λ b. bitsAt rows p b * incidence t F p b)
         (λ b k. bit-meet (getD rows p 0) (getD fm p 0) b (omega (arith, acc .few))
-            ∙ (ap (λ (x : ℕ). min (bitsAt rows p b) x) (fm-bit p l b k)
-            ∙ times (bitsAt rows p b) (incidence t F p b) (bit-le (getD rows p 0) b) (incidence-le t F p b)))
+        ∙ (ap (λ (x : ℕ). min (bitsAt rows p b) x) (fm-bit p l b k)
+        ∙ times (bitsAt rows p b) (incidence t F p b) (bit-le (getD rows p 0) b) (incidence-le t F p b)))
       where
         times : (x y : ℕ) → x ≤ 1 → y ≤ 1 → min x y ≡ x * y
         times zero y a b = omega (arith, zero-mul y)
@@ -178,7 +178,7 @@ module _ (t : Topology) (acc : Accepted t) where
           omega (arith, length-append (tab f 96) (drop 96 (replicate 96 0)), length-tab f 96)
 
       exchanges : (p a b : ℕ) → p < P → Exchange N R Z zone any (bitsAt rows) p a b
-        → (arcOf arcs a b ≡ 1) × (weightOf arcs a b + bitsAt fm p b ≤ 1 + bitsAt fm p a)
+          → (arcOf arcs a b ≡ 1) × (weightOf arcs a b + bitsAt fm p b ≤ 1 + bitsAt fm p a)
       unfolding arcsIn
       exchanges =
           graph-exchange P N R Z zone rows fm (matesOf t) (capCells t (sizeOf t)) (replicate 96 0) mates-are (g .small) (g .within .rows) blank-arcs
@@ -193,14 +193,15 @@ module _ (t : Topology) (acc : Accepted t) where
       light p b = bit-le (getD fm p 0) b
 
       there : (u v : ℕ) → u < N → v < N → arcOf arcs u v ≡ 1
-        → (q : ℕ) × (Allowed P N R Z zone cap any (bitsAt rows) q u v × (cost P 1 (bitsAt fm) q u v ≡ weightOf arcs u v))
+          → (q : ℕ) × (Allowed P N R Z zone cap any (bitsAt rows) q u v × (cost P 1 (bitsAt fm) q u v ≡ weightOf arcs u v))
       unfolding arcsIn
       there u v lu lv e =
           ⊎-elim
           (λ w. (w .0, (inl (w .1, w .2), omega (arith, w .3, cost-row P 1 (bitsAt fm) light (w .0) u v (w .1)))))
-          (λ w.
-              (P,
-              (inr (refl, lu, lv, omega (arith, w .1, caps-are u lu)), omega (arith, w .0, cost-store P 1 (bitsAt fm) light P u v (omega arith)))))
+          (λ w. (
+            P,
+            (inr (refl, lu, lv, omega (arith, w .1, caps-are u lu)), omega (arith, w .0, cost-store P 1 (bitsAt fm) light P u v (omega arith))),
+          ))
           (graph-witness P N R Z zone rows fm (matesOf t) (capCells t (sizeOf t)) (replicate 96 0) mates-are (g .small) (g .within .rows) blank-arcs
           u v lu lv e)
 
@@ -263,9 +264,13 @@ module _ (t : Topology) (acc : Accepted t) where
         nodes-long : m < length nodes
         unfolding endWalk
         nodes-long =
-            omega
-            (arith, short, ap length (walked (Cycle k v) o), length-put 0 (back (graphOf arcs N) k v) (m + 1) (replicate 33 0),
-            length-replicate {A = ℕ} 33 0)
+            omega (
+              arith,
+              short,
+              ap length (walked (Cycle k v) o),
+              length-put 0 (back (graphOf arcs N) k v) (m + 1) (replicate 33 0),
+              length-replicate {A = ℕ} 33 0,
+            )
 
         held : (i : ℕ) → i ≤ m → getD nodes i 0 ≡ back (graphOf arcs N) k v i
         unfolding endWalk
@@ -299,7 +304,7 @@ module _ (t : Topology) (acc : Accepted t) where
                   (turned-small P N R Z zone cap any (λ p b. refl) rows fm (matesOf t) arcs mates-are (g .small) (g .within) exchanges room there
                   nodes m cycle few-partitions (omega (arith, few-partitions, g .long)) (omega (arith, few-partitions, fm-long)) arcs-long
                   nodes-long p l);
-              within = better .within
+              within = better .within;
             }
 
     -- ---- how far rows are
@@ -309,7 +314,7 @@ module _ (t : Topology) (acc : Accepted t) where
       same-weight S = weigh-cong P N (bitsAt fm) (incidence t F) S S fm-bit (λ p l b k. refl)
 
       measure : (rows : List ℕ) → Good rows
-        → distance t (layoutRows t rows) F + 2 * weigh P N (incidence t F) (bitsAt rows) ≡ R * P + formerPairs t F
+          → distance t (layoutRows t rows) F + 2 * weigh P N (incidence t F) (bitsAt rows) ≡ R * P + formerPairs t F
       unfolding layoutRows
       measure rows g = distance-bits t (acc .ids) (bitsAt rows) F (g .within .rows) fo
 
@@ -322,8 +327,8 @@ module _ (t : Topology) (acc : Accepted t) where
       far-fits rows g = omega (arith, measure rows g, shared rows g)
 
       gain : (rows : List ℕ) (g : Good rows) → improvesAt t F rows ≡ true
-        → (weigh P N (incidence t F) (bitsAt rows) + 1 ≤ weigh P N (incidence t F) (bitsAt (nextAt t F rows)))
-        × (weigh P N (incidence t F) (bitsAt (nextAt t F rows)) ≤ weigh P N (incidence t F) (bitsAt rows) + N)
+          → (weigh P N (incidence t F) (bitsAt rows) + 1 ≤ weigh P N (incidence t F) (bitsAt (nextAt t F rows)))
+          × (weigh P N (incidence t F) (bitsAt (nextAt t F rows)) ≤ weigh P N (incidence t F) (bitsAt rows) + N)
       gain rows g e =
           let w = improves-cycle rows g e in
           let b = better rows g (w .0) (w .1) (w .2) in
@@ -336,44 +341,59 @@ module _ (t : Topology) (acc : Accepted t) where
 
       -- Where the rows cannot be improved, no layout is nearer.
       none-nearer : 1 ≤ sizeOf t → (rows : List ℕ) (g : Good rows) → improvesAt t F rows ≡ false → (L : Layout) → ValidAt t L (sizeOf t)
-        → farRows t F rows ≤ distance t L F
+          → farRows t F rows ≤ distance t L F
       none-nearer large rows g e L v =
           let w = stays-potential rows g e in
           let h =
-              join-potential P N R Z 1 zone cap (bitsAt fm) any (bitsAt rows) (graphOf (arcs rows g) N)
-              (witnessOf rows fm P (matesOf t) (arcs rows g) (belowOf N) Z) (the-graph rows g) (okOf rows (matesOf t) (belowOf N) Z)
-              (ok-right P N R Z zone cap any (λ p b. refl) rows fm (matesOf t) (arcs rows g) mates-are (g .small) (g .within)) (some rows g)
-              (zone-below t) (light rows g) (λ p b. omega arith) (g .within) (w .0) (w .1) (incidence t L)
-              (within-of-valid t (acc .ids) L (sizeOf t) v) (λ p l b k z. absurd (omega (arith, z))) in
-          omega
-          (arith, far-is rows g, measure rows g, h, same-weight (bitsAt rows), same-weight (incidence t L),
-          distance-law t L F (acc .ids) (v .rows) (fo .ids))
+          join-potential P N R Z 1 zone cap (bitsAt fm) any (bitsAt rows) (graphOf (arcs rows g) N)
+          (witnessOf rows fm P (matesOf t) (arcs rows g) (belowOf N) Z) (the-graph rows g) (okOf rows (matesOf t) (belowOf N) Z)
+          (ok-right P N R Z zone cap any (λ p b. refl) rows fm (matesOf t) (arcs rows g) mates-are (g .small) (g .within)) (some rows g)
+          (zone-below t) (light rows g) (λ p b. omega arith) (g .within) (w .0) (w .1) (incidence t L)
+          (within-of-valid t (acc .ids) L (sizeOf t) v) (λ p l b k z. absurd (omega (arith, z))) in
+          omega (
+            arith,
+            far-is rows g,
+            measure rows g,
+            h,
+            same-weight (bitsAt rows),
+            same-weight (incidence t L),
+            distance-law t L F (acc .ids) (v .rows) (fo .ids),
+          )
 
       few-shared : (rows : List ℕ) → Good rows → weigh P N (incidence t F) (bitsAt rows) ≤ 2048
       few-shared rows g =
-          omega
-          (arith, weigh-le P N R Z 1 zone cap (incidence t F) (bitsAt rows) (g .within) (λ p b l k. incidence-le t F p b), mul-one (P * R),
-          mul-le-mul few-partitions (acc .replication .1))
+          omega (
+            arith,
+            weigh-le P N R Z 1 zone cap (incidence t F) (bitsAt rows) (g .within) (λ p b l k. incidence-le t F p b),
+            mul-one (P * R),
+            mul-le-mul few-partitions (acc .replication .1),
+          )
 
       near : 1 ≤ sizeOf t → (rows : List ℕ) → Good rows → farRows t F (startRows t) ≤ farRows t F rows + 2 * 2048
       near large rows g =
-          omega
-          (arith, far-is rows g, measure rows g, few-shared rows g, far-is (startRows t) (start-good large),
-          measure (startRows t) (start-good large))
+          omega (
+            arith,
+            far-is rows g,
+            measure rows g,
+            few-shared rows g,
+            far-is (startRows t) (start-good large),
+            measure (startRows t) (start-good large),
+          )
 
       -- Without former copies nothing is to be improved.
       blank : 1 ≤ sizeOf t → ((p : ℕ) → p < P → row F p ≡ []) → (improvesAt t F (startRows t) ≡ false) × (farRows t F (startRows t) ≡ R * P)
       unfolding incidence mem one-if formerPairs farRows weigh
-      blank large h =
-          (⊎-elim
-          (λ e.
-              let w = improves-cycle (startRows t) g e in
-              absurd
-              (no-gain P N R Z 1 zone cap (bitsAt fm) any (bitsAt (startRows t)) (graphOf (arcs (startRows t) g) N)
-              (witnessOf (startRows t) fm P (matesOf t) (arcs (startRows t) g) (belowOf N) Z) (the-graph (startRows t) g) (some (startRows t) g)
-              (λ p b l k. fm-bit p l b k ∙ none p l b) (w .0) (w .1) (w .2)))
-          (λ e. e) (true-or-false (improvesAt t F (startRows t))),
-          omega (arith, shared (startRows t) g, nothing, pairs))
+      blank large h = (
+        ⊎-elim
+            (λ e.
+            let w = improves-cycle (startRows t) g e in
+            absurd
+            (no-gain P N R Z 1 zone cap (bitsAt fm) any (bitsAt (startRows t)) (graphOf (arcs (startRows t) g) N)
+            (witnessOf (startRows t) fm P (matesOf t) (arcs (startRows t) g) (belowOf N) Z) (the-graph (startRows t) g) (some (startRows t) g)
+            (λ p b l k. fm-bit p l b k ∙ none p l b) (w .0) (w .1) (w .2)))
+            (λ e. e) (true-or-false (improvesAt t F (startRows t))),
+        omega (arith, shared (startRows t) g, nothing, pairs),
+      )
         where
           g : Good (startRows t)
           g = start-good large
@@ -385,14 +405,14 @@ module _ (t : Topology) (acc : Accepted t) where
           nothing =
               sum-zero P (λ p. sumTo N (λ b. bitsAt (startRows t) p b * incidence t F p b))
               (λ p l. sum-zero N (λ b. bitsAt (startRows t) p b * incidence t F p b)
-                  (λ b k. ap (λ (x : ℕ). bitsAt (startRows t) p b * x) (none p l b) ∙ mul-zero (bitsAt (startRows t) p b)))
+              (λ b k. ap (λ (x : ℕ). bitsAt (startRows t) p b * x) (none p l b) ∙ mul-zero (bitsAt (startRows t) p b)))
 
           pairs : formerPairs t F ≡ 0
           pairs = sum-zero P (λ p. length (row F p)) (λ p l. ap length (h p l))
 
       -- The rows of planning are such a machine.
       pub machine : Fits32 t → 1 ≤ sizeOf t
-        → Machine t F (sizeOf t) (improvesAt t F) (nextAt t F) (layoutRows t) (farRows t F) (startRows t) Good
+          → Machine t F (sizeOf t) (improvesAt t F) (nextAt t F) (layoutRows t) (farRows t F) (startRows t) Good
       machine low large =
           record {
             sized = size-is t acc low large;
@@ -408,5 +428,5 @@ module _ (t : Topology) (acc : Accepted t) where
                 omega (arith, gain x g e .1, far-is x g, measure x g, far-is (nextAt t F x) n, measure (nextAt t F x) n);
             nearest = none-nearer large;
             near = near large;
-            blank = blank large
+            blank = blank large;
           }

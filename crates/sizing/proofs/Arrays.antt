@@ -2,6 +2,7 @@
 -- Assumes nothing.
 use Prim.Native.Nat.{ℕ, _≤_}
 use mathlib.Core.Path.{_≡_, ap, ap₂, _∙_}
+use mathlib.Core.Bool.{Bool}
 use mathlib.Core.List.{List}
 use native.Mathlib.Omega.{arith}
 use lib.ListN.{length}
@@ -58,10 +59,10 @@ module _ (t : Topology) (few : nodesOf t ≤ 32) where
     caps-long l e = cells-long (capAt t s) (nodesOf t) l e
 
     -- The test of the arrays is the test of the cluster.
-    pub arrays-fit : (n p : ℕ) (zones caps : List ℕ) → n ≡ nodesOf t → p ≡ partitions t → zones ≡ zoneCells t → caps ≡ capCells t s
-        → fits p n (t .replication) (t .redundancy) (cell zones) (cell caps)
-        ≡ fits (partitions t) (nodesOf t) (t .replication) (t .redundancy) (zoneIndex t) (capAt t s)
-    arrays-fit n p zones caps e q z k =
-        ap₂ (λ (x y : ℕ). fits x y (t .replication) (t .redundancy) (cell zones) (cell caps)) q e
+    pub arrays-fit : (n p : ℕ) (zones caps : List ℕ) (r : Bool) → n ≡ nodesOf t → p ≡ partitions t → zones ≡ zoneCells t → caps ≡ capCells t s
+        → r ≡ fits p n (t .replication) (t .redundancy) (cell zones) (cell caps)
+        → r ≡ fits (partitions t) (nodesOf t) (t .replication) (t .redundancy) (zoneIndex t) (capAt t s)
+    arrays-fit n p zones caps r e q z k d =
+        d ∙ (ap₂ (λ (x y : ℕ). fits x y (t .replication) (t .redundancy) (cell zones) (cell caps)) q e
         ∙ fits-agree (nodesOf t) (cell zones) (zoneIndex t) (zones-hold zones z) (partitions t) (t .replication) (t .redundancy) (cell caps)
-        (capAt t s) (caps-hold caps k)
+        (capAt t s) (caps-hold caps k))

@@ -25,10 +25,13 @@ size-begins t = refl
 pub power-half : (i : ℕ) → 0 < i → 2 ^ i ≡ 2 ^ (i - 1) + 2 ^ (i - 1)
 power-half i l = let q : i ≡ suc (i - 1) = omega arith in ap (λ (k : ℕ). 2 ^ k) q ∙ omega (arith, two-pow-succ (i - 1))
 
--- The next bit, kept or dropped by the test.
-pub next-bit : (test : ℕ → Bool) (i s : ℕ) (b : Bool) → 0 < i → b ≡ test (s + 2 ^ (i - 1))
-    → bisectFrom i test s ≡ bisectFrom (i - 1) test (cond b (s + 2 ^ (i - 1)) s)
+-- A turn of the bisection: the next bit w is kept or dropped by the test.
+pub next-bit : (test : ℕ → Bool) (i s w size : ℕ) (r b : Bool) → 0 < i → w ≡ 2 ^ (i - 1) → r ≡ test (s + w) → r ≡ b
+    → size ≡ bisectFrom i test s → size ≡ bisectFrom (i - 1) test (cond b (s + w) s)
 unfolding bisectFrom
-next-bit test i s b l e =
+next-bit test i s w size r b l p e d h =
     let q : i ≡ suc (i - 1) = omega arith in
-    ap (λ (k : ℕ). bisectFrom k test s) q ∙ ap (λ (x : Bool). bisectFrom (i - 1) test (cond x (s + 2 ^ (i - 1)) s)) (sym e)
+    h
+    ∙ (ap (λ (k : ℕ). bisectFrom k test s) q
+    ∙ (ap (λ (x : ℕ). bisectFrom (i - 1) test (cond (test (s + x)) (s + x) s)) (sym p)
+    ∙ ap (λ (x : Bool). bisectFrom (i - 1) test (cond x (s + w) s)) (sym e ∙ d)))

@@ -40,20 +40,20 @@ module _ (P n R : ℕ) (zone cap : ℕ → ℕ) (few : n ≤ 32) (copies starts 
       ∙ ap (λ (x : ℕ). among P x (given P n R zone cap b) p) (start-agree n zone zone (λ b m. refl) P (cell copies) (given P n R zone cap) e b l)
 
 -- They deal the rows of a cluster.
-pub arrays-deal : (t : Topology) (s n P : ℕ) (zones caps copies starts l : List ℕ) → nodesOf t ≤ 32 → n ≡ nodesOf t → P ≡ partitions t
+pub arrays-deal : (t : Topology) (s n P : ℕ) (zones caps copies starts l r : List ℕ) → nodesOf t ≤ 32 → n ≡ nodesOf t → P ≡ partitions t
     → zones ≡ zoneCells t → caps ≡ capCells t s → copies ≡ column (given P n (t .replication) (cell zones) (cell caps)) n
     → starts ≡ column (λ b. start P n (cell zones) (cell copies) b % P) n
-    → put 0 (λ p. maskOf (λ b. reaches P (cell starts b) (cell copies b) p) n) P l ≡ dealtRows t s l
+    → r ≡ put 0 (λ p. maskOf (λ b. reaches P (cell starts b) (cell copies b) p) n) P l → r ≡ dealtRows t s l
 unfolding dealtRows beginning
-arrays-deal t s n P zones caps copies starts l few e q z k c w =
-    put-cong (λ p. maskOf (λ b. reaches P (cell starts b) (cell copies b) p) n) (λ p. maskOf (dealt P n R (cell zones) (cell caps) p) n) P l
+arrays-deal t s n P zones caps copies starts l r few e q z k c w d =
+    d ∙ (put-cong (λ p. maskOf (λ b. reaches P (cell starts b) (cell copies b) p) n) (λ p. maskOf (dealt P n R (cell zones) (cell caps) p) n) P l
     (λ p m. mask-cong (λ b. reaches P (cell starts b) (cell copies b) p) (dealt P n R (cell zones) (cell caps) p) n
     (cells-deal P n R (cell zones) (cell caps) (omega arith) copies starts c w p))
     ∙ (ap₂ (λ (x y : ℕ). put 0 (λ p. maskOf (dealt x y R (cell zones) (cell caps) p) y) x l) q e
     ∙ put-cong (λ p. maskOf (dealt (partitions t) (nodesOf t) R (cell zones) (cell caps) p) (nodesOf t)) (λ p. maskOf (beginning t s p) (nodesOf t))
     (partitions t) l
     (λ p m. mask-cong (dealt (partitions t) (nodesOf t) R (cell zones) (cell caps) p) (beginning t s p) (nodesOf t)
-    (dealt-agree (nodesOf t) (cell zones) (zoneIndex t) (zones-hold t few zones z) (partitions t) R (cell caps) (capAt t s) (caps-hold t few s caps k) p)))
+    (dealt-agree (nodesOf t) (cell zones) (zoneIndex t) (zones-hold t few zones z) (partitions t) R (cell caps) (capAt t s) (caps-hold t few s caps k) p))))
   where
     R : ℕ
     R = t .replication

@@ -24,11 +24,12 @@ module _ (P n R : ℕ) (zone cap : ℕ → ℕ) (few : n ≤ 32) (firsts : List 
   first-most m h b l = omega (arith, first-holds b l, first-le P n R zone cap b, h b l)
 
   -- The second pass completes what is given.
-  pub second-given : (placed left : ℕ) → ((b : ℕ) → b < n → cap b ≤ 256) → placed ≡ sumTo n (λ b. min 256 (cell firsts b)) → left ≡ R * P - placed
-      → column (λ b. cell firsts b + pour left (λ x. cap x - cell firsts x) b) n ≡ column (given P n R zone cap) n
+  pub second-given : (placed left : ℕ) (copies : List ℕ) → ((b : ℕ) → b < n → cap b ≤ 256) → placed ≡ sumTo n (λ b. min 256 (cell firsts b))
+      → left ≡ R * P - placed → copies ≡ column (λ b. cell firsts b + pour left (λ x. cap x - cell firsts x) b) n
+      → copies ≡ column (given P n R zone cap) n
   unfolding given more
-  second-given placed left h p q =
-      column-cong (λ b. cell firsts b + pour left (λ x. cap x - cell firsts x) b) (given P n R zone cap) n
+  second-given placed left copies h p q d =
+      d ∙ column-cong (λ b. cell firsts b + pour left (λ x. cap x - cell firsts x) b) (given P n R zone cap) n
       (λ b l. ap₂ _+_ (first-holds b l)
       (ap (λ (k : ℕ). pour k (λ x. cap x - cell firsts x) b) (q ∙ ap (λ (k : ℕ). R * P - k) (p ∙ all))
       ∙ pour-agree n (R * P - sumTo n (first P R zone cap)) (λ x. cap x - cell firsts x) (λ x. cap x - first P R zone cap x)

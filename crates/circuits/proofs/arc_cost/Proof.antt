@@ -11,22 +11,22 @@ use Rattle.circuits.proofs.arc_cost.Statement.{statement}
 use Rattle.circuits.proofs.arc_cost.Tie as tie
 
 mul-old : tie.Need-mul-old
-mul-old c = search needs
+mul-old c = omega arith
 
 shared-slice-read-old : tie.Need-shared-slice-read-old
-shared-slice-read-old c = search needs
+shared-slice-read-old c = omega arith
 
 digit-requires : tie.Need-digit-requires
 digit-requires c κs = search needs
 
 add-result : tie.Need-add-result
-add-result c = search needs
+add-result c = omega arith
 
 digit-requires-2 : tie.Need-digit-requires-2
 digit-requires-2 c κs = search needs
 
 sub-result : tie.Need-sub-result
-sub-result c = search needs
+sub-result c = omega arith
 
 returns : tie.Need-returns
 unfolding cost

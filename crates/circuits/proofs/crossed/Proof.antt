@@ -2,18 +2,21 @@
 use borrow.Author.Needs.{needs}
 use native.Mathlib.Omega.{arith}
 use Rattle.circuits.proofs.Steps.{ok-at}
-use mathlib.Core.Path.{sym, _∙_}
 use Rattle.exchange.specs.Uncross.{crosses}
 use borrow.Author.Tests.{lt-ltb, le-ltb, eq-eqb, ne-eqb, not-true, not-false}
 use lib.ListN.{getD}
+use mathlib.Core.Path.{sym, _∙_}
 use Rattle.circuits.proofs.crossed.Statement.{statement}
 use Rattle.circuits.proofs.crossed.Tie as tie
 
-mul-p : tie.Need-mul-p
-mul-p c = search needs
+mul-e : tie.Need-mul-e
+mul-e c = omega arith
 
-shared-slice-read-p : tie.Need-shared-slice-read-p
-shared-slice-read-p c = search needs
+shared-slice-read-e : tie.Need-shared-slice-read-e
+shared-slice-read-e c = omega arith
+
+cast-p : tie.Need-cast-p
+cast-p c = omega (arith, c .shared-slice-known5 .given (c .before .before .before .before .before .args .i))
 
 returns : tie.Need-returns
 unfolding crosses
@@ -21,42 +24,40 @@ returns c = let a = c .before .before .before .before .before .before .args in
     rw (le-ltb (getD (a .q .now) (a .i) 0) (a .partitions) (c .if1 .taken))
 
 mul-if2 : tie.Need-mul-if2
-mul-if2 c = search needs
+mul-if2 c = omega arith
 
 shared-slice-read-if2 : tie.Need-shared-slice-read-if2
-shared-slice-read-if2 c = search needs
+shared-slice-read-if2 c = omega arith
 
 returns-2 : tie.Need-returns-2
 unfolding crosses
 returns-2 c = let a = c .before .before .before .before .before .before .before .before .args in
-    rw (
-      lt-ltb (getD (a .q .now) (a .i) 0) (a .partitions) (c .before .before .if1 .left),
-      ne-eqb (getD (a .q .now) (a .i) 0) (getD (a .q .now) (a .j) 0) (λ e. omega arith),
-    )
+    let p = getD (a .q .now) (a .i) 0 in
+    rw (lt-ltb p (a .partitions) (c .before .before .if1 .left), ne-eqb p (getD (a .q .now) (a .j) 0) (λ e. omega arith))
 
 mul-row : tie.Need-mul-row
-mul-row c = search needs
+mul-row c = omega arith
 
 shared-slice-read-row : tie.Need-shared-slice-read-row
-shared-slice-read-row c = search needs
+shared-slice-read-row c = omega arith
 
 add-targets : tie.Need-add-targets
-add-targets c = search needs
+add-targets c = omega arith
 
 mul-targets : tie.Need-mul-targets
-mul-targets c = search needs
+mul-targets c = omega arith
 
 shared-slice-read-targets : tie.Need-shared-slice-read-targets
-shared-slice-read-targets c = search needs
+shared-slice-read-targets c = omega arith
 
 targets-requires : tie.Need-targets-requires
 targets-requires c κs = search needs
 
 mul-member : tie.Need-mul-member
-mul-member c = search needs
+mul-member c = omega arith
 
 shared-slice-read-member : tie.Need-shared-slice-read-member
-shared-slice-read-member c = search needs
+shared-slice-read-member c = omega arith
 
 member-requires : tie.Need-member-requires
 member-requires c κs = search needs
@@ -75,22 +76,22 @@ returns-3 c = let k = c .before in
     )
 
 add-targets-2 : tie.Need-add-targets-2
-add-targets-2 c = search needs
+add-targets-2 c = omega arith
 
 mul-targets-2 : tie.Need-mul-targets-2
-mul-targets-2 c = search needs
+mul-targets-2 c = omega arith
 
 shared-slice-read-targets-2 : tie.Need-shared-slice-read-targets-2
-shared-slice-read-targets-2 c = search needs
+shared-slice-read-targets-2 c = omega arith
 
 targets-requires-2 : tie.Need-targets-requires-2
 targets-requires-2 c κs = search needs
 
 mul-member-2 : tie.Need-mul-member-2
-mul-member-2 c = search needs
+mul-member-2 c = omega arith
 
 shared-slice-read-member-2 : tie.Need-shared-slice-read-member-2
-shared-slice-read-member-2 c = search needs
+shared-slice-read-member-2 c = omega arith
 
 member-requires-2 : tie.Need-member-requires-2
 member-requires-2 c κs = search needs
@@ -115,8 +116,9 @@ pub crossed-spec : {M : Type 1} → statement M
 crossed-spec =
     tie.close
     (tie.spec
-    mul-p
-    shared-slice-read-p
+    mul-e
+    shared-slice-read-e
+    cast-p
     returns
     mul-if2
     shared-slice-read-if2

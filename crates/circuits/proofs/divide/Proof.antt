@@ -1,5 +1,6 @@
 -- `circuits::divide` meets its contract. Assumes nothing.
 use borrow.Author.Needs.{needs}
+use native.Mathlib.Omega.{arith}
 use Rattle.circuits.proofs.Steps.{inner-in, outer-in, split-inner, split-outer}
 use Rattle.circuits.specs.ModelCircuits.{bitsOf}
 use mathlib.Core.Path.{sym, _∙_}
@@ -7,31 +8,31 @@ use Rattle.circuits.proofs.divide.Statement.{statement}
 use Rattle.circuits.proofs.divide.Tie as tie
 
 sub-k : tie.Need-sub-k
-sub-k c = search needs
+sub-k c = omega arith
 
 gains-requires : tie.Need-gains-requires
 gains-requires c κs = search needs
 
-add-shift-nodes : tie.Need-add-shift-nodes
-add-shift-nodes c = search needs
+add-shift : tie.Need-add-shift
+add-shift c = omega arith
 
-shift-nodes-requires : tie.Need-shift-nodes-requires
-shift-nodes-requires c κs = search needs
+shift-requires : tie.Need-shift-requires
+shift-requires c κs = search needs
 
-add-shift-partitions : tie.Need-add-shift-partitions
-add-shift-partitions c = search needs
+add-shift-2 : tie.Need-add-shift-2
+add-shift-2 c = omega arith
 
-shift-partitions-requires : tie.Need-shift-partitions-requires
-shift-partitions-requires c κs = search needs
+shift-requires-2 : tie.Need-shift-requires-2
+shift-requires-2 c κs = search needs
 
 slice-read-y : tie.Need-slice-read-y
-slice-read-y c = search needs
+slice-read-y c = omega arith
 
 mul-y : tie.Need-mul-y
-mul-y c = search needs
+mul-y c = omega arith
 
 slice-write-y : tie.Need-slice-write-y
-slice-write-y c = search needs
+slice-write-y c = omega arith
 
 same-length : tie.Need-same-length
 same-length c = search needs
@@ -52,32 +53,32 @@ returns c = let k = c .before .before .before .before .before .before .before in
       split-inner (a .partitions) (a .m) i j g (a .y .now) (a .q .now) (search needs) (search needs) (search needs) (search needs)
           (sym (t .before .gains .ensures) ∙ t .if1 .taken)
           (inner-in (a .partitions) (a .m) i j g (a .y .now) (a .q .now) (search needs) (search needs) (search needs) (search needs)
-          (k .shift-nodes .last .0) (c .before .before .before .shift-partitions .last .0) (k .shift-nodes .ensures) (c .before .before .before .shift-partitions .ensures)),
+          (k .shift .last .0) (c .before .before .before .shift2 .last .0) (k .shift .ensures) (c .before .before .before .shift2 .ensures)),
     )
 
-add-shift-nodes-2 : tie.Need-add-shift-nodes-2
-add-shift-nodes-2 c = search needs
+add-shift-3 : tie.Need-add-shift-3
+add-shift-3 c = omega arith
 
-sub-shift-nodes : tie.Need-sub-shift-nodes
-sub-shift-nodes c = search needs
+sub-shift : tie.Need-sub-shift
+sub-shift c = omega arith
 
-shift-nodes-requires-2 : tie.Need-shift-nodes-requires-2
-shift-nodes-requires-2 c κs = search needs
+shift-requires-3 : tie.Need-shift-requires-3
+shift-requires-3 c κs = search needs
 
-add-shift-partitions-2 : tie.Need-add-shift-partitions-2
-add-shift-partitions-2 c = search needs
+add-shift-4 : tie.Need-add-shift-4
+add-shift-4 c = omega arith
 
-sub-shift-partitions : tie.Need-sub-shift-partitions
-sub-shift-partitions c = search needs
+sub-shift-2 : tie.Need-sub-shift-2
+sub-shift-2 c = omega arith
 
-sub-shift-partitions-2 : tie.Need-sub-shift-partitions-2
-sub-shift-partitions-2 c = search needs
+sub-shift-3 : tie.Need-sub-shift-3
+sub-shift-3 c = omega arith
 
-shift-partitions-requires-2 : tie.Need-shift-partitions-requires-2
-shift-partitions-requires-2 c κs = search needs
+shift-requires-4 : tie.Need-shift-requires-4
+shift-requires-4 c κs = search needs
 
 sub-result : tie.Need-sub-result
-sub-result c = search needs
+sub-result c = omega arith
 
 same-length-3 : tie.Need-same-length-3
 same-length-3 c = search needs
@@ -98,7 +99,7 @@ returns-2 c = let k = c .before .before .before .before .before .before in
       split-outer (a .partitions) (a .m) i j g (a .y .now) (a .q .now) (search needs) (search needs) (search needs) (search needs)
           (sym (t .before .gains .ensures) ∙ t .if1 .left)
           (outer-in (a .partitions) (a .m) i j g (a .y .now) (a .q .now) (search needs) (search needs) (search needs) (search needs)
-          (k .shift-nodes2 .last .0) (c .before .before .shift-partitions2 .last .0) (k .shift-nodes2 .ensures) (c .before .before .shift-partitions2 .ensures)),
+          (k .shift3 .last .0) (c .before .before .shift4 .last .0) (k .shift3 .ensures) (c .before .before .shift4 .ensures)),
     )
 
 pub divide-spec : {M : Type 1} → statement M
@@ -107,23 +108,23 @@ divide-spec =
     (tie.spec
     sub-k
     gains-requires
-    add-shift-nodes
-    shift-nodes-requires
-    add-shift-partitions
-    shift-partitions-requires
+    add-shift
+    shift-requires
+    add-shift-2
+    shift-requires-2
     slice-read-y
     mul-y
     slice-write-y
     same-length
     same-length-2
     returns
-    add-shift-nodes-2
-    sub-shift-nodes
-    shift-nodes-requires-2
-    add-shift-partitions-2
-    sub-shift-partitions
-    sub-shift-partitions-2
-    shift-partitions-requires-2
+    add-shift-3
+    sub-shift
+    shift-requires-3
+    add-shift-4
+    sub-shift-2
+    sub-shift-3
+    shift-requires-4
     sub-result
     same-length-3
     same-length-4

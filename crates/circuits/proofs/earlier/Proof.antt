@@ -1,5 +1,6 @@
 -- `circuits::earlier` meets its contract. No arc that the loop passed can be crossed with a later one. Assumes nothing.
 use borrow.Author.Needs.{needs}
+use native.Mathlib.Omega.{arith}
 use Rattle.circuits.proofs.Steps.{first-here, first-next, first-end}
 use Rattle.circuits.specs.ModelCircuits.{okOf, walkIn}
 use Rattle.exchange.specs.Uncross.{partner, first}
@@ -41,10 +42,10 @@ returns c = let k = c .before .before .before in
     ∙ first-here test (a .m) (k .loop .i) (search needs) (ap (λ (n : ℕ). ltb n (a .m)) (sym (c .before .later .ensures)) ∙ lt-ltb _ _ (c .if1 .taken)))
 
 add-i : tie.Need-add-i Inv-loop μ-loop
-add-i c = search needs
+add-i c = omega arith
 
 loop-less : tie.Need-loop-less Inv-loop μ-loop
-loop-less c = search needs
+loop-less c = omega arith
 
 loop-again : tie.Need-loop-again Inv-loop μ-loop
 loop-again c = let k = c .before .before .before in

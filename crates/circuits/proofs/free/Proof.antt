@@ -1,5 +1,6 @@
 -- `circuits::free` meets its contract. What is freed of crossed pairs from here, with the splits that are left, is what is freed from the beginning. Assumes nothing.
 use borrow.Author.Needs.{needs}
+use native.Mathlib.Omega.{arith}
 use Rattle.circuits.proofs.Steps.{pair-in, free-stop, free-go, free-end}
 use Rattle.circuits.specs.ModelCircuits.{bitsOf, okOf, walkIn}
 use Rattle.exchange.proofs.Walk.{same-refl}
@@ -61,10 +62,10 @@ divide-requires c κs = let r = c .before .before in
     search needs
 
 sub-left : tie.Need-sub-left Inv-loop μ-loop
-sub-left c = search needs
+sub-left c = omega arith
 
 loop-less : tie.Need-loop-less Inv-loop μ-loop
-loop-less c = search needs
+loop-less c = omega arith
 
 loop-again : tie.Need-loop-again Inv-loop μ-loop
 loop-again c = let d = c .before .before .before .before in

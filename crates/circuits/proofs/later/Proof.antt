@@ -1,5 +1,6 @@
 -- `circuits::later` meets its contract. No arc that the loop passed can be crossed with i. Assumes nothing.
 use borrow.Author.Needs.{needs}
+use native.Mathlib.Omega.{arith}
 use Rattle.circuits.proofs.Steps.{first-here, first-next, first-end}
 use Rattle.circuits.specs.ModelCircuits.{okOf, walkIn}
 use Rattle.exchange.specs.Uncross.{crosses, partner}
@@ -20,7 +21,7 @@ abbrev μ-loop : tie.MeasureT-loop
 μ-loop y q m i rows partitions mates all z j₀ j = m - j
 
 add-j : tie.Need-add-j Inv-loop μ-loop
-add-j c = search needs
+add-j c = omega arith
 
 loop-holds : tie.Need-loop-holds Inv-loop μ-loop
 unfolding partner
@@ -40,10 +41,10 @@ returns c = let k = c .before .before .before in
     sym (k .loop .inv .2 ∙ first-here test (a .m) (k .loop .j) (search needs) (sym (c .before .crossed .ensures) ∙ c .if1 .taken))
 
 add-j-2 : tie.Need-add-j-2 Inv-loop μ-loop
-add-j-2 c = search needs
+add-j-2 c = omega arith
 
 loop-less : tie.Need-loop-less Inv-loop μ-loop
-loop-less c = search needs
+loop-less c = omega arith
 
 loop-again : tie.Need-loop-again Inv-loop μ-loop
 loop-again c = let k = c .before .before .before in

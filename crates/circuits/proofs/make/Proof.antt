@@ -1,11 +1,10 @@
 -- `circuits::make` meets its contract. The loop has made the exchanges of the arcs that it passed. Assumes nothing.
 use borrow.Author.Needs.{needs}
 use native.Mathlib.Omega.{arith}
-use Rattle.sets.specs.Bits.{withOf}
-use lib.ListN.{set, length-set}
 use Rattle.circuits.proofs.Steps.{exchanged-row, exchanged-store}
 use Rattle.circuits.specs.ModelCircuits.{exchanged}
-use lib.ListN.{length, getD}
+use Rattle.sets.specs.Bits.{withOf}
+use lib.ListN.{length, getD, set, length-set}
 use mathlib.Core.Logic.{⊎-elim}
 use mathlib.Core.Path.{_≡_, refl, ap, _∙_}
 use Prim.Native.Nat.{ℕ, _≤_, _-_}
@@ -13,7 +12,8 @@ use Rattle.circuits.proofs.make.Statement.{statement}
 use Rattle.circuits.proofs.make.Tie as tie
 
 abbrev Inv-loop : tie.InvT-loop
-Inv-loop rows₀ partitions y q m i₀ rows i = (i ≤ m) × (length rows ≡ length rows₀) × (rows ≡ exchanged partitions (λ t. getD y t 0) (λ t. getD q t 0) i rows₀)
+Inv-loop rows₀ partitions y q m i₀ rows i = (i ≤ m) × (length rows ≡ length rows₀)
+    × (rows ≡ exchanged partitions (λ t. getD y t 0) (λ t. getD q t 0) i rows₀)
 
 abbrev μ-loop : tie.MeasureT-loop
 μ-loop rows₀ partitions y q m i₀ rows i = m - i
@@ -23,49 +23,52 @@ unfolding exchanged
 loop-holds c = (search needs, search needs, refl)
 
 mul-p : tie.Need-mul-p Inv-loop μ-loop
-mul-p c = search needs
+mul-p c = omega arith
 
 shared-slice-read-p : tie.Need-shared-slice-read-p Inv-loop μ-loop
-shared-slice-read-p c = search needs
+shared-slice-read-p c = omega arith
+
+cast-p : tie.Need-cast-p Inv-loop μ-loop
+cast-p c = omega (arith, c .shared-slice-known3 .given (c .before .before .loop .i))
 
 mul-without : tie.Need-mul-without Inv-loop μ-loop
-mul-without c = search needs
+mul-without c = omega arith
 
 slice-read-without : tie.Need-slice-read-without Inv-loop μ-loop
-slice-read-without c = search needs
+slice-read-without c = omega arith
 
 add-without : tie.Need-add-without Inv-loop μ-loop
-add-without c = search needs
+add-without c = omega arith
 
 mul-without-2 : tie.Need-mul-without-2 Inv-loop μ-loop
-mul-without-2 c = search needs
+mul-without-2 c = omega arith
 
 shared-slice-read-without : tie.Need-shared-slice-read-without Inv-loop μ-loop
-shared-slice-read-without c = search needs
+shared-slice-read-without c = omega arith
 
 without-requires : tie.Need-without-requires Inv-loop μ-loop
 without-requires c κs = search needs
 
 mul-with : tie.Need-mul-with Inv-loop μ-loop
-mul-with c = search needs
+mul-with c = omega arith
 
 shared-slice-read-with : tie.Need-shared-slice-read-with Inv-loop μ-loop
-shared-slice-read-with c = search needs
+shared-slice-read-with c = omega arith
 
 with-requires : tie.Need-with-requires Inv-loop μ-loop
 with-requires c κs = search needs
 
 mul-rows : tie.Need-mul-rows Inv-loop μ-loop
-mul-rows c = search needs
+mul-rows c = omega arith
 
 slice-write-rows : tie.Need-slice-write-rows Inv-loop μ-loop
-slice-write-rows c = search needs
+slice-write-rows c = omega arith
 
 add-i : tie.Need-add-i Inv-loop μ-loop
-add-i c = search needs
+add-i c = omega arith
 
 loop-less : tie.Need-loop-less Inv-loop μ-loop
-loop-less c = search needs
+loop-less c = omega arith
 
 loop-again : tie.Need-loop-again Inv-loop μ-loop
 loop-again c = let k = c .before .before .before in
@@ -100,6 +103,7 @@ make-spec =
     loop-holds
     mul-p
     shared-slice-read-p
+    cast-p
     mul-without
     slice-read-without
     add-without

@@ -37,13 +37,13 @@ digit-requires : tie.Need-digit-requires
 digit-requires c κs = search needs
 
 add-if3 : tie.Need-add-if3
-add-if3 c = search needs
+add-if3 c = omega arith
 
 digit-requires-2 : tie.Need-digit-requires-2
 digit-requires-2 c κs = search needs
 
 add-if3-2 : tie.Need-add-if3-2
-add-if3-2 c = search needs
+add-if3-2 c = omega arith
 
 returns-3 : tie.Need-returns-3
 unfolding suitsOf

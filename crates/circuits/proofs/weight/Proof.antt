@@ -1,5 +1,6 @@
 -- `circuits::weight` meets its contract. Assumes nothing.
 use borrow.Author.Needs.{needs}
+use native.Mathlib.Omega.{arith}
 use lib.ListN.{getD}
 use mathlib.Core.Path.{_≡_}
 use Prim.Native.Nat.{_+_}
@@ -20,7 +21,7 @@ unfolding weightOf
 returns c = let a = c .before .before .before .before .args in let e : memberOf (getD (a .arcs .now) (a .u) 0) (a .v) ≡ true = cc in (rw e, search needs)
 
 add-cell : tie.Need-add-cell
-add-cell c = search needs
+add-cell c = omega arith
 
 cell-requires-2 : tie.Need-cell-requires-2
 cell-requires-2 c κs = search needs

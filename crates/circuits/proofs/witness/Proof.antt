@@ -1,5 +1,6 @@
 -- `circuits::witness` meets its contract. No partition that the loop passed suits. Assumes nothing.
 use borrow.Author.Needs.{needs}
+use native.Mathlib.Omega.{arith}
 use Rattle.circuits.proofs.Steps.{first-here, first-next, first-end}
 use Rattle.circuits.specs.ModelCircuits.{suitsAt, witnessOf}
 use Rattle.exchange.specs.Levels.{firstFrom}
@@ -24,21 +25,21 @@ loop-holds : tie.Need-loop-holds Inv-loop μ-loop
 unfolding witnessOf
 loop-holds c = let a = c .before .before .before .before .before .args in (
   search needs,
-  ap₂ (λ (w n : ℕ). firstFrom (suitsAt (a .rows .now) (a .former .now) (a .mates .now) (a .all) (a .z) w (a .u) (a .v)) n 0) (sym (c .weight .ensures .0))
-      (sym (sub-zero (a .partitions))),
+  ap₂ (λ (w n : ℕ). firstFrom (suitsAt (a .rows .now) (a .former .now) (a .mates .now) (a .all) (a .z) w (a .u) (a .v)) n 0)
+      (sym (c .weight .ensures .0)) (sym (sub-zero (a .partitions))),
 )
 
 mul-suits : tie.Need-mul-suits Inv-loop μ-loop
-mul-suits c = search needs
+mul-suits c = omega arith
 
 shared-slice-read-suits : tie.Need-shared-slice-read-suits Inv-loop μ-loop
-shared-slice-read-suits c = search needs
+shared-slice-read-suits c = omega arith
 
 mul-suits-2 : tie.Need-mul-suits-2 Inv-loop μ-loop
-mul-suits-2 c = search needs
+mul-suits-2 c = omega arith
 
 shared-slice-read-suits-2 : tie.Need-shared-slice-read-suits-2 Inv-loop μ-loop
-shared-slice-read-suits-2 c = search needs
+shared-slice-read-suits-2 c = omega arith
 
 suits-requires : tie.Need-suits-requires Inv-loop μ-loop
 suits-requires c κs = search needs
@@ -47,25 +48,27 @@ returns : tie.Need-returns Inv-loop μ-loop
 returns c = let k = c .before .before .before .before .before in
     let a = c .before .before .before .before .before .before .before .before .before .before .before .args in
     let test : ℕ → Bool = suitsAt (a .rows .now) (a .former .now) (a .mates .now) (a .all) (a .z) (k .before .weight .result) (a .u) (a .v) in
-    sym (k .loop .inv .1 ∙ first-here test (a .partitions) (k .loop .p) (search needs) (sym (c .before .suits .ensures) ∙ c .if1 .taken))
+    let e = first-here test (a .partitions) (k .loop .p) (search needs) (sym (c .before .suits .ensures) ∙ c .if1 .taken) in
+    (sym (k .loop .inv .1 ∙ e), search needs)
 
 add-p : tie.Need-add-p Inv-loop μ-loop
-add-p c = search needs
+add-p c = omega arith
 
 loop-less : tie.Need-loop-less Inv-loop μ-loop
-loop-less c = search needs
+loop-less c = omega arith
 
 loop-again : tie.Need-loop-again Inv-loop μ-loop
 loop-again c = let k = c .before .before .before .before .before in
     let a = c .before .before .before .before .before .before .before .before .before .before .before .args in
     let test : ℕ → Bool = suitsAt (a .rows .now) (a .former .now) (a .mates .now) (a .all) (a .z) (k .before .weight .result) (a .u) (a .v) in
-    (search needs, k .loop .inv .1 ∙ first-next test (a .partitions) (k .loop .p) (search needs) (sym (c .before .suits .ensures) ∙ c .if1 .left))
+    let e = first-next test (a .partitions) (k .loop .p) (search needs) (sym (c .before .suits .ensures) ∙ c .if1 .left) in
+    (search needs, k .loop .inv .1 ∙ e)
 
 returns-2 : tie.Need-returns-2 Inv-loop μ-loop
 returns-2 c = let k = c .before in
     let a = c .before .before .before .before .before .before .before .args in
     let test : ℕ → Bool = suitsAt (a .rows .now) (a .former .now) (a .mates .now) (a .all) (a .z) (k .before .weight .result) (a .u) (a .v) in
-    sym (k .loop .inv .1 ∙ first-end test (a .partitions) (k .loop .p) (search needs))
+    (sym (k .loop .inv .1 ∙ first-end test (a .partitions) (k .loop .p) (search needs)), search needs)
 
 pub witness-spec : {M : Type 1} → statement M
 witness-spec =

@@ -10,9 +10,6 @@ use Rattle.sets.specs.Bits.{withOf, memberOf}
 use Rattle.cycles.proofs.Firsts.{put-next}
 use Rattle.cycles.proofs.begin.Statement.{statement}
 use Rattle.cycles.proofs.begin.Tie as tie
-use Rattle.cycles.proofs.begin.Reads as reads
-use Rattle.cycles.proofs.begin.Lts as lts
-use Rattle.sets.proofs.with.Reads as with-reads
 
 abbrev Inv-loop : tie.InvT-loop
 Inv-loop way₀ v₀ way v =

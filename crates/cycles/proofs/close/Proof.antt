@@ -14,11 +14,6 @@ use Rattle.cycles.proofs.Firsts.{put-next}
 use Rattle.cycles.proofs.Parts.{closerFrom, closer-start, closer-hit, closer-miss, closer-end}
 use Rattle.cycles.proofs.close.Statement.{statement}
 use Rattle.cycles.proofs.close.Tie as tie
-use Rattle.cycles.proofs.close.Reads as reads
-use Rattle.cycles.proofs.close.Lts as lts
-use Rattle.cycles.proofs.grown_from.Reads as grown-from-reads
-use Rattle.sets.proofs.member.Reads as member-reads
-use Rattle.sets.proofs.with.Reads as with-reads
 
 abbrev Inv-loop : tie.InvT-loop
 Inv-loop n fell row way grown₀ v₀ grown v =
@@ -50,9 +45,11 @@ returns c =
     let g = m .before in
     let l = g .before .before in
     let t = l .before .before .before .before in
-    let a = t .args in
-    (sym (l .loop .inv .6 ∙ closer-hit (a .n) (a .fell) (a .row .now) (a .way .now) (l .loop .v) (g .grown-from .result) (g .before .loop-test .taken) (g .grown-from .ensures)
-    (sym (m .member .ensures) ∙ c .if1 .taken)), λ e. absurd (omega (arith, e)))
+    let a = t .args in (
+      sym (l .loop .inv .6 ∙ closer-hit (a .n) (a .fell) (a .row .now) (a .way .now) (l .loop .v) (g .grown-from .result) (g .before .loop-test .taken) (g .grown-from .ensures)
+          (sym (m .member .ensures) ∙ c .if1 .taken)),
+      λ e. absurd (omega (arith, e)),
+    )
 
 with-requires : tie.Need-with-requires Inv-loop μ-loop
 with-requires c κs = search needs
@@ -78,12 +75,18 @@ loop-again c =
     let g = m .before in
     let l = g .before .before in
     let t = l .before .before .before .before in
-    let a = t .args in
-    (search needs, search needs, search needs, search needs, search needs, simp length-set (search needs),
-    l .loop .inv .6 ∙ closer-miss (a .n) (a .fell) (a .row .now) (a .way .now) (l .loop .v) (g .grown-from .result) (g .before .loop-test .taken) (g .grown-from .ensures)
-    (sym (m .member .ensures) ∙ c .before .if1 .left),
-    put-next (λ v. withOf (before (a .fell) (a .row .now) (a .way .now) v) v) (l .loop .v) (c .with .result) (a .grown .now) (l .loop .grown) (l .loop .inv .7)
-    (c .with .ensures ∙ ap (λ (x : ℕ). withOf x (l .loop .v)) (g .grown-from .ensures)))
+    let a = t .args in (
+      search needs,
+      search needs,
+      search needs,
+      search needs,
+      search needs,
+      simp length-set (search needs),
+      l .loop .inv .6 ∙ closer-miss (a .n) (a .fell) (a .row .now) (a .way .now) (l .loop .v) (g .grown-from .result) (g .before .loop-test .taken) (g .grown-from .ensures)
+          (sym (m .member .ensures) ∙ c .before .if1 .left),
+      put-next (λ v. withOf (before (a .fell) (a .row .now) (a .way .now) v) v) (l .loop .v) (c .with .result) (a .grown .now) (l .loop .grown) (l .loop .inv .7)
+          (c .with .ensures ∙ ap (λ (x : ℕ). withOf x (l .loop .v)) (g .grown-from .ensures)),
+    )
 
 same-length-2 : tie.Need-same-length-2 Inv-loop μ-loop
 same-length-2 c = search needs
@@ -92,9 +95,10 @@ returns-2 : tie.Need-returns-2 Inv-loop μ-loop
 returns-2 c =
     let l = c .before in
     let a = l .before .before .before .before .args in
-    let e : l .loop .v ≡ a .n = omega arith in
-    (sym (l .loop .inv .6 ∙ (closer-end (a .n) (a .fell) (a .row .now) (a .way .now) (l .loop .v) (c .loop-test .left) ∙ e)),
-    λ _. l .loop .inv .7 ∙ ap (λ (k : ℕ). put 0 (λ v. withOf (before (a .fell) (a .row .now) (a .way .now) v) v) k (a .grown .now)) e)
+    let e : l .loop .v ≡ a .n = omega arith in (
+      sym (l .loop .inv .6 ∙ (closer-end (a .n) (a .fell) (a .row .now) (a .way .now) (l .loop .v) (c .loop-test .left) ∙ e)),
+      λ _. l .loop .inv .7 ∙ ap (λ (k : ℕ). put 0 (λ v. withOf (before (a .fell) (a .row .now) (a .way .now) v) v) k (a .grown .now)) e,
+    )
 
 pub close-spec : {M : Type 1} → statement M
 close-spec =

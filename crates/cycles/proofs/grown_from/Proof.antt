@@ -12,10 +12,6 @@ use Rattle.exchange.specs.Levels.{firstFrom}
 use Rattle.cycles.proofs.Parts.{before-fallen, before-stayed}
 use Rattle.cycles.proofs.grown_from.Statement.{statement}
 use Rattle.cycles.proofs.grown_from.Tie as tie
-use Rattle.cycles.proofs.grown_from.Reads as reads
-use Rattle.cycles.proofs.grown_from.Lts as lts
-use Rattle.sets.proofs.member.Reads as member-reads
-use Rattle.sets.proofs.without.Reads as without-reads
 
 member-requires : tie.Need-member-requires
 member-requires c κs = search needs

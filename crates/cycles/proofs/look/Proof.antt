@@ -13,10 +13,6 @@ use Rattle.cycles.specs.Turns.{Held, Turns}
 use Rattle.cycles.proofs.Sweeps.{look-turns, look-not}
 use Rattle.cycles.proofs.look.Statement.{statement}
 use Rattle.cycles.proofs.look.Tie as tie
-use Rattle.cycles.proofs.look.Reads as reads
-use Rattle.cycles.proofs.look.Lts as lts
-use Rattle.cycles.proofs.offer.Reads as offer-reads
-use Rattle.sets.proofs.member.Reads as member-reads
 
 member-requires : tie.Need-member-requires
 member-requires c κs = search needs

@@ -11,11 +11,6 @@ use borrow.Author.Needs.{needs}
 use native.Mathlib.Omega.{arith}
 use Rattle.cycles.proofs.offer.Statement.{statement}
 use Rattle.cycles.proofs.offer.Tie as tie
-use Rattle.cycles.proofs.offer.Reads as reads
-use Rattle.cycles.proofs.offer.Lts as lts
-use Rattle.sets.proofs.least.Reads as least-reads
-use Rattle.sets.proofs.with.Reads as with-reads
-use Rattle.sets.proofs.without.Reads as without-reads
 
 abbrev Inv-loop : tie.InvT-loop
 Inv-loop top m c u fell next₀ row₀ marks₀ left₀ next row marks left =
@@ -78,9 +73,15 @@ loop-less c = offers-less (at (c .before .before .before))
 
 loop-again : tie.Need-loop-again Inv-loop μ-loop
 loop-again c =
-    let o = c .before .before .before in
-    (search needs, simp length-set (search needs), simp length-set (search needs), search needs, search needs, offers-part (at o),
-    offers-take (at o) (c .with .result) (c .with .ensures) (omega arith) (omega arith) (c .before .if2 .taken))
+    let o = c .before .before .before in (
+      search needs,
+      simp length-set (search needs),
+      simp length-set (search needs),
+      search needs,
+      search needs,
+      offers-part (at o),
+      offers-take (at o) (c .with .result) (c .with .ensures) (omega arith) (omega arith) (c .before .if2 .taken),
+    )
 
 loop-less-2 : tie.Need-loop-less-2 Inv-loop μ-loop
 loop-less-2 c = offers-less (at (c .before .before))

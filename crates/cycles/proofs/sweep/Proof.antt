@@ -10,9 +10,6 @@ use Rattle.cycles.specs.Turns.{Held}
 use Rattle.cycles.proofs.Sweeps.{fallTo, sweep-start, sweep-more}
 use Rattle.cycles.proofs.sweep.Statement.{statement}
 use Rattle.cycles.proofs.sweep.Tie as tie
-use Rattle.cycles.proofs.sweep.Reads as reads
-use Rattle.cycles.proofs.sweep.Lts as lts
-use Rattle.cycles.proofs.look.Reads as look-reads
 
 abbrev Inv-loop : tie.InvT-loop
 Inv-loop arcs n mask dist next₀ row₀ fell₀ u₀ next row fell u =
@@ -26,9 +23,18 @@ abbrev μ-loop : tie.MeasureT-loop
 loop-holds : tie.Need-loop-holds Inv-loop μ-loop
 loop-holds c =
     let t = c .before .before .before .before in
-    let a = t .args in
-    (search needs, search needs, search needs, search needs, search needs, search needs, search needs, search needs, search needs,
-    λ v l. sweep-start (a .arcs .now) (a .n) (a .mask) (a .dist .now) (a .next .now) (a .row .now) v (t .pre .5 v l .2))
+    let a = t .args in (
+      search needs,
+      search needs,
+      search needs,
+      search needs,
+      search needs,
+      search needs,
+      search needs,
+      search needs,
+      search needs,
+      λ v l. sweep-start (a .arcs .now) (a .n) (a .mask) (a .dist .now) (a .next .now) (a .row .now) v (t .pre .5 v l .2),
+    )
 
 cast-look : tie.Need-cast-look Inv-loop μ-loop
 cast-look c = search needs
@@ -58,10 +64,19 @@ loop-again c =
     let l = k .before .before .before .before .before in
     let t = l .before .before .before .before .before in
     let a = t .args in
-    let b : t .args .n ≤ 32 = omega arith in
-    (search needs, search needs, search needs, search needs, search needs, search needs, search needs, search needs, search needs,
-    λ v h. sweep-more (a .arcs .now) (a .n) (a .mask) (l .loop .u) (l .loop .fell) (k .look .result) (a .dist .now) (l .loop .next) (l .loop .row)
-    (k .look .last .1 .1 .1 .1 .1 .1 .0) (k .look .last .1 .1 .1 .1 .1 .1 .1 .0) v (omega arith) (t .pre .5 v h .1) (k .look .ensures) (l .loop .inv .9 v h))
+    let b : t .args .n ≤ 32 = omega arith in (
+      search needs,
+      search needs,
+      search needs,
+      search needs,
+      search needs,
+      search needs,
+      search needs,
+      search needs,
+      search needs,
+      λ v h. sweep-more (a .arcs .now) (a .n) (a .mask) (l .loop .u) (l .loop .fell) (k .look .result) (a .dist .now) (l .loop .next) (l .loop .row)
+          (k .look .last .1 .1 .1 .1 .1 .1 .0) (k .look .last .1 .1 .1 .1 .1 .1 .1 .0) v (omega arith) (t .pre .5 v h .1) (k .look .ensures) (l .loop .inv .9 v h),
+    )
 
 same-length : tie.Need-same-length Inv-loop μ-loop
 same-length c = search needs

@@ -14,8 +14,6 @@ use Rattle.cycles.proofs.Firsts.{put-next}
 use Rattle.cycles.proofs.Parts.{trailFrom, trail-start, trail-next, length-start, length-miss, length-end, trace-found}
 use Rattle.cycles.proofs.trace.Statement.{statement}
 use Rattle.cycles.proofs.trace.Tie as tie
-use Rattle.cycles.proofs.trace.Reads as reads
-use Rattle.cycles.proofs.trace.Lts as lts
 
 abbrev Inv-loop : tie.InvT-loop
 Inv-loop table k v walk₀ x₀ t₀ walk x t =
@@ -89,10 +87,16 @@ loop-again : tie.Need-loop-again Inv-loop μ-loop
 loop-again c =
     let l = c .before .before .before in
     let a = l .before .args in
-    let n = trail-next (a .table .now) (a .k) (a .v) (l .loop .t) (l .loop .x) (l .loop .inv .5) in
-    (search needs, search needs, search needs, search needs, simp length-set (search needs), n,
-    put-next (trail (a .table .now) (a .k) (a .v)) (l .loop .t) (l .loop .x) (a .walk .now) (l .loop .walk) (l .loop .inv .6) (l .loop .inv .5),
-    l .loop .inv .7 ∙ length-miss (a .table .now) (a .k) (a .v) (l .loop .t) (c .before .before .loop-test .taken) (λ e. c .if1 .left (n ∙ e)))
+    let n = trail-next (a .table .now) (a .k) (a .v) (l .loop .t) (l .loop .x) (l .loop .inv .5) in (
+      search needs,
+      search needs,
+      search needs,
+      search needs,
+      simp length-set (search needs),
+      n,
+      put-next (trail (a .table .now) (a .k) (a .v)) (l .loop .t) (l .loop .x) (a .walk .now) (l .loop .walk) (l .loop .inv .6) (l .loop .inv .5),
+      l .loop .inv .7 ∙ length-miss (a .table .now) (a .k) (a .v) (l .loop .t) (c .before .before .loop-test .taken) (λ e. c .if1 .left (n ∙ e)),
+    )
 
 same-length-2 : tie.Need-same-length-2 Inv-loop μ-loop
 same-length-2 c = search needs

@@ -110,9 +110,8 @@ returns c =
     let s = q .before .before .before in
     let o = ok q in
     let n = q .before .used in
-    d .deal .ensures
-    ∙ arrays-deal (topology (s .args .c)) (s .args .size) (n .result) (q .partitions .result) (k .before .zones .result) (k .caps .result) (g .given .result) (t .starts .result) (s .args .rows .now)
-    (o .0 .few) (n .ensures .0) (o .1) (k .before .zones .ensures) (k .caps .ensures .0) (g .given .ensures) (t .starts .ensures)
+    arrays-deal (topology (s .args .c)) (s .args .size) (n .result) (q .partitions .result) (k .before .zones .result) (k .caps .result) (g .given .result) (t .starts .result) (s .args .rows .now)
+    _ (o .0 .few) (n .ensures .0) (o .1) (k .before .zones .ensures) (k .caps .ensures .0) (g .given .ensures) (t .starts .ensures) (d .deal .ensures)
 
 pub begin-spec : {M : Type 1} → statement M
 begin-spec =

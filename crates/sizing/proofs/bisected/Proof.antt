@@ -53,8 +53,7 @@ loop-again c =
     let w = word-one (k .i - 1) (omega arith) in (
       search needs,
       omega (arith, w, power-half (k .i) (omega arith)),
-      k .inv .2 ∙ (next-bit (passing t) (k .i) (k .size) true (omega arith) (sym (c .if1 .taken) ∙ (c .before .passes .ensures ∙ ap (λ (x : ℕ). passing t (k .size + x)) w))
-          ∙ ap (λ (x : ℕ). bisectFrom (k .i - 1) (passing t) (k .size + x)) (sym w)),
+      next-bit (passing t) (k .i) (k .size) _ (sizeOf t) (c .before .passes .result) true (omega arith) w (c .before .passes .ensures) (c .if1 .taken) (k .inv .2),
     )
 
 loop-less-2 : tie.Need-loop-less-2 Inv-loop μ-loop
@@ -67,7 +66,7 @@ loop-again-2 c =
     let w = word-one (k .i - 1) (omega arith) in (
       search needs,
       omega (arith, power-half (k .i) (omega arith)),
-      k .inv .2 ∙ next-bit (passing t) (k .i) (k .size) false (omega arith) (sym (c .if1 .left) ∙ (c .before .passes .ensures ∙ ap (λ (x : ℕ). passing t (k .size + x)) w)),
+      next-bit (passing t) (k .i) (k .size) _ (sizeOf t) (c .before .passes .result) false (omega arith) w (c .before .passes .ensures) (c .if1 .left) (k .inv .2),
     )
 
 returns : tie.Need-returns Inv-loop μ-loop

@@ -48,9 +48,8 @@ returns c =
     let k = c .before .before .before .caps in
     let q = c .before .partitions in
     let a : Accepted t = accepted (s .args .c) (s .pre .0) in
-    c .fit .ensures
-    ∙ arrays-fit t (a .few) (s .args .size) (n .result) (q .result) (s .args .zones .now) (k .result) (n .ensures .0)
-    (omega (arith, q .ensures, partitions-few t a)) (s .pre .1) (k .ensures .0)
+    arrays-fit t (a .few) (s .args .size) (n .result) (q .result) (s .args .zones .now) (k .result) (c .fit .result)
+    (n .ensures .0) (omega (arith, q .ensures, partitions-few t a)) (s .pre .1) (k .ensures .0) (c .fit .ensures)
 
 pub passes-spec : {M : Type 1} → statement M
 passes-spec =

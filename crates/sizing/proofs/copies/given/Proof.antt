@@ -48,9 +48,8 @@ returns c =
     let f = c .before .before .before .before .before .first in
     let t = c .before .before .before .total in
     let l = c .before .less in
-    c .second .ensures
-    ∙ second-given (a .partitions) (a .n) (a .replication) (cell (a .zones .now)) (cell (a .caps .now)) (search needs) (f .result) (f .ensures)
-    (t .result) (l .result) (s .pre .5) (t .ensures) (l .ensures)
+    second-given (a .partitions) (a .n) (a .replication) (cell (a .zones .now)) (cell (a .caps .now)) (search needs) (f .result) (f .ensures)
+    (t .result) (l .result) (c .second .result) (s .pre .5) (t .ensures) (l .ensures) (c .second .ensures)
 
 pub given-spec : {M : Type 1} → statement M
 given-spec =

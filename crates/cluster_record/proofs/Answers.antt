@@ -1,0 +1,34 @@
+-- What `read_cluster` answers, by the length of the lent cells and the outcome.
+-- Assumes nothing.
+use Prim.Native.Nat.{ℕ, _≤_, _<_}
+use mathlib.Core.Path.{_≡_, refl, sym, ap, _∙_}
+use mathlib.Core.List.{List, _++_}
+use lib.ListN.{length, drop}
+use borrow.Author.Tests.{lt-ltb, le-ltb, eq-eqb, ne-eqb}
+use Rattle.cluster.specs.Limits.{layoutCells}
+use Rattle.cluster.specs.TermsCells.{cellsOf}
+use Rattle.cluster_record.specs.RecordClusterFaults.{refusedAt, readCluster}
+use Rattle.cluster_record.specs.RecordClusterAnswer.{outcomeOf, answerOf, readAnswer, formerAfter}
+
+module _ (s former : List ℕ) where
+  -- Cells too short for a layout: refused, and kept.
+  pub short-answer : length former < layoutCells → readAnswer s former ≡ answerOf (refusedAt 8 0)
+  unfolding readAnswer outcomeOf
+  short-answer h = simp (lt-ltb (length former) layoutCells h)
+
+  pub short-former : length former < layoutCells → formerAfter s former ≡ former
+  unfolding formerAfter outcomeOf
+  short-former h = simp (lt-ltb (length former) layoutCells h)
+
+  -- Cells long enough: the record decides.
+  pub long-answer : layoutCells ≤ length former → readAnswer s former ≡ answerOf (readCluster s)
+  unfolding readAnswer outcomeOf
+  long-answer h = simp (le-ltb (length former) layoutCells h)
+
+  pub accepted-former : layoutCells ≤ length former → readCluster s .refusal ≡ 0 → formerAfter s former ≡ cellsOf (readCluster s .former) ++ drop layoutCells former
+  unfolding formerAfter outcomeOf
+  accepted-former h e = simp (le-ltb (length former) layoutCells h, eq-eqb (readCluster s .refusal) 0 e)
+
+  pub refused-former : layoutCells ≤ length former → (readCluster s .refusal ≡ 0 → ⊥) → formerAfter s former ≡ former
+  unfolding formerAfter outcomeOf
+  refused-former h n = simp (le-ltb (length former) layoutCells h, ne-eqb (readCluster s .refusal) 0 n)

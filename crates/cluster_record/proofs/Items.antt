@@ -1,0 +1,176 @@
+-- What a field says: the values by its tag, the ids of a former row, and what is known where no fault is found.
+-- Assumes nothing.
+use Prim.Native.Nat.{ℕ, zero, suc, _+_, _-_, _*_, _/_, _≤_, _<_}
+use mathlib.Core.Path.{_≡_, refl, sym, ap, _∙_, subst}
+use mathlib.Core.Bool.{Bool, true, false, _||_, _&&_, not}
+use mathlib.Core.List.{List, [], _∷_, _++_}
+use mathlib.Core.Logic.{⊎-elim}
+use native.Mathlib.Nat.{add-zero}
+use native.Mathlib.Omega.{arith}
+use lib.Dec.{ltb, eqb}
+use lib.ListN.{length, take, getD}
+use lib.Seq.{take-suc}
+use borrow.Author.Tests.{lt-ltb, le-ltb, eq-eqb, ne-eqb}
+use Rattle.sums.specs.Sum.{pick}
+use Rattle.sums.proofs.Sum.{eq-or-ne}
+use Rattle.cluster.specs.declared.Node.{Node}
+use Rattle.cluster.specs.Terms.{Topology, Layout, noNode, idsOf, mem, risingFrom}
+use Rattle.cluster.proofs.Lists.{mem-head, mem-skip, rising-head, rising-cons, rising-tail, rising-none}
+use Rattle.fields.specs.RecordField.{numberAt}
+use Rattle.cluster_record.specs.RecordClusterFaults.{Item, BitsOf, ReplicationOf, RedundancyOf, OneNode, FormerRow, nodeIn, idsAt, itemIn, formerWith, outside, lastOf, unordered, tooMany, faultIn}
+
+-- ---- tests
+
+-- Below 1 is 0.
+pub below-one : (k : ℕ) → ltb k 1 ≡ eqb k 0
+below-one k = ⊎-elim (λ e. lt-ltb k 1 (omega arith) ∙ sym (eq-eqb k 0 e)) (λ n. le-ltb k 1 (omega arith) ∙ sym (ne-eqb k 0 n)) (eq-or-ne k 0)
+
+-- Of a disjunction that is false both sides are.
+pub neither : (a b : Bool) → a || b ≡ false → (a ≡ false) × (b ≡ false)
+neither false false e = (refl, refl)
+neither false true e = let z : _≡_ {A = ℕ} 0 1 = cc in absurd (omega arith)
+neither true b e = let z : _≡_ {A = ℕ} 0 1 = cc in absurd (omega arith)
+
+-- ---- the values by the tag
+
+module _ (s : List ℕ) (start len : ℕ) where
+  pub item-bits : (tag : ℕ) → tag ≡ 1 → itemIn s tag start len ≡ BitsOf (numberAt s start 1)
+  unfolding itemIn
+  item-bits tag e = ap (λ (k : ℕ). itemIn s k start len) e
+
+  pub item-replication : (tag : ℕ) → tag ≡ 2 → itemIn s tag start len ≡ ReplicationOf (numberAt s start 1)
+  unfolding itemIn
+  item-replication tag e = ap (λ (k : ℕ). itemIn s k start len) e
+
+  pub item-redundancy : (tag : ℕ) → tag ≡ 3 → itemIn s tag start len ≡ RedundancyOf (numberAt s start 1)
+  unfolding itemIn
+  item-redundancy tag e = ap (λ (k : ℕ). itemIn s k start len) e
+
+  pub item-node : (tag : ℕ) → tag ≡ 4 → itemIn s tag start len ≡ OneNode (nodeIn s start)
+  unfolding itemIn
+  item-node tag e = ap (λ (k : ℕ). itemIn s k start len) e
+
+  -- Any other tag is that of a row.
+  pub item-row : (tag : ℕ) → (tag ≡ 1 → ⊥) → (tag ≡ 2 → ⊥) → (tag ≡ 3 → ⊥) → (tag ≡ 4 → ⊥)
+      → itemIn s tag start len ≡ FormerRow (numberAt s start 2) (idsAt s (start + 2) ((len - 2) / 4))
+  unfolding itemIn
+  item-row tag a b c d = simp (ne-eqb tag 1 a, ne-eqb tag 2 b, ne-eqb tag 3 c, ne-eqb tag 4 d)
+
+  pub item-five : (tag : ℕ) → tag ≡ 5 → itemIn s tag start len ≡ FormerRow (numberAt s start 2) (idsAt s (start + 2) ((len - 2) / 4))
+  unfolding itemIn
+  item-five tag e = ap (λ (k : ℕ). itemIn s k start len) e
+
+  -- Any field but a row leaves the rows as they are.
+  pub former-kept : (F : Layout) (tag : ℕ) → 1 ≤ tag → tag ≤ 4 → formerWith F (itemIn s tag start len) ≡ F
+  unfolding itemIn formerWith
+  former-kept F zero a b = absurd (omega arith)
+  former-kept F (suc zero) a b = refl
+  former-kept F (suc (suc zero)) a b = refl
+  former-kept F (suc (suc (suc zero))) a b = refl
+  former-kept F (suc (suc (suc (suc zero)))) a b = refl
+  former-kept F (suc (suc (suc (suc (suc n))))) a b = absurd (omega arith)
+
+-- ---- the ids of a row
+
+-- The first of some ids, then the others.
+pub ids-more : (s : List ℕ) (at m : ℕ) → 0 < m → idsAt s at m ≡ numberAt s at 4 ∷ idsAt s (at + 4) (m - 1)
+unfolding idsAt
+ids-more s at m h = let e : m ≡ suc (m - 1) = omega arith in ap (λ (k : ℕ). idsAt s at k) e
+
+pub ids-none : (s : List ℕ) (at m : ℕ) → m ≤ 0 → idsAt s at m ≡ []
+unfolding idsAt
+ids-none s at m h = let e : m ≡ 0 = omega arith in ap (λ (k : ℕ). idsAt s at k) e
+
+pub length-ids : (s : List ℕ) (at m : ℕ) → length (idsAt s at m) ≡ m
+unfolding idsAt
+length-ids s at zero = refl
+length-ids s at (suc m) = ap suc (length-ids s (at + 4) m)
+
+pub getD-ids : (s : List ℕ) (at m j : ℕ) → j < m → getD (idsAt s at m) j 0 ≡ numberAt s (at + 4 * j) 4
+unfolding idsAt
+getD-ids s at zero j h = absurd (omega arith)
+getD-ids s at (suc m) zero h = ap (λ (k : ℕ). numberAt s k 4) (sym (add-zero at))
+getD-ids s at (suc m) (suc j) h =
+    let e : at + 4 + 4 * j ≡ at + 4 * suc j = omega arith in
+    getD-ids s (at + 4) m j (omega arith) ∙ ap (λ (k : ℕ). numberAt s k 4) e
+
+module _ (s : List ℕ) (at m : ℕ) (some : 0 < m) where
+  -- A scan for a 0 that meets one has found it,
+  pub zero-found : numberAt s at 4 ≡ 0 → mem 0 (idsAt s at m) ≡ true
+  zero-found e = ap (mem 0) (ids-more s at m some) ∙ mem-head 0 (numberAt s at 4) (idsAt s (at + 4) (m - 1)) (sym e)
+
+  -- and else goes on.
+  pub zero-passed : (numberAt s at 4 ≡ 0 → ⊥) → mem 0 (idsAt s at m) ≡ mem 0 (idsAt s (at + 4) (m - 1))
+  zero-passed h = ap (mem 0) (ids-more s at m some) ∙ mem-skip 0 (numberAt s at 4) (idsAt s (at + 4) (m - 1)) (λ e. h (sym e))
+
+  -- A scan that meets an id not above the last has found the fault,
+  pub fall-found : (last : ℕ) → numberAt s at 4 ≤ last → risingFrom last (idsAt s at m) ≡ false
+  unfolding risingFrom
+  fall-found last h =
+      ap (risingFrom last) (ids-more s at m some)
+      ∙ ap (λ (t : Bool). t && risingFrom (numberAt s at 4) (idsAt s (at + 4) (m - 1))) (le-ltb last (numberAt s at 4) h)
+
+  -- and else goes on from it.
+  pub rise-passed : (last : ℕ) → last < numberAt s at 4 → risingFrom last (idsAt s at m) ≡ risingFrom (numberAt s at 4) (idsAt s (at + 4) (m - 1))
+  unfolding risingFrom
+  rise-passed last h =
+      ap (risingFrom last) (ids-more s at m some)
+      ∙ ap (λ (t : Bool). t && risingFrom (numberAt s at 4) (idsAt s (at + 4) (m - 1))) (lt-ltb last (numberAt s at 4) h)
+
+-- ---- the last id
+
+pub ids-snoc : (l : List Node) (n : Node) → idsOf (l ++ (n ∷ [])) ≡ idsOf l ++ (n .id ∷ [])
+unfolding idsOf
+ids-snoc [] n = refl
+ids-snoc (x ∷ l) n = ap (λ (r : List ℕ). x .id ∷ r) (ids-snoc l n)
+
+pub last-snoc : (d : ℕ) (l : List ℕ) (x : ℕ) → lastOf d (l ++ (x ∷ [])) ≡ x
+unfolding lastOf
+last-snoc d [] x = refl
+last-snoc d (y ∷ l) x = last-snoc y l x
+
+-- The id of the last of n nodes.
+pub last-used : (l : List Node) (n : ℕ) → 0 < n → n ≤ length l → lastOf 0 (idsOf (take n l)) ≡ getD l (n - 1) noNode .id
+last-used l n h k =
+    let e : n ≡ suc (n - 1) = omega arith in
+    ap (λ (j : ℕ). lastOf 0 (idsOf (take j l))) e
+    ∙ (ap (λ (r : List Node). lastOf 0 (idsOf r)) (take-suc l (n - 1) noNode (omega arith))
+    ∙ (ap (lastOf 0) (ids-snoc (take (n - 1) l) (getD l (n - 1) noNode)) ∙ last-snoc 0 (idsOf (take (n - 1) l)) (getD l (n - 1) noNode .id)))
+
+-- No nodes have no last id.
+pub last-none : (l : List Node) (n : ℕ) → n ≡ 0 → lastOf 0 (idsOf (take n l)) ≡ 0
+unfolding lastOf idsOf
+last-none l n e = ap (λ (j : ℕ). lastOf 0 (idsOf (take j l))) e
+
+-- One id more rises where it is above the last.
+pub rising-snoc : (k : ℕ) (l : List ℕ) (x : ℕ) → risingFrom k l ≡ true → lastOf k l < x → risingFrom k (l ++ (x ∷ [])) ≡ true
+unfolding lastOf
+rising-snoc k [] x h a = rising-cons k x [] a (rising-none x)
+rising-snoc k (y ∷ l) x h a = rising-cons k y (l ++ (x ∷ [])) (rising-head k y l h) (rising-snoc y l x (rising-tail k y l h) a)
+
+-- And conversely.
+pub snoc-rising : (k : ℕ) (l : List ℕ) (x : ℕ) → risingFrom k (l ++ (x ∷ [])) ≡ true → (risingFrom k l ≡ true) × (lastOf k l < x)
+unfolding lastOf
+snoc-rising k [] x h = (rising-none k, rising-head k x [] h)
+snoc-rising k (y ∷ l) x h =
+    let r = snoc-rising y l x (rising-tail k y (l ++ (x ∷ [])) h) in
+    (rising-cons k y l (rising-head k y (l ++ (x ∷ [])) h) (r .0), r .1)
+
+-- ---- the faults
+
+-- Where no fault is found every test has failed,
+pub no-fault : (a b c : Bool) → _≡_ {A = ℕ} (pick a 4 (pick b 5 (pick c 6 0))) 0 → (a ≡ false) × (b ≡ false) × (c ≡ false)
+no-fault true b c e = absurd (omega arith)
+no-fault false true c e = absurd (omega arith)
+no-fault false false true e = absurd (omega arith)
+no-fault false false false e = (refl, refl, refl)
+
+pub faults-none : (t : Topology) (next : ℕ) (i : Item) → faultIn t next i ≡ 0
+    → (outside t i ≡ false) × (unordered t next i ≡ false) × (tooMany t i ≡ false)
+unfolding faultIn
+faults-none t next i e = no-fault (outside t i) (unordered t next i) (tooMany t i) e
+
+-- and where every test fails there is no fault.
+pub none-faults : (t : Topology) (next : ℕ) (i : Item) → outside t i ≡ false → unordered t next i ≡ false → tooMany t i ≡ false → faultIn t next i ≡ 0
+unfolding faultIn
+none-faults t next i a b c = simp (a, b, c)

@@ -1,0 +1,13 @@
+pub mod Items
+pub mod Rows
+pub mod Slots
+pub mod FieldFaults
+pub mod Walks
+pub mod Readings
+pub mod Walked
+pub mod Answers
+pub mod RecordBytes
+pub mod Sound
+pub mod Complete
+pub mod Exactly
+pub mod Longest

@@ -1,0 +1,52 @@
+-- A cluster in its slots, with what a field says.
+-- Assumes nothing.
+use Prim.Native.Nat.{ℕ, zero, suc, _+_, _-_, _≤_, _<_}
+use mathlib.Core.Path.{_≡_, refl, sym, ap, ap₂, _∙_}
+use mathlib.Core.List.{List, [], _∷_, _++_, append-assoc}
+use native.Mathlib.Omega.{arith}
+use lib.ListN.{length, take, set, replicate, length-append, length-replicate}
+use lib.Seq.{take-append-seam, set-append-seam}
+use Rattle.cluster.specs.Limits.{mostNodes}
+use Rattle.cluster.specs.declared.Cluster.{Cluster}
+use Rattle.cluster.specs.declared.Node.{Node}
+use Rattle.cluster.specs.Terms.{Topology, topology, noNode}
+use Rattle.cluster_record.specs.RecordClusterFaults.{BitsOf, ReplicationOf, RedundancyOf, OneNode, withItem}
+use Rattle.cluster_record.specs.RecordClusterAnswer.{slotsOf}
+
+-- The nodes in use are those of the cluster.
+pub topology-slots : (t : Topology) → topology (slotsOf t) ≡ t
+unfolding slotsOf
+topology-slots t =
+    ap (λ (l : List Node). record { bits = t .bits; replication = t .replication; redundancy = t .redundancy; nodes = l })
+    (take-append-seam (t .nodes) (replicate (mostNodes - length (t .nodes)) noNode))
+
+module _ (t : Topology) (c : Cluster) (e : c ≡ slotsOf t) where
+  pub slots-bits : (k : ℕ) → record { bits = k; replication = c .replication; redundancy = c .redundancy; count = c .count; nodes = c .nodes } ≡ slotsOf (withItem t (BitsOf k))
+  unfolding slotsOf withItem
+  slots-bits k =
+      ap (λ (c : Cluster). record { bits = k; replication = c .replication; redundancy = c .redundancy; count = c .count; nodes = c .nodes }) e
+
+  pub slots-replication : (k : ℕ) → record { bits = c .bits; replication = k; redundancy = c .redundancy; count = c .count; nodes = c .nodes } ≡ slotsOf (withItem t (ReplicationOf k))
+  unfolding slotsOf withItem
+  slots-replication k =
+      ap (λ (c : Cluster). record { bits = c .bits; replication = k; redundancy = c .redundancy; count = c .count; nodes = c .nodes }) e
+
+  pub slots-redundancy : (k : ℕ) → record { bits = c .bits; replication = c .replication; redundancy = k; count = c .count; nodes = c .nodes } ≡ slotsOf (withItem t (RedundancyOf k))
+  unfolding slotsOf withItem
+  slots-redundancy k =
+      ap (λ (c : Cluster). record { bits = c .bits; replication = c .replication; redundancy = k; count = c .count; nodes = c .nodes }) e
+
+  -- A node goes into the first slot that is not in use.
+  pub slots-node : (n : Node) → c .count < mostNodes
+      → record { bits = c .bits; replication = c .replication; redundancy = c .redundancy; count = c .count + 1; nodes = set (c .nodes) (c .count) n } ≡ slotsOf (withItem t (OneNode n))
+  unfolding slotsOf withItem
+  slots-node n h =
+      let l : List Node = t .nodes in
+      let m : length l ≡ c .count = sym (ap (λ (k : Cluster). k .count) e) in
+      let d : mostNodes - length l ≡ suc (mostNodes - length (l ++ (n ∷ []))) = omega (arith, length-append l (n ∷ [])) in
+      let after : List Node = replicate (mostNodes - length (l ++ (n ∷ []))) noNode in
+      let i : length l + 1 ≡ length (l ++ (n ∷ [])) = sym (length-append l (n ∷ [])) in
+      ap (λ (k : Cluster). record { bits = k .bits; replication = k .replication; redundancy = k .redundancy; count = k .count + 1; nodes = set (k .nodes) (k .count) n }) e
+      ∙ ap₂ (λ (k : ℕ) (r : List Node). record { bits = t .bits; replication = t .replication; redundancy = t .redundancy; count = k; nodes = r }) i
+      (ap (λ (k : ℕ). set (l ++ replicate k noNode) (length l) n) d
+      ∙ (set-append-seam l noNode after n ∙ sym (append-assoc l (n ∷ []) after)))

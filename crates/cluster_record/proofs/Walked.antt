@@ -1,0 +1,186 @@
+-- What the walk over the fields has in hand at a byte: what was read so far, as a cluster in its slots and rows in their cells.
+-- Assumes nothing.
+use Prim.Native.Nat.{ℕ, zero, suc, _+_, _-_, _*_, _/_, _≤_, _<_}
+use mathlib.Core.Path.{_≡_, refl, sym, ap, ap₂, _∙_, subst}
+use mathlib.Core.List.{List, [], _∷_, _++_}
+use native.Mathlib.Omega.{arith}
+use lib.Dec.{leb, ltb}
+use lib.ListN.{length, replicate, length-append}
+use borrow.Author.Tests.{ltb-false, leb-false, lt-ltb, le-ltb}
+use Rattle.cluster.specs.Limits.{mostBits, mostNodes, bufferRows, layoutCells}
+use Rattle.cluster.specs.declared.Cluster.{Cluster}
+use Rattle.cluster.specs.Terms.{Topology, topology, partitions, Layout, mem, rising}
+use Rattle.cluster.specs.TermsCells.{cellsOf}
+use Rattle.cluster.specs.Faults.{noNodes}
+use Rattle.cluster.proofs.CellLayouts.{length-cellsOf}
+use mathlib.Core.Bool.{not}
+use Rattle.fields.specs.RecordField.{numberAt, fieldAt, Whole}
+use Rattle.fields.specs.declared.Field.{Field}
+use Rattle.fields.specs.declared.Field.the-variants.{Body, Refused}
+use Rattle.fields.proofs.RecordField.{whole}
+use Rattle.cluster_record.specs.RecordClusterFaults.{Item, OneNode, FormerRow, nodeIn, idsAt, itemIn, Reading, Outcome, beginning, allowedAfter, withItem, formerWith, readingWith, outside, unordered, tooMany, faultIn, refusedAt, ended, walk, readCluster}
+use Rattle.cluster_record.specs.RecordClusterAnswer.{slotsOf, answerOf}
+use Rattle.cluster_record.proofs.Items.{neither, item-node, item-five, faults-none}
+use Rattle.cluster_record.proofs.FieldFaults.{few-partitions, refused-some}
+use Rattle.cluster_record.proofs.Rows.{cells-none, cells-upTo}
+use Rattle.cluster_record.proofs.Slots.{topology-slots}
+use Rattle.cluster_record.proofs.Walks.{walk-ends, walk-refused, walk-fault, walk-on}
+use Rattle.cluster_record.proofs.Readings.{Kind, kind, tag-range, row-bytes, ten-bytes, Well, well-beginning, well-step}
+
+pub record Walked (s rows : List ℕ) (c : Cluster) (last next at : ℕ) : Type 0 where
+  pub reading : Reading
+  pub fuel : ℕ
+  pub here : readCluster s ≡ walk fuel s at reading
+  pub enough : length s ≤ at + fuel
+  pub inside : at ≤ length s
+  pub well : Well reading
+  pub tag-read : last ≡ reading .last
+  pub slots : c ≡ slotsOf (reading .cluster)
+  pub passed : next ≡ length (reading .former)
+  pub cells : rows ≡ cellsOf (reading .former)
+
+-- In the beginning.
+pub walked-start : (s rows : List ℕ) (c : Cluster) → c ≡ noNodes → rows ≡ replicate layoutCells 0 → Walked s rows c 0 0 0
+unfolding readCluster beginning slotsOf
+walked-start s rows c e z = record {
+  reading = beginning;
+  fuel = length s;
+  here = refl;
+  enough = omega arith;
+  inside = omega arith;
+  well = well-beginning;
+  tag-read = refl;
+  slots = e;
+  passed = refl;
+  cells = z ∙ sym cells-none;
+}
+
+module _ {s rows : List ℕ} {c : Cluster} {last next at : ℕ} (w : Walked s rows c last next at) where
+  -- The nodes in use are those read so far.
+  pub walked-topology : topology c ≡ w .reading .cluster
+  walked-topology = ap (λ (k : Cluster). topology k) (w .slots) ∙ topology-slots (w .reading .cluster)
+
+  pub walked-bits : c .bits ≤ mostBits
+  unfolding slotsOf
+  walked-bits = subst (λ (k : Cluster). k .bits ≤ mostBits) (sym (w .slots)) (w .well .accepted .bits)
+
+  pub walked-count : c .count ≤ mostNodes
+  unfolding slotsOf
+  walked-count = subst (λ (k : Cluster). k .count ≤ mostNodes) (sym (w .slots)) (w .well .accepted .few)
+
+  pub walked-length : length rows ≡ layoutCells
+  walked-length = ap length (w .cells) ∙ length-cellsOf (w .reading .former)
+
+  -- At the end before field 3: refused.
+  pub walked-missing : length s ≤ at → last < 3 → readCluster s ≡ refusedAt 7 (length s)
+  unfolding ended
+  walked-missing h l = w .here ∙ (walk-ends s at (w .fuel) (w .reading) h ∙ simp (lt-ltb (w .reading .last) 3 (omega (arith, w .tag-read))))
+
+  -- At the end after field 3: the cluster and the rows are what was asked for.
+  walked-end : length s ≤ at → 3 ≤ last → readCluster s ≡ ended s (w .reading)
+  walked-end h l = w .here ∙ walk-ends s at (w .fuel) (w .reading) h
+
+  pub walked-cluster : length s ≤ at → 3 ≤ last → record { refusal = 0; byte = 0; cluster = c } ≡ answerOf (readCluster s)
+  unfolding ended answerOf
+  walked-cluster h l =
+      ap (λ (k : Cluster). record { refusal = 0; byte = 0; cluster = k }) (w .slots)
+      ∙ sym (ap answerOf (walked-end h l) ∙ simp (le-ltb (w .reading .last) 3 (omega (arith, w .tag-read))))
+
+  pub walked-cells : length s ≤ at → 3 ≤ last → rows ≡ cellsOf (readCluster s .former)
+  unfolding ended
+  walked-cells h l =
+      w .cells
+      ∙ (sym (cells-upTo (partitions (w .reading .cluster)) (w .reading .former))
+      ∙ sym (ap (λ (o : Outcome). cellsOf (o .former)) (walked-end h l) ∙ simp (le-ltb (w .reading .last) 3 (omega (arith, w .tag-read)))))
+
+  -- A field that cannot be taken whole.
+  pub walked-refused : at < length s → {refusal byte : ℕ} → fieldAt s at (allowedAfter last) 0 ≡ Refused refusal byte
+      → (1 ≤ refusal) × (readCluster s ≡ refusedAt refusal byte)
+  walked-refused more {refusal} {byte} d =
+      let e = ap (λ (l : ℕ). fieldAt s at (allowedAfter l) 0) (sym (w .tag-read)) ∙ d in (
+        refused-some s at (allowedAfter (w .reading .last)) 0 refusal byte e .0,
+        w .here ∙ walk-refused s at (w .fuel) (w .reading) more (w .enough) refusal byte e,
+      )
+
+-- The same where a whole field stands at the byte.
+pub record Met (s rows : List ℕ) (c : Cluster) (last next at tag start len : ℕ) : Type 0 where
+  pub walked : Walked s rows c last next at
+  pub more : at < length s
+  pub field : fieldAt s at (allowedAfter last) 0 ≡ Body tag start len
+
+module _ {s rows : List ℕ} {c : Cluster} {last next at tag start len : ℕ} (m : Met s rows c last next at tag start len) where
+  field-read : fieldAt s at (allowedAfter (m .walked .reading .last)) 0 ≡ Body tag start len
+  field-read = ap (λ (l : ℕ). fieldAt s at (allowedAfter l) 0) (sym (m .walked .tag-read)) ∙ m .field
+
+  walked-whole : Whole (length s) at (allowedAfter (m .walked .reading .last)) 0 tag start len
+  walked-whole = whole s at (allowedAfter (m .walked .reading .last)) 0 tag start len field-read
+
+  walked-kind : Kind (m .walked .reading .last) tag
+  walked-kind = kind (m .walked .reading .last) tag (walked-whole .member)
+
+  pub walked-tag : (1 ≤ tag) × (tag ≤ 5)
+  walked-tag = tag-range (m .walked .reading .last) tag walked-kind
+
+  pub walked-inside : (start ≡ at + 3) × (start + len ≤ length s)
+  walked-inside = (walked-whole .begins, walked-whole .ends)
+
+  pub walked-row : tag ≡ 5 → (6 ≤ len) × (len ≤ 34)
+  walked-row q = let b = row-bytes walked-whole q in (b .0, b .1)
+
+  module _ {x : ℕ} (g : x ≡ faultIn (topology c) next (itemIn s tag start len)) where
+    fault-read : faultIn (m .walked .reading .cluster) (length (m .walked .reading .former)) (itemIn s tag start len) ≡ x
+    fault-read = sym (g ∙ ap₂ (λ (t : Topology) (n : ℕ). faultIn t n (itemIn s tag start len)) (walked-topology (m .walked)) (m .walked .passed))
+
+    -- A fault of what it says.
+    pub walked-fault : (x ≡ 0 → ⊥) → readCluster s ≡ refusedAt x at
+    walked-fault n =
+        m .walked .here
+        ∙ (walk-fault s at (m .walked .fuel) (m .walked .reading) (m .more) (m .walked .enough) tag start len field-read (λ z. n (sym fault-read ∙ z))
+        ∙ ap (λ (k : ℕ). refusedAt k at) fault-read)
+
+    module _ (none : x ≡ 0) where
+      -- What is known without fault: a node has a slot, and a row is one of the cluster's and not passed.
+      pub walked-room : tag ≡ 4 → (c .count < mostNodes) × (start + 10 ≤ length s)
+      unfolding slotsOf tooMany
+      walked-room q =
+          let n = faults-none (m .walked .reading .cluster) (length (m .walked .reading .former)) (OneNode (nodeIn s start))
+          (ap (faultIn (m .walked .reading .cluster) (length (m .walked .reading .former))) (sym (item-node s start len tag q)) ∙ (fault-read ∙ none)) in
+          let h : length (m .walked .reading .cluster .nodes) < mostNodes = leb-false mostNodes (length (m .walked .reading .cluster .nodes)) (n .2) in
+          (subst (λ (k : Cluster). k .count < mostNodes) (sym (m .walked .slots)) h, omega (arith, ten-bytes walked-whole q, walked-inside))
+
+      row-tests : tag ≡ 5 → (numberAt s start 2 < partitions (m .walked .reading .cluster)) × (length (m .walked .reading .former) ≤ numberAt s start 2)
+      unfolding outside unordered
+      row-tests q =
+          let p = numberAt s start 2 in
+          let l = idsAt s (start + 2) ((len - 2) / 4) in
+          let n = faults-none (m .walked .reading .cluster) (length (m .walked .reading .former)) (FormerRow p l)
+          (ap (faultIn (m .walked .reading .cluster) (length (m .walked .reading .former))) (sym (item-five s start len tag q)) ∙ (fault-read ∙ none)) in (
+            leb-false (partitions (m .walked .reading .cluster)) p (neither (leb (partitions (m .walked .reading .cluster)) p) (mem 0 l) (n .0) .0),
+            ltb-false p (length (m .walked .reading .former)) (neither (ltb p (length (m .walked .reading .former))) (not (rising l)) (n .1) .0),
+          )
+
+      pub walked-partition : tag ≡ 5 → numberAt s start 2 < bufferRows
+      walked-partition q = omega (arith, row-tests q .0, few-partitions (m .walked .reading .cluster .bits) (m .walked .well .accepted .bits))
+
+      -- One field further.
+      pub walked-on : (rows′ : List ℕ) (c′ : Cluster) (next′ : ℕ)
+          → ((t : Topology) (len : ℕ) → c ≡ slotsOf t → c′ ≡ slotsOf (withItem t (itemIn s tag start len)))
+          → ((F : Layout) → 1 ≤ tag → tag ≤ 5 → rows ≡ cellsOf F → next ≡ length F → (tag ≡ 5 → length F ≤ numberAt s start 2)
+          → (rows′ ≡ cellsOf (formerWith F (itemIn s tag start len))) × (next′ ≡ length (formerWith F (itemIn s tag start len))))
+          → Walked s rows′ c′ tag next′ (start + len)
+      unfolding readingWith
+      walked-on rows′ c′ next′ cl rw′ =
+          let b = rw′ (m .walked .reading .former) (walked-tag .0) (walked-tag .1) (m .walked .cells) (m .walked .passed) (λ q. row-tests q .1) in
+          let z = fault-read ∙ none in
+          record {
+            reading = readingWith (m .walked .reading) tag (itemIn s tag start len);
+            fuel = m .walked .fuel - 1;
+            here = m .walked .here ∙ walk-on s at (m .walked .fuel) (m .walked .reading) (m .more) (m .walked .enough) tag start len field-read z;
+            enough = omega (arith, walked-inside, m .walked .enough);
+            inside = walked-inside .1;
+            well = well-step s (m .walked .reading) tag start len (m .walked .well) walked-kind (λ q. walked-row q .1) z;
+            tag-read = refl;
+            slots = cl (m .walked .reading .cluster) len (m .walked .slots);
+            passed = b .1;
+            cells = b .0;
+          }

@@ -1,0 +1,55 @@
+-- `cluster_record::allowed_after` meets its contract.
+-- Assumes nothing.
+use borrow.Author.Tests.{lt-ltb, le-ltb}
+use mathlib.Core.Path.{_≡_, sym, ap, _∙_}
+use Rattle.sets.specs.Bits.{withOf}
+use Rattle.cluster_record.specs.RecordClusterFaults.{allowedAfter}
+use borrow.Author.Needs.{needs}
+use native.Mathlib.Omega.{arith}
+use borrow.Author.Needs.{needs}
+use Rattle.cluster_record.proofs.allowed_after.Statement.{statement}
+use Rattle.cluster_record.proofs.allowed_after.Tie as tie
+use Rattle.cluster_record.proofs.allowed_after.Reads as reads
+use Rattle.cluster_record.proofs.allowed_after.Lts as lts
+use Rattle.sets.proofs.with.Reads as with-reads
+
+add-with : tie.Need-add-with
+add-with c = search needs
+
+with-requires : tie.Need-with-requires
+with-requires c κs = search needs
+
+returns : tie.Need-returns
+unfolding allowedAfter
+returns c = simp (lt-ltb _ _ (c .before .if1 .taken), c .with .ensures)
+
+with-requires-2 : tie.Need-with-requires-2
+with-requires-2 c κs = search needs
+
+with-requires-3 : tie.Need-with-requires-3
+with-requires-3 c κs = search needs
+
+returns-2 : tie.Need-returns-2
+unfolding allowedAfter
+returns-2 c =
+    simp (le-ltb _ _ (c .before .before .before .if1 .left), lt-ltb _ _ (c .before .before .if2 .taken), c .with3 .ensures, c .before .with2 .ensures)
+
+with-requires-4 : tie.Need-with-requires-4
+with-requires-4 c κs = search needs
+
+returns-3 : tie.Need-returns-3
+unfolding allowedAfter
+returns-3 c = simp (le-ltb _ _ (c .before .before .if1 .left), le-ltb _ _ (c .before .if2 .left), c .with4 .ensures)
+
+pub allowed-after-spec : {M : Type 1} → statement M
+allowed-after-spec =
+    tie.close
+    (tie.spec
+    add-with
+    with-requires
+    returns
+    with-requires-2
+    with-requires-3
+    returns-2
+    with-requires-4
+    returns-3)

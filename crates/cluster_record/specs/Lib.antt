@@ -1,0 +1,3 @@
+pub mod RecordCluster
+pub mod RecordClusterFaults
+pub mod RecordClusterAnswer

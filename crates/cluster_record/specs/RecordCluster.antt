@@ -1,0 +1,72 @@
+-- What a cluster record is, from the format: the bytes of a cluster and its former layout.
+-- Assumes nothing.
+use Prim.Native.Nat.{ℕ, suc, _+_, _*_, _^_, _<_}
+use mathlib.Core.Path.{_≡_}
+use mathlib.Core.Bool.{true}
+use mathlib.Core.List.{List, [], _∷_, _++_}
+use lib.ListN.{getD}
+use Rattle.cluster.specs.Limits.{mostNodes, bufferRows}
+use Rattle.cluster.specs.declared.Node.{Node}
+use Rattle.cluster.specs.Terms.{Topology, Layout, nodeAt, row, IsFormer}
+use Rattle.cluster.specs.Faults.{Accepted}
+use Rattle.fields.specs.RecordField.{bytesOf, field}
+
+-- "1 bits (1 byte), 2 replication (1), 3 redundancy (1)"
+unfoldable pub bitsField : Topology → List ℕ
+bitsField t = field 1 (bytesOf 1 (t .bits))
+
+unfoldable pub replicationField : Topology → List ℕ
+replicationField t = field 2 (bytesOf 1 (t .replication))
+
+unfoldable pub redundancyField : Topology → List ℕ
+redundancyField t = field 3 (bytesOf 1 (t .redundancy))
+
+-- "4 box (10: id 4, zone 2, capacity 4)"
+unfoldable pub nodeField : Node → List ℕ
+nodeField n = field 4 (bytesOf 4 (n .id) ++ (bytesOf 2 (n .zone) ++ bytesOf 4 (n .capacity)))
+
+-- A field for each node.
+unfoldable pub nodeFields : List Node → List ℕ
+nodeFields [] = []
+nodeFields (n ∷ ns) = nodeField n ++ nodeFields ns
+
+-- Ids, each in its four bytes.
+unfoldable pub idBytes : List ℕ → List ℕ
+idBytes [] = []
+idBytes (i ∷ l) = bytesOf 4 i ++ idBytes l
+
+-- "5 former row (2 + 4m: partition 2, then m rising ids, m from 1 to 8)"; "A partition without a row had no former copies."
+unfoldable pub rowField : ℕ → List ℕ → List ℕ
+rowField p [] = []
+rowField p (i ∷ l) = field 5 (bytesOf 2 p ++ idBytes (i ∷ l))
+
+-- "by rising partition": the fields of the rows of the partitions p, p + 1 and on.
+unfoldable pub rowFields : ℕ → Layout → List ℕ
+rowFields p [] = []
+rowFields p (r ∷ rs) = rowField p r ++ rowFields (suc p) rs
+
+-- "Cluster record: 1 bits, 2 replication, 3 redundancy, once each in this order; then 4 box, by rising id; then 5 former row, by rising partition."
+unfoldable pub clusterRecord : Topology → Layout → List ℕ
+clusterRecord t F = bitsField t ++ (replicationField t ++ (redundancyField t ++ (nodeFields (t .nodes) ++ rowFields 0 F)))
+
+-- The numbers that a record holds fit the bytes that it has for them: "id 4, zone 2, capacity 4", and four for each id of a row.
+pub record FitsRecord (t : Topology) (F : Layout) : Type 0 where
+  pub ids : (b : ℕ) → nodeAt t b .id < 2 ^ 32
+  pub zones : (b : ℕ) → nodeAt t b .zone < 2 ^ 16
+  pub capacities : (b : ℕ) → nodeAt t b .capacity < 2 ^ 32
+  pub former : (p j : ℕ) → getD (row F p) j 0 < 2 ^ 32
+
+-- s is the record of an accepted cluster and its former layout.
+pub record IsRecord (s : List ℕ) (t : Topology) (F : Layout) : Type 0 where
+  pub bytes : s ≡ clusterRecord t F
+  pub accepted : Accepted t
+  pub former : IsFormer t F
+  pub fits : FitsRecord t F
+
+-- The bytes of the longest record: three fields of 4 bytes, one of 13 for each of 32 nodes, one of 37 for each of 256 rows. It is 9,900.
+abbrev pub longestRecord : ℕ
+longestRecord = 3 * 4 + mostNodes * 13 + bufferRows * 37
+
+-- The bytes that decide every reading: those of the longest record and of one more field. It is 9,937.
+abbrev pub decidingBytes : ℕ
+decidingBytes = longestRecord + 37

@@ -1,0 +1,159 @@
+-- Reading a cluster record: what a field says, the order of its faults, and the walk over the fields, held against "Read a cluster" of
+-- document 01. "Box" in the papers is a node here.
+-- Assumes nothing.
+use Prim.Native.Nat.{ℕ, zero, suc, _+_, _-_, _/_}
+use mathlib.Core.Bool.{Bool, true, false, not, _||_}
+use mathlib.Core.List.{List, [], _∷_, _++_}
+use lib.Dec.{ltb, leb, eqb}
+use lib.ListN.{length, replicate}
+use Rattle.sums.specs.Sum.{pick}
+use Rattle.sets.specs.Bits.{withOf}
+use Rattle.cluster.specs.Limits.{mostBits, mostCopies, mostNodes}
+use Rattle.cluster.specs.declared.Node.{Node}
+use Rattle.cluster.specs.Terms.{Topology, topology, partitions, Layout, idsOf, mem, rising}
+use Rattle.cluster.specs.Faults.{noNodes}
+use Rattle.fields.specs.RecordField.{numberAt, fieldAt}
+use Rattle.fields.specs.declared.Field.{Field}
+use Rattle.fields.specs.declared.Field.the-variants.{Body, Refused}
+
+-- ---- what a field says
+
+-- The values of one field.
+pub data Item : Type 0 where
+  BitsOf : ℕ → Item
+  ReplicationOf : ℕ → Item
+  RedundancyOf : ℕ → Item
+  OneNode : Node → Item
+  FormerRow : ℕ → List ℕ → Item
+
+-- "id 4, zone 2, capacity 4"
+unfoldable pub nodeIn : List ℕ → ℕ → Node
+nodeIn s start = record { id = numberAt s start 4; zone = numberAt s (start + 4) 2; capacity = numberAt s (start + 6) 4 }
+
+-- The m ids from a byte on, four bytes each.
+unfoldable pub idsAt : List ℕ → ℕ → ℕ → List ℕ
+idsAt s at zero = []
+idsAt s at (suc m) = numberAt s at 4 ∷ idsAt s (at + 4) m
+
+-- The values in a body of s that begins at byte `start`, by the field's tag.
+unfoldable pub itemIn : List ℕ → ℕ → ℕ → ℕ → Item
+itemIn s tag start len =
+    pick (eqb tag 1) (BitsOf (numberAt s start 1))
+    (pick (eqb tag 2) (ReplicationOf (numberAt s start 1))
+    (pick (eqb tag 3) (RedundancyOf (numberAt s start 1))
+    (pick (eqb tag 4) (OneNode (nodeIn s start))
+    -- "2 + 4m: partition 2, then m rising ids"
+    (FormerRow (numberAt s start 2) (idsAt s (start + 2) ((len - 2) / 4))))))
+
+-- ---- what was read so far
+
+-- The tag of the last field, 0 before the first; the cluster; the former rows of the partitions up to the last one that had a row.
+pub record Reading : Type 0 where
+  pub last : ℕ
+  pub cluster : Topology
+  pub former : Layout
+
+unfoldable pub beginning : Reading
+beginning = record { last = 0; cluster = topology noNodes; former = [] }
+
+-- "1 bits, 2 replication, 3 redundancy, once each in this order; then 4 box; then 5 former row": the set of the tags allowed next.
+unfoldable pub allowedAfter : ℕ → ℕ
+allowedAfter last =
+    pick (ltb last 3) (withOf 0 (last + 1))
+    (pick (ltb last 5) (withOf (withOf 0 4) 5) (withOf 0 5))
+
+-- A cluster with what a field says.
+unfoldable pub withItem : Topology → Item → Topology
+withItem t (BitsOf k) = record { bits = k; replication = t .replication; redundancy = t .redundancy; nodes = t .nodes }
+withItem t (ReplicationOf k) = record { bits = t .bits; replication = k; redundancy = t .redundancy; nodes = t .nodes }
+withItem t (RedundancyOf k) = record { bits = t .bits; replication = t .replication; redundancy = k; nodes = t .nodes }
+withItem t (OneNode n) = record { bits = t .bits; replication = t .replication; redundancy = t .redundancy; nodes = t .nodes ++ (n ∷ []) }
+withItem t (FormerRow p ids) = t
+
+-- "A partition without a row had no former copies": empty rows up to partition p.
+unfoldable pub upTo : ℕ → Layout → Layout
+upTo p F = F ++ replicate (p - length F) []
+
+-- Former rows with what a field says.
+unfoldable pub formerWith : Layout → Item → Layout
+formerWith F (BitsOf k) = F
+formerWith F (ReplicationOf k) = F
+formerWith F (RedundancyOf k) = F
+formerWith F (OneNode n) = F
+formerWith F (FormerRow p ids) = upTo p F ++ (ids ∷ [])
+
+unfoldable pub readingWith : Reading → ℕ → Item → Reading
+readingWith r tag i = record { last = tag; cluster = withItem (r .cluster) i; former = formerWith (r .former) i }
+
+-- ---- the faults of a field
+
+-- "4, a value outside its range (id 0 and partition at or above P included)": k 0 to 8, R 1 to 8, Z 1 to R.
+unfoldable pub outside : Topology → Item → Bool
+outside t (BitsOf k) = ltb mostBits k
+outside t (ReplicationOf k) = eqb k 0 || ltb mostCopies k
+outside t (RedundancyOf k) = eqb k 0 || ltb (t .replication) k
+outside t (OneNode n) = eqb (n .id) 0
+outside t (FormerRow p ids) = leb (partitions t) p || mem 0 ids
+
+-- The last number of a list, d where it is empty.
+unfoldable pub lastOf : ℕ → List ℕ → ℕ
+lastOf d [] = d
+lastOf d (x ∷ xs) = lastOf x xs
+
+-- "5, id or partition not rising": the partitions before `next` are passed.
+unfoldable pub unordered : Topology → ℕ → Item → Bool
+unordered t next (BitsOf k) = false
+unordered t next (ReplicationOf k) = false
+unordered t next (RedundancyOf k) = false
+unordered t next (OneNode n) = leb (n .id) (lastOf 0 (idsOf (t .nodes)))
+unordered t next (FormerRow p ids) = ltb p next || not (rising ids)
+
+-- "6, a 33rd box"
+unfoldable pub tooMany : Topology → Item → Bool
+tooMany t (BitsOf k) = false
+tooMany t (ReplicationOf k) = false
+tooMany t (RedundancyOf k) = false
+tooMany t (OneNode n) = leb mostNodes (length (t .nodes))
+tooMany t (FormerRow p ids) = false
+
+-- The first fault of what a field says; 0 where there is none.
+unfoldable pub faultIn : Topology → ℕ → Item → ℕ
+faultIn t next i = pick (outside t i) 4 (pick (unordered t next i) 5 (pick (tooMany t i) 6 0))
+
+-- ---- the walk
+
+-- What a reading yields: the refusal, 0 for none, with its byte; the cluster and its former layout.
+pub record Outcome : Type 0 where
+  pub refusal : ℕ
+  pub byte : ℕ
+  pub cluster : Topology
+  pub former : Layout
+
+-- "a refused cluster reading yields the cluster with no boxes"
+abbrev pub refusedAt : ℕ → ℕ → Outcome
+refusedAt refusal byte = record { refusal = refusal; byte = byte; cluster = topology noNodes; former = [] }
+
+-- At the end of the bytes: "7: the end comes before field 3 is read; the byte given is the record's length." Else the record is accepted.
+unfoldable pub ended : List ℕ → Reading → Outcome
+ended s r =
+    pick (ltb (r .last) 3) (refusedAt 7 (length s))
+    (record { refusal = 0; byte = 0; cluster = r .cluster; former = upTo (partitions (r .cluster)) (r .former) })
+
+-- "field by field, the first fault decides", with the byte at which the field begins; without fault the reading goes on after the field.
+unfoldable pub afterField : (ℕ → Reading → Outcome) → List ℕ → ℕ → Reading → Field → Outcome
+afterField go s at r (Refused refusal byte) = refusedAt refusal byte
+afterField go s at r (Body tag start len) =
+    pick (eqb (faultIn (r .cluster) (length (r .former)) (itemIn s tag start len)) 0)
+    (go (start + len) (readingWith r tag (itemIn s tag start len)))
+    (refusedAt (faultIn (r .cluster) (length (r .former)) (itemIn s tag start len)) at)
+
+-- The walk over the fields from byte `at` on, k fields at most; as many as there are bytes are enough.
+unfoldable pub walk : ℕ → List ℕ → ℕ → Reading → Outcome
+walk zero s at r = ended s r
+walk (suc k) s at r =
+    pick (leb (length s) at) (ended s r)
+    (afterField (λ next q. walk k s next q) s at r (fieldAt s at (allowedAfter (r .last)) 0))
+
+-- Reading the record s into a buffer that is long enough.
+unfoldable pub readCluster : List ℕ → Outcome
+readCluster s = walk (length s) s 0 beginning

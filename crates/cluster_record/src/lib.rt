@@ -1,0 +1,96 @@
+// Reading a cluster record: bytes to a cluster and the cells of its former layout.
+ghost use mathlib.Core.Path.{_≡_};
+ghost use lib.ListN.{length, replicate};
+ghost use Rattle.cluster.specs.Limits.{layoutCells};
+ghost use Rattle.cluster.specs.TermsCells.{cellsOf};
+ghost use Rattle.cluster_record.specs.RecordClusterFaults.{allowedAfter, refusedAt, readCluster};
+ghost use Rattle.cluster_record.specs.RecordClusterAnswer.{answerOf, readAnswer, formerAfter};
+use cluster::Cluster;
+use cluster::refusal;
+use fields::Field;
+
+mod faults;
+mod row_faults;
+mod taking;
+
+// What a reading yields: the refusal, 0 for none, with its byte, and the cluster.
+pub struct ReadCluster {
+    pub refusal: u32,
+    pub byte: usize,
+    pub cluster: Cluster,
+}
+
+// A refused reading yields the cluster with no nodes.
+fn refused(refusal: u32, byte: usize) -> ReadCluster
+    ensures { λ r. ⌜ r ≡ answerOf (refusedAt refusal byte) ⌝ }
+{
+    ReadCluster {
+        refusal,
+        byte,
+        cluster: Cluster::none(),
+    }
+}
+
+// The set of the tags that are allowed after a tag, 0 for none yet.
+fn allowed_after(last: u32) -> u32
+    ensures { λ r. ⌜ r ≡ allowedAfter last ⌝ }
+{
+    if last < 3 {
+        return sets::with(0, last + 1);
+    }
+    if last < 5 {
+        return sets::with(sets::with(0, 4), 5);
+    }
+    sets::with(0, 5)
+}
+
+// Walks the fields, and gathers the former rows in cells that are zero.
+fn walk(bytes: &[u8], rows: &mut [u32]) -> ReadCluster
+    requires { ⌜ now rows ≡ replicate layoutCells 0 ⌝ }
+    ensures { λ r. ⌜ (r ≡ answerOf (readCluster (now (bytes .entry))))
+        × (r .refusal ≡ 0 → now (rows .exit) ≡ cellsOf (readCluster (now (bytes .entry)) .former)) ⌝ }
+{
+    let mut c = Cluster::none();
+    let mut last = 0u32;
+    let mut next = 0;
+    let mut at = 0;
+    while at < bytes.len() {
+        let f = fields::field_at(bytes, at, allowed_after(last), 0);
+        let Field::Body { tag, start, len } = f else {
+            return refused(fields::refusal_of(f), fields::place_of(f));
+        };
+        let fault = faults::field_fault(bytes, c, next, tag, start, len);
+        if fault != 0 {
+            return refused(fault, at);
+        }
+        c = taking::cluster_with(bytes, c, tag, start);
+        next = taking::take_row(rows, bytes, next, tag, start, len);
+        last = tag as u32;
+        at = start + len;
+    }
+    if last < 3 {
+        return refused(refusal::MISSING, bytes.len());
+    }
+    ReadCluster {
+        refusal: 0,
+        byte: 0,
+        cluster: c,
+    }
+}
+
+// Reads a cluster record. The former layout goes into the first 2,048 lent cells, all of them or, where the reading is
+// refused, none.
+pub fn read_cluster(bytes: &[u8], former: &mut [u32]) -> ReadCluster
+    ensures { λ r. ⌜ (r ≡ readAnswer (now (bytes .entry)) (now (former .entry)))
+        × (now (former .exit) ≡ formerAfter (now (bytes .entry)) (now (former .entry))) ⌝ }
+{
+    if former.len() < Cluster::CELLS {
+        return refused(refusal::BUFFER, 0);
+    }
+    let mut rows = [0u32; Cluster::CELLS];
+    let r = walk(bytes, &mut rows);
+    if r.refusal == 0 {
+        taking::copy_cells(&rows, former);
+    }
+    r
+}

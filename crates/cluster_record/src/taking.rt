@@ -1,0 +1,91 @@
+// Taking in what a field says: a cluster with it, and the cells of the former rows with it.
+ghost use mathlib.Core.Path.{_≡_};
+ghost use mathlib.Core.List.{_++_};
+ghost use Prim.Native.Nat.{ℕ, _+_, _-_, _*_, _/_, _≤_, _<_};
+ghost use lib.ListN.{length, drop};
+ghost use Rattle.cells.specs.Cells.{put};
+ghost use Rattle.cluster.specs.Limits.{mostNodes, rowCells, bufferRows, layoutCells};
+ghost use Rattle.cluster.specs.Terms.{Topology, Layout};
+ghost use Rattle.cluster.specs.TermsCells.{cellsOf};
+ghost use Rattle.fields.specs.RecordField.{numberAt};
+ghost use Rattle.cluster_record.specs.RecordClusterFaults.{itemIn, withItem, formerWith};
+ghost use Rattle.cluster_record.specs.RecordClusterAnswer.{slotsOf};
+use cluster::Cluster;
+use cluster::Node;
+
+// A cluster with what a field says of it.
+pub fn cluster_with(bytes: &[u8], c: Cluster, tag: u8, start: usize) -> Cluster
+    requires { ⌜ (tag ≡ 4 → (c .count < mostNodes) × (start + 10 ≤ length (now bytes))) ⌝ }
+    ensures { λ r. ⌜ ((t : Topology) (len : ℕ) → c ≡ slotsOf t → r ≡ slotsOf (withItem t (itemIn (now (bytes .entry)) tag start len))) ⌝ }
+{
+    let mut next = c;
+    if tag == 1 {
+        next.bits = fields::byte_at(bytes, start);
+        return next;
+    }
+    if tag == 2 {
+        next.replication = fields::byte_at(bytes, start);
+        return next;
+    }
+    if tag == 3 {
+        next.redundancy = fields::byte_at(bytes, start);
+        return next;
+    }
+    if tag == 4 {
+        let at = c.count;
+        next.nodes[at] = Node {
+            id: fields::word_at(bytes, start),
+            zone: fields::pair_at(bytes, start + 4) as u16,
+            capacity: fields::word_at(bytes, start + 6),
+        };
+        next.count = at + 1;
+        return next;
+    }
+    next
+}
+
+// Writes the ids of a former row, which stand from byte `from` on, into its cells.
+fn put_row(rows: &mut [u32], bytes: &[u8], row: usize, from: usize, count: usize)
+    requires { ⌜ (row * rowCells + count ≤ length (now rows)) × (from + 4 * count ≤ length (now bytes)) ⌝ }
+    ensures { λ _. ⌜ now (rows .exit) ≡ put (row * rowCells) (λ j. numberAt (now (bytes .entry)) (from + 4 * j) 4) count (now (rows .entry)) ⌝ }
+{
+    let mut j = 0;
+    while j < count {
+        rows[row * Cluster::ROW + j] = fields::word_at(bytes, from + 4 * j);
+        j += 1;
+    }
+}
+
+// Takes a former row into its cells; answers the first partition that is not passed.
+pub fn take_row(
+    rows: &mut [u32],
+    bytes: &[u8],
+    next: usize,
+    tag: u8,
+    start: usize,
+    len: usize,
+) -> usize
+    requires { ⌜ (tag ≡ 5 → (length (now rows) ≡ layoutCells) × (numberAt (now bytes) start 2 < bufferRows) × (6 ≤ len) × (len ≤ 34) × (start + len ≤ length (now bytes))) ⌝ }
+    ensures { λ r. ⌜ ((F : Layout) → 1 ≤ tag → tag ≤ 5 → now (rows .entry) ≡ cellsOf F → next ≡ length F → (tag ≡ 5 → length F ≤ numberAt (now (bytes .entry)) start 2)
+        → (now (rows .exit) ≡ cellsOf (formerWith F (itemIn (now (bytes .entry)) tag start len)))
+        × (r ≡ length (formerWith F (itemIn (now (bytes .entry)) tag start len)))) ⌝ }
+{
+    if tag != 5 {
+        return next;
+    }
+    let partition = fields::pair_at(bytes, start) as usize;
+    put_row(rows, bytes, partition, start + 2, (len - 2) / 4);
+    partition + 1
+}
+
+// Copies the cells of a layout to the front of a lent buffer.
+pub fn copy_cells(cells: &[u32], to: &mut [u32])
+    requires { ⌜ (length (now cells) ≡ layoutCells) × (layoutCells ≤ length (now to)) ⌝ }
+    ensures { λ _. ⌜ now (to .exit) ≡ now (cells .entry) ++ drop layoutCells (now (to .entry)) ⌝ }
+{
+    let mut i = 0;
+    while i < Cluster::CELLS {
+        to[i] = cells[i];
+        i += 1;
+    }
+}

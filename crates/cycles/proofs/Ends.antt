@@ -1,0 +1,258 @@
+-- From one level down to the end of the search or to the next level: the ways that grow, the first node that closes a cycle, and the walk back
+-- around that cycle.
+-- Assumes nothing.
+use Prim.Native.Nat.{ℕ, zero, suc, _+_, _-_, _*_, _≤_, _<_, min, max}
+use mathlib.Core.Path.{_≡_, refl, sym, ap, ap₂, _∙_, subst}
+use mathlib.Core.Bool.{Bool, true, false, cond, _&&_, false≢true}
+use mathlib.Core.List.{List}
+use mathlib.Core.Logic.{_⊎_, inl, inr, ⊎-elim}
+use native.Mathlib.Nat.{zero-add, sub-zero}
+use native.Mathlib.Numerals.{add-one}
+use native.Mathlib.Omega.{arith}
+use lib.Dec.{ltb, eqb}
+use lib.ListN.{length, getD, set, take, drop}
+use lib.Seq.{getD-take, getD-drop}
+use borrow.Author.Tests.{lt-ltb, le-ltb}
+use Rattle.sums.specs.Sum.{is}
+use Rattle.sums.proofs.Sum.{lt-or-ge, is-eq, is-le}
+use Rattle.cells.specs.Cells.{put}
+use Rattle.cells.proofs.Cells.{getD-put-in}
+use Rattle.sets.specs.Bits.{bit, memberOf, withOf, withoutOf, leastOf}
+use Rattle.sets.proofs.Laws.{bit-le, bit-zero, bit-true, bit-false, bit-with, bit-without, least-some, least-at}
+use Rattle.exchange.specs.Levels as levels
+use Rattle.exchange.specs.Levels.{Graph, Outcome, Potential, Cycle, fell, back, way, closes, firstFrom, search-from, outcome, cycleLength}
+use Rattle.exchange.proofs.Levels.{from-node, true-or-false}
+use Rattle.exchange.proofs.Search.{Open, open-next, Closing, closing, first-is-none, first-some, first-none, first-cases, way-next, way-stays, way-self, way-le, back-next, back-fell, back-node}
+use Rattle.cycles.specs.ModelFound.{endLength, endWalk}
+use Rattle.cycles.specs.Turns.{before, closer, trail, trailLength}
+use Rattle.cycles.proofs.Parts.{before-fallen, before-stayed}
+use Rattle.cycles.proofs.States.{State, Next}
+
+-- A first index goes by the values of its test.
+first-cong : (t s : ℕ → Bool) (n i : ℕ) → ((j : ℕ) → i ≤ j → j < i + n → t j ≡ s j) → firstFrom t n i ≡ firstFrom s n i
+unfolding firstFrom
+first-cong t s zero i h = refl
+first-cong t s (suc n) i h = rw (h i (omega arith) (omega arith), first-cong t s n (suc i) (λ j a b. h j (omega arith) (omega arith)))
+
+-- Where an index passes, the first is below the bound.
+first-lt : (t : ℕ → Bool) (n i : ℕ) → i < n → t i ≡ true → firstFrom t n 0 < n
+first-lt t n i l e = ⊎-elim (λ h. omega (arith, h .1)) (λ h. absurd (false≢true (sym (h .1 i (omega arith) (omega arith)) ∙ e))) (first-cases t n 0)
+
+-- Cells that are written go by the values written.
+put-cong : (f g : ℕ → ℕ) (n : ℕ) (l : List ℕ) → ((i : ℕ) → i < n → f i ≡ g i) → put 0 f n l ≡ put 0 g n l
+unfolding put
+put-cong f g zero l h = refl
+put-cong f g (suc n) l h = ap₂ (λ (m : List ℕ) (x : ℕ). set m (0 + n) x) (put-cong f g n l (λ i m. h i (omega arith))) (h n (omega arith))
+
+-- One level down from level k, with all that the cells hold: the state before, the next level, and the row of the nodes that the fallen came from.
+pub record Turning (G : Graph) (k set mask : ℕ) (next table dist next₀ ways table₀ row : List ℕ) : Type 0 where
+  pub small : G .N ≤ 32
+  pub below : k < G .N
+  pub down : Next G k set next table
+  pub state : State G k mask dist next₀ ways table₀
+  pub at-row : (v : ℕ) → v < 32 → getD row v 0 ≡ getD table ((k + 1) * 32 + v) 0
+
+module _ {G : Graph} {k set mask : ℕ} {next table dist next₀ ways table₀ row : List ℕ} (T : Turning G k set mask next table dist next₀ ways table₀ row) where
+  abbrev n : ℕ
+  n = G .N
+
+  -- One step of the search.
+  search-step : search-from G (n - k) k
+      ≡ cond (ltb (firstFrom (fell G (suc k)) n 0) n)
+      (cond (ltb (firstFrom (closes G (suc k)) n 0) n) (Cycle (suc k) (firstFrom (closes G (suc k)) n 0)) (search-from G (n - (k + 1)) (k + 1)))
+      (Potential k)
+  unfolding search-from
+  search-step =
+      let e : n - k ≡ suc (n - (k + 1)) = omega arith in
+      ap (λ (i : ℕ). search-from G i k) e
+      ∙ ap (λ (i : ℕ). cond (ltb (firstFrom (fell G (suc k)) n 0) n)
+      (cond (ltb (firstFrom (closes G (suc k)) n 0) n) (Cycle (suc k) (firstFrom (closes G (suc k)) n 0)) (search-from G (n - (k + 1)) i))
+      (Potential k)) (sym (add-one k))
+
+  -- Where none fell, the search ends with a potential.
+  pub search-still : set ≡ 0 → search-from G (n - k) k ≡ Potential k
+  search-still z =
+      search-step
+      ∙ ap (λ (b : Bool). cond b (cond (ltb (firstFrom (closes G (suc k)) n 0) n) (Cycle (suc k) (firstFrom (closes G (suc k)) n 0)) (search-from G (n - (k + 1)) (k + 1))) (Potential k))
+      (le-ltb (firstFrom (fell G (suc k)) n 0) n (omega (arith, first-is-none (fell G (suc k)) n none)))
+    where
+      none : (v : ℕ) → v < n → fell G (suc k) v ≡ false
+      none v l = sym (T .down .marks v l) ∙ (ap (λ (s : ℕ). memberOf s v) z ∙ bit-false 0 v (bit-zero v))
+
+  -- Where some fell, it ends with a cycle or goes on.
+  search-moved : (set ≡ 0 → ⊥) → set < 4294967296
+      → search-from G (n - k) k ≡ cond (ltb (firstFrom (closes G (suc k)) n 0) n) (Cycle (suc k) (firstFrom (closes G (suc k)) n 0)) (search-from G (n - (k + 1)) (k + 1))
+  search-moved z f =
+      search-step
+      ∙ ap (λ (b : Bool). cond b (cond (ltb (firstFrom (closes G (suc k)) n 0) n) (Cycle (suc k) (firstFrom (closes G (suc k)) n 0)) (search-from G (n - (k + 1)) (k + 1))) (Potential k))
+      (lt-ltb (firstFrom (fell G (suc k)) n 0) n (first-lt (fell G (suc k)) n w node (sym (T .down .marks w node) ∙ bit-true set w (least-at set l))))
+    where
+      w : ℕ
+      w = leastOf set
+
+      l : leastOf set < 32
+      l = least-some set f z
+
+      node : leastOf set < n
+      node = ⊎-elim (λ a. a) (λ b. absurd (omega (arith, least-at set l, T .down .nodes (leastOf set) l b))) (lt-or-ge (leastOf set) n)
+
+  -- ---- the ways, by the row of the nodes that the fallen came from
+
+  row-from : (v : ℕ) → v < n → fell G (suc k) v ≡ true → getD row v 0 ≡ levels.from G (suc k) v
+  row-from v l e =
+      T .at-row v (omega arith) ∙ (ap (λ (i : ℕ). getD table (i * 32 + v) 0) (add-one k) ∙ T .down .rows (suc k) v (omega arith) (omega arith) l e)
+
+  -- Where a node came from is a node.
+  pub row-node : (v : ℕ) → v < n → memberOf set v ≡ true → getD row v 0 < 32
+  row-node v l e = omega (arith, row-from v l (sym (T .down .marks v l) ∙ e), from-node G (suc k) v (T .below) l)
+
+  before-fell : (v x : ℕ) → v < n → x < 32 → fell G (suc k) v ≡ true → bit (before set row ways v) x ≡ way G k (levels.from G (suc k) v) x
+  before-fell v x l m e =
+      ap (λ (i : ℕ). bit i x) (sym (before-fallen set row ways v (T .down .marks v l ∙ e)))
+      ∙ (ap (λ (i : ℕ). bit (getD ways i 0) x) (row-from v l e) ∙ T .state .ways (levels.from G (suc k) v) x (from-node G (suc k) v (T .below) l) m)
+
+  before-stay : (v x : ℕ) → v < n → x < 32 → fell G (suc k) v ≡ false → bit (before set row ways v) x ≡ way G k v x - is v x
+  before-stay v x l m e =
+      ap (λ (i : ℕ). bit i x) (sym (before-stayed set row ways v (T .down .marks v l ∙ e)))
+      ∙ (bit-without (getD ways v 0) v x m ∙ ap (λ (i : ℕ). i - is v x) (T .state .ways v x l m))
+
+  -- A node is on the way that its own grows from if it closes a cycle.
+  closes-is : (v : ℕ) → v < n → memberOf (before set row ways v) v ≡ closes G (suc k) v
+  unfolding closes memberOf
+  closes-is v l = ⊎-elim yes no (true-or-false (fell G (suc k) v))
+    where
+      yes : fell G (suc k) v ≡ true → memberOf (before set row ways v) v ≡ closes G (suc k) v
+      yes e =
+          ap (λ (i : ℕ). eqb i 1) (before-fell v v l (omega arith) e)
+          ∙ ap (λ (b : Bool). b && eqb (way G k (levels.from G (suc k) v) v) 1) (sym e)
+
+      no : fell G (suc k) v ≡ false → memberOf (before set row ways v) v ≡ closes G (suc k) v
+      no e =
+          bit-false (before set row ways v) v (omega (arith, before-stay v v l (omega arith) e, is-eq {a = v} {b = v} refl, T .state .ways v v l (omega arith), bit-le (getD ways v 0) v))
+          ∙ ap (λ (b : Bool). b && eqb (way G k (levels.from G (suc k) v) v) 1) (sym e)
+
+  closer-is : closer n set row ways ≡ firstFrom (closes G (suc k)) n 0
+  unfolding closer
+  closer-is = first-cong (λ v. memberOf (before set row ways v) v) (closes G (suc k)) n 0 (λ j a b. closes-is j (omega arith))
+
+  grown-is : (v x : ℕ) → v < n → x < 32 → bit (withOf (before set row ways v) v) x ≡ way G (suc k) v x
+  grown-is v x l m = ⊎-elim yes no (true-or-false (fell G (suc k) v))
+    where
+      yes : fell G (suc k) v ≡ true → bit (withOf (before set row ways v) v) x ≡ way G (suc k) v x
+      yes e = omega (arith, bit-with (before set row ways v) v x m, before-fell v x l m e, way-next G k v x)
+
+      no : fell G (suc k) v ≡ false → bit (withOf (before set row ways v) v) x ≡ way G (suc k) v x
+      no e = omega (arith, bit-with (before set row ways v) v x m, before-stay v x l m e, way-stays G k v x (T .below) e, way-self G k v x, way-le G k v x)
+
+  -- Where none closes a cycle, the search goes on.
+  pub search-on : (set ≡ 0 → ⊥) → set < 4294967296 → n ≤ closer n set row ways → search-from G (n - k) k ≡ search-from G (n - (k + 1)) (k + 1)
+  search-on z f h =
+      search-moved z f
+      ∙ ap (λ (b : Bool). cond b (Cycle (suc k) (firstFrom (closes G (suc k)) n 0)) (search-from G (n - (k + 1)) (k + 1)))
+      (le-ltb (firstFrom (closes G (suc k)) n 0) n (omega (arith, closer-is)))
+
+  -- And the cells hold the next level.
+  pub state-on : (grown₀ grown : List ℕ) → n ≤ length grown₀ → n ≤ closer n set row ways → grown ≡ put 0 (λ v. withOf (before set row ways v) v) n grown₀
+      → State G (k + 1) set next next grown table
+  state-on grown₀ grown h c e =
+      subst (λ (i : ℕ). State G i set next next grown table) (sym (add-one k))
+      (record {
+        dists = T .down .nexts;
+        nexts = T .down .nexts;
+        marks = T .down .marks;
+        ways = λ v x l m. ap (λ (i : ℕ). bit i x) (cell v l) ∙ grown-is v x l m;
+        rows = T .down .rows;
+        still-open = open-next G k (T .state .still-open) (first-none (closes G (suc k)) n (le-ltb (firstFrom (closes G (suc k)) n 0) n (omega (arith, closer-is))));
+      })
+    where
+      cell : (v : ℕ) → v < n → getD grown v 0 ≡ withOf (before set row ways v) v
+      cell v l =
+          ap (λ (g : List ℕ). getD g v 0) e
+          ∙ (ap (λ (i : ℕ). getD (put 0 (λ v. withOf (before set row ways v) v) n grown₀) i 0) (sym (zero-add v))
+          ∙ getD-put-in 0 (λ v. withOf (before set row ways v) v) n grown₀ v 0 l (omega arith))
+
+  -- ---- the cycle
+
+  module _ (v : ℕ) (is-closer : v ≡ closer n set row ways) (node : v < n) where
+    found : closes G (suc k) v ≡ true
+    found =
+        let e : v ≡ firstFrom (closes G (suc k)) n 0 = is-closer ∙ closer-is in
+        let h = first-some (closes G (suc k)) n (lt-ltb (firstFrom (closes G (suc k)) n 0) n (omega arith)) in
+        ap (λ (i : ℕ). closes G (suc k) i) e ∙ h .1
+
+    ends : Closing G (suc k) v
+    ends = closing G k v (T .below) node (T .state .still-open) found
+
+    -- Where a node closes a cycle, the search ends with it.
+    pub search-closed : (set ≡ 0 → ⊥) → set < 4294967296 → search-from G (n - k) k ≡ Cycle (suc k) v
+    search-closed z f =
+        let e : firstFrom (closes G (suc k)) n 0 ≡ v = sym (is-closer ∙ closer-is) in
+        search-moved z f
+        ∙ (ap (λ (b : Bool). cond b (Cycle (suc k) (firstFrom (closes G (suc k)) n 0)) (search-from G (n - (k + 1)) (k + 1))) (lt-ltb (firstFrom (closes G (suc k)) n 0) n (omega arith))
+        ∙ ap (λ (i : ℕ). Cycle (suc k) i) e)
+
+    -- The trace back is the way back.
+    trail-back : (t : ℕ) → t ≤ suc k → trail table (suc k) v t ≡ back G (suc k) v t
+    unfolding trail back
+    trail-back zero l = refl
+    trail-back (suc t) l =
+        ap (λ (i : ℕ). getD table ((suc k - t) * 32 + i) 0) (trail-back t (omega arith))
+        ∙ (T .down .rows (suc k - t) (back G (suc k) v t) (omega arith) (omega arith) (back-node G (suc k) v t (T .below) node)
+        (back-fell G (suc k) v t (suc k - t) (omega arith) (T .below) (ends .fallen))
+        ∙ sym (back-next G (suc k) v t (suc k - t) (omega arith)))
+
+    length-is : trailLength table (suc k) v ≡ cycleLength G (suc k) v
+    unfolding trailLength cycleLength
+    length-is =
+        first-cong (λ t. eqb (trail table (suc k) v t) v) (λ t. eqb (back G (suc k) v t) v) (suc k) 1
+        (λ j a b. ap (λ (i : ℕ). eqb i v) (trail-back j (omega arith)))
+
+    -- The trace back comes to its start within the levels.
+    pub trail-closes : trailLength table (k + 1) v ≤ k + 1
+    trail-closes = rw (add-one k) (omega (arith, length-is, ends .length-le))
+
+    -- It goes over nodes.
+    pub trail-node : (t : ℕ) → t < k + 1 → trail table (k + 1) v t < 32
+    trail-node t l = rw (add-one k) (omega (arith, trail-back t (omega arith), back-node G (suc k) v t (T .below) node))
+
+    -- It is the walk that the search ends with.
+    pub trail-walk : (walk : List ℕ) → put 0 (trail table (k + 1) v) (trailLength table (k + 1) v + 1) walk ≡ endWalk G (Cycle (suc k) v) walk
+    unfolding endWalk
+    trail-walk walk =
+        rw (add-one k, length-is)
+        (put-cong (trail table (suc k) v) (back G (suc k) v) (cycleLength G (suc k) v + 1) walk (λ i l. trail-back i (omega (arith, ends .length-le))))
+
+    -- Its length is the cycle's.
+    pub trail-length : trailLength table (k + 1) v ≡ endLength G (Cycle (suc k) v)
+    unfolding endLength
+    trail-length = rw (add-one k) length-is
+
+-- The row that a part of the table shows.
+pub part-row : (i v : ℕ) (l : List ℕ) → v < 32 → getD (take (i + 32 - i) (drop i l)) v 0 ≡ getD l (i + v) 0
+part-row i v l h = getD-take (i + 32 - i) (drop i l) v 0 (omega arith) ∙ getD-drop i l v 0
+
+-- What a search answers that ends with a potential.
+pub ends-still : (G : Graph) (o : Outcome) (k : ℕ) (walk₀ walk : List ℕ) → o ≡ Potential k → walk ≡ walk₀ → (0 ≡ endLength G o) × (walk ≡ endWalk G o walk₀)
+unfolding endLength endWalk
+ends-still G o k walk₀ walk e w = (ap (λ (i : Outcome). endLength G i) (sym e), w ∙ ap (λ (i : Outcome). endWalk G i walk₀) (sym e))
+
+-- What a search answers that ends with a cycle.
+pub ends-closed : (G : Graph) (o : Outcome) (k v r : ℕ) (walk₀ walk : List ℕ) → o ≡ Cycle k v → r ≡ endLength G (Cycle k v) → walk ≡ endWalk G (Cycle k v) walk₀
+    → (r ≡ endLength G o) × (walk ≡ endWalk G o walk₀)
+ends-closed G o k v r walk₀ walk e q w = (q ∙ ap (λ (i : Outcome). endLength G i) (sym e), w ∙ ap (λ (i : Outcome). endWalk G i walk₀) (sym e))
+
+-- Where no level is left, the search ends with a potential.
+pub search-spent : (G : Graph) (k : ℕ) → G .N ≤ k → search-from G (G .N - k) k ≡ Potential k
+unfolding search-from
+search-spent G k l = let e : G .N - k ≡ 0 = omega arith in ap (λ (i : ℕ). search-from G i k) e
+
+-- The search begins at level 0.
+pub search-start : (G : Graph) → outcome G ≡ search-from G (G .N - 0) 0
+unfolding outcome
+search-start G = ap (λ (i : ℕ). search-from G i 0) (sym (sub-zero (G .N)))
+
+-- What closes a cycle is a node, or n.
+pub closer-le : (n fell : ℕ) (row way : List ℕ) → closer n fell row way ≤ n
+unfolding closer
+closer-le n fell row way =
+    ⊎-elim (λ h. omega (arith, h .1)) (λ h. omega (arith, h .0)) (first-cases (λ v. memberOf (before fell row way v) v) n 0)

@@ -1,0 +1,91 @@
+-- `cycles::descend` meets its contract. Assumes nothing.
+use Prim.Native.Nat.{ℕ, _≤_, _<_, _-_, _+_, _*_}
+use mathlib.Core.Path.{_≡_, refl, sym, ap, _∙_, subst}
+use mathlib.Core.Bool.{Bool, true, false}
+use native.Mathlib.Omega.{arith}
+use borrow.Author.Needs.{needs}
+use lib.ListN.{length, getD, set, take, drop, length-take, length-drop}
+use Rattle.cells.specs.Cells.{put}
+use Rattle.cells.proofs.Cells.{put-none}
+use Rattle.sets.specs.Bits.{withOf, memberOf}
+use Rattle.exchange.specs.Levels.{firstFrom}
+use Rattle.sets.specs.Bits.{meetOf, belowOf}
+use Rattle.cycles.proofs.Sweeps.{descended}
+use Rattle.cycles.proofs.descend.Statement.{statement}
+use Rattle.cycles.proofs.descend.Tie as tie
+
+add-a : tie.Need-add-a
+add-a c = search needs
+
+mul-a : tie.Need-mul-a
+mul-a c = search needs
+
+cast-a : tie.Need-cast-a
+cast-a c = search needs
+
+add-sweep : tie.Need-add-sweep
+add-sweep c = search needs
+
+mul-sweep : tie.Need-mul-sweep
+mul-sweep c = search needs
+
+sub-sweep : tie.Need-sub-sweep
+sub-sweep c = search needs
+
+part-sweep-start : tie.Need-part-sweep-start
+part-sweep-start c = search needs
+
+part-sweep-end : tie.Need-part-sweep-end
+part-sweep-end c = search needs
+
+sweep-requires : tie.Need-sweep-requires
+sweep-requires c κs = search needs
+
+below-requires : tie.Need-below-requires
+below-requires c κs = search needs
+
+meet-requires : tie.Need-meet-requires
+meet-requires c κs = search needs
+
+same-length : tie.Need-same-length
+same-length c = search needs
+
+same-length-2 : tie.Need-same-length-2
+same-length-2 c = search needs
+
+row-long : (c : tie.After-sweep) → 32 ≤ length (c .sweep .last .1 .1 .1 .1 .1 .0)
+row-long c =
+    let t = c .before .before .before .before .before .before .before in
+    let i = (t .args .k + 1) * 32 in
+    let l = t .args .table .now in
+    let e : length (c .sweep .last .1 .1 .1 .1 .1 .0) ≡ length (take (i + 32 - i) (drop i l)) = c .sweep .kept .1 .1 .1 .1 .1 .0 in
+    omega (arith, t .pre, length-take (i + 32 - i) (drop i l), length-drop i l)
+
+returns : tie.Need-returns
+returns c =
+    let b = c .before in
+    let s = b .before .before .before .before .before in
+    let t = s .before .before .before .before .before .before .before in
+    let a = t .args in
+    descended (a .arcs .now) (a .n) (a .k) (a .mask) (s .sweep .result) (c .meet .result) (a .dist .now) (s .sweep .last .1 .1 .1 .1 .0) (a .table .now) (s .sweep .last .1 .1 .1 .1 .1 .0)
+    (drop ((a .k + 1) * 32 + 32 - (a .k + 1) * 32) (drop ((a .k + 1) * 32) (a .table .now)))
+    (omega (arith, t .pre)) (omega (arith, t .pre)) (row-long s) (c .meet .ensures ∙ ap (λ (x : ℕ). meetOf (s .sweep .result) x) (b .below .ensures)) (s .sweep .ensures)
+
+pub descend-spec : {M : Type 1} → statement M
+descend-spec =
+    tie.close
+    (tie.spec
+    add-a
+    mul-a
+    cast-a
+    add-sweep
+    mul-sweep
+    sub-sweep
+    part-sweep-start
+    part-sweep-end
+    sweep-requires
+    below-requires
+    meet-requires
+    same-length
+    same-length-2
+    returns)

@@ -1,0 +1,12 @@
+pub mod CellsMore
+pub mod Exact
+pub mod FieldFaults
+pub mod HeadExact
+pub mod IdBytes
+pub mod NumberFields
+pub mod PutRows
+pub mod Puts
+pub mod RecordLaws
+pub mod RowFaults
+pub mod RowSteps
+pub mod RowsExact

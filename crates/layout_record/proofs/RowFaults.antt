@@ -1,0 +1,220 @@
+-- The faults of a row that is read, the end of a record, and the tests of what is to be written.
+-- Assumes nothing.
+use Prim.Native.Nat.{ℕ, zero, suc, _+_, _*_, _^_, _≤_, _<_}
+use mathlib.Core.Path.{_≡_, refl, sym, ap, ap₂, _∙_, subst}
+use mathlib.Core.Bool.{Bool, true, false, not, _&&_, _||_, or-true, and-false, false≢true}
+use mathlib.Core.List.{List}
+use mathlib.Core.Logic.{⊎-elim}
+use native.Mathlib.Nat.{mul-le-mul}
+use native.Mathlib.Numerals.{add-one}
+use native.Mathlib.Omega.{arith}
+use lib.Dec.{ltb, leb, eqb}
+use lib.ListN.{length}
+use lib.Pow.{pow-mono}
+use borrow.Author.Tests.{le-leb, lt-leb, leb-true, lt-ltb, le-ltb, eq-eqb, ne-eqb, eqb-true}
+use Rattle.sums.specs.Sum.{pick}
+use Rattle.sums.proofs.Sum.{lt-or-ge}
+use Rattle.cluster.specs.Limits.{mostBits, mostCopies, bufferRows, layoutCells}
+use Rattle.cluster.specs.Terms.{Layout, mem, rising}
+use Rattle.cluster.specs.TermsCells.{rowAt, idsIn, blank, formed}
+use Rattle.cluster.specs.RowScan.{hasRow, rowIds, rowIsBlank}
+use Rattle.cluster.proofs.CellRows.{both}
+use Rattle.cluster.proofs.RowScans.{formed-row-ids, ill-row-ids, row-of-buffer}
+use Rattle.cluster.proofs.Lists.{test-cases}
+use Rattle.fields.specs.RecordField.{fieldAt, refusalOf, placeOf}
+use Rattle.layout_record.specs.declared.Numbers.{Numbers}
+use Rattle.layout_record.specs.RecordLayout.{mostSize, mostDistance, mostVerdict, mostImprovements, recordLength, InRange}
+use Rattle.layout_record.specs.RecordLayoutFaults.{accepted, refusedAt, rowFault, endIn, numbersFit, rowFits, everyTo, rowsFit, writeFault}
+
+-- ---- the faults of a row that is read
+
+module _ (partitions next p : ℕ) (ids : List ℕ) where
+  -- A partition at or above P, or an id 0.
+  pub fault-partition : partitions ≤ p → rowFault partitions next p ids ≡ 4
+  unfolding rowFault
+  fault-partition h = simp (le-leb partitions p h)
+
+  pub fault-zero : mem 0 ids ≡ true → rowFault partitions next p ids ≡ 4
+  unfolding rowFault
+  fault-zero h = simp (h, or-true)
+
+  module _ (inside : p < partitions) (ids-not-zero : mem 0 ids ≡ false) where
+    -- A row that is not the next, or ids that do not rise.
+    pub fault-next : (p ≡ next → ⊥) → rowFault partitions next p ids ≡ 5
+    unfolding rowFault
+    fault-next h = simp (lt-leb partitions p inside, ids-not-zero, ne-eqb p next h)
+
+    pub fault-falls : p ≡ next → rising ids ≡ false → rowFault partitions next p ids ≡ 5
+    unfolding rowFault
+    fault-falls e h = simp (lt-leb partitions p inside, ids-not-zero, eq-eqb p next e, h)
+
+    pub fault-none : p ≡ next → rising ids ≡ true → rowFault partitions next p ids ≡ 0
+    unfolding rowFault
+    fault-none e h = simp (lt-leb partitions p inside, ids-not-zero, eq-eqb p next e, h)
+
+-- ---- the end of a record
+
+module _ (s : List ℕ) (at : ℕ) (n : Numbers) (L : Layout) where
+  pub end-whole : length s ≤ at → endIn s at n L ≡ accepted n L
+  unfolding endIn
+  end-whole h = simp (le-leb (length s) at h)
+
+  pub end-more : at < length s → endIn s at n L ≡ refusedAt (refusalOf (fieldAt s at 0 0)) (placeOf (fieldAt s at 0 0))
+  unfolding endIn
+  end-more h = simp (lt-leb (length s) at h)
+
+-- ---- the ranges
+
+-- The test of the numbers says that they are in range,
+pub fit-range : (n : Numbers) → numbersFit n ≡ true → InRange n
+unfolding numbersFit
+fit-range n h =
+    let a = both (leb (n .bits) mostBits) (leb 1 (n .replication) && (leb (n .replication) mostCopies && (leb 1 (n .size) && (leb (n .size) mostSize && (leb (n .distance) mostDistance && (leb (n .verdict) mostVerdict && leb (n .improvements) mostImprovements)))))) h in
+    let b = both (leb 1 (n .replication)) (leb (n .replication) mostCopies && (leb 1 (n .size) && (leb (n .size) mostSize && (leb (n .distance) mostDistance && (leb (n .verdict) mostVerdict && leb (n .improvements) mostImprovements))))) (a .1) in
+    let c = both (leb (n .replication) mostCopies) (leb 1 (n .size) && (leb (n .size) mostSize && (leb (n .distance) mostDistance && (leb (n .verdict) mostVerdict && leb (n .improvements) mostImprovements)))) (b .1) in
+    let d = both (leb 1 (n .size)) (leb (n .size) mostSize && (leb (n .distance) mostDistance && (leb (n .verdict) mostVerdict && leb (n .improvements) mostImprovements))) (c .1) in
+    let e = both (leb (n .size) mostSize) (leb (n .distance) mostDistance && (leb (n .verdict) mostVerdict && leb (n .improvements) mostImprovements)) (d .1) in
+    let f = both (leb (n .distance) mostDistance) (leb (n .verdict) mostVerdict && leb (n .improvements) mostImprovements) (e .1) in
+    let g = both (leb (n .verdict) mostVerdict) (leb (n .improvements) mostImprovements) (f .1) in
+    record {
+      bits = leb-true (n .bits) mostBits (a .0);
+      replication = (leb-true 1 (n .replication) (b .0), leb-true (n .replication) mostCopies (c .0));
+      size = (leb-true 1 (n .size) (d .0), leb-true (n .size) mostSize (e .0));
+      distance = leb-true (n .distance) mostDistance (f .0);
+      verdict = leb-true (n .verdict) mostVerdict (g .0);
+      improvements = leb-true (n .improvements) mostImprovements (g .1);
+    }
+
+-- and conversely.
+pub range-fit : (n : Numbers) → InRange n → numbersFit n ≡ true
+unfolding numbersFit
+range-fit n r =
+    simp (
+      le-leb (n .bits) mostBits (r .bits),
+      le-leb 1 (n .replication) (r .replication .0),
+      le-leb (n .replication) mostCopies (r .replication .1),
+      le-leb 1 (n .size) (r .size .0),
+      le-leb (n .size) mostSize (r .size .1),
+      le-leb (n .distance) mostDistance (r .distance),
+      le-leb (n .verdict) mostVerdict (r .verdict),
+      le-leb (n .improvements) mostImprovements (r .improvements),
+    )
+
+-- There are at most 256 partitions, and so many rows of at most 37 bytes.
+pub few-partitions : (bits : ℕ) → bits ≤ mostBits → 2 ^ bits ≤ bufferRows
+few-partitions bits h = pow-mono h
+
+pub few-bytes : (p w : ℕ) → p ≤ bufferRows → w ≤ 37 → p * w ≤ 9472
+few-bytes p w h k = mul-le-mul h k
+
+-- ---- the rows that are to be written
+
+module _ (cells : List ℕ) (partitions replication p : ℕ) (whole : layoutCells ≤ length cells) (inside : p < bufferRows) where
+  -- Below P: as many ids as there are copies, and then zeros.
+  pub fits-ids : replication ≤ mostCopies → p < partitions → eqb (rowIds cells p) replication ≡ rowFits cells partitions replication p
+  unfolding rowFits
+  fits-ids few h =
+      ⊎-elim
+      (λ t. ap (λ (k : ℕ). eqb k replication) (formed-row-ids cells p (row-of-buffer cells p whole inside) t) ∙ sym (simp (lt-ltb p partitions h, t)))
+      (λ f. ap (λ (k : ℕ). eqb k replication) (ill-row-ids cells p f)
+      ∙ (ne-eqb 9 replication (λ e. omega arith) ∙ sym (simp (lt-ltb p partitions h, f))))
+      (test-cases (formed (rowAt cells p)))
+
+  -- From P on: zeros.
+  pub fits-blank : partitions ≤ p → rowIsBlank cells p ≡ rowFits cells partitions replication p
+  unfolding rowFits rowIsBlank
+  fits-blank h = simp (row-of-buffer cells p whole inside, le-ltb p partitions h)
+
+-- What the test of a row tells: below P it is formed and has as many ids,
+pub fits-formed : (cells : List ℕ) (partitions replication p : ℕ) → p < partitions → rowFits cells partitions replication p ≡ true
+    → (formed (rowAt cells p) ≡ true) × (length (idsIn (rowAt cells p)) ≡ replication)
+unfolding rowFits
+fits-formed cells partitions replication p h t =
+    let b = both (formed (rowAt cells p)) (eqb (length (idsIn (rowAt cells p))) replication)
+    (sym (ap (λ (q : Bool). pick q (formed (rowAt cells p) && eqb (length (idsIn (rowAt cells p))) replication) (blank (rowAt cells p))) (lt-ltb p partitions h)) ∙ t) in
+    (b .0, eqb-true (length (idsIn (rowAt cells p))) replication (b .1))
+
+-- and from P on it is blank.
+pub fits-zero : (cells : List ℕ) (partitions replication p : ℕ) → partitions ≤ p → rowFits cells partitions replication p ≡ true
+    → blank (rowAt cells p) ≡ true
+unfolding rowFits
+fits-zero cells partitions replication p h t =
+    sym (ap (λ (q : Bool). pick q (formed (rowAt cells p) && eqb (length (idsIn (rowAt cells p))) replication) (blank (rowAt cells p))) (le-ltb p partitions h)) ∙ t
+
+-- And conversely.
+pub formed-fits : (cells : List ℕ) (partitions replication p : ℕ) → p < partitions → formed (rowAt cells p) ≡ true
+    → length (idsIn (rowAt cells p)) ≡ replication → rowFits cells partitions replication p ≡ true
+unfolding rowFits
+formed-fits cells partitions replication p h t e = simp (lt-ltb p partitions h, t, eq-eqb (length (idsIn (rowAt cells p))) replication e)
+
+pub zero-fits : (cells : List ℕ) (partitions replication p : ℕ) → partitions ≤ p → blank (rowAt cells p) ≡ true → rowFits cells partitions replication p ≡ true
+unfolding rowFits
+zero-fits cells partitions replication p h t = simp (le-ltb p partitions h, t)
+
+-- ---- tests of all numbers below n
+
+pub every-more : (n : ℕ) (f : ℕ → Bool) → everyTo n f ≡ true → f n ≡ true → everyTo (n + 1) f ≡ true
+unfolding everyTo
+every-more n f h k = ap (λ (m : ℕ). everyTo m f) (add-one n) ∙ ap₂ _&&_ h k
+
+pub every-fails : (n p : ℕ) (f : ℕ → Bool) → p < n → f p ≡ false → everyTo n f ≡ false
+unfolding everyTo
+every-fails zero p f h k = absurd (omega arith)
+every-fails (suc n) p f h k =
+    ⊎-elim (λ l. ap (λ (t : Bool). t && f n) (every-fails n p f l k))
+    (λ g. let e : p ≡ n = omega arith in ap (λ (t : Bool). everyTo n f && t) (ap f (sym e) ∙ k) ∙ and-false (everyTo n f))
+    (lt-or-ge p n)
+
+pub every-at : (n p : ℕ) (f : ℕ → Bool) → everyTo n f ≡ true → p < n → f p ≡ true
+every-at n p f h k =
+    ⊎-elim (λ t. t) (λ e. absurd (false≢true (sym (every-fails n p f k e) ∙ h))) (test-cases (f p))
+
+pub every-all : (n : ℕ) (f : ℕ → Bool) → ((p : ℕ) → p < n → f p ≡ true) → everyTo n f ≡ true
+unfolding everyTo
+every-all zero f h = refl
+every-all (suc n) f h = ap₂ _&&_ (every-all n f (λ p l. h p (omega arith))) (h n (omega arith))
+
+-- ---- the faults of writing
+
+module _ (n : Numbers) (cells : List ℕ) (room : ℕ) where
+  pub write-cells : length cells < layoutCells → writeFault n cells room ≡ 8
+  unfolding writeFault
+  write-cells h = simp (lt-ltb (length cells) layoutCells h)
+
+  module _ (whole : layoutCells ≤ length cells) where
+    pub write-numbers : numbersFit n ≡ false → writeFault n cells room ≡ 4
+    unfolding writeFault
+    write-numbers h = simp (le-ltb (length cells) layoutCells whole, h)
+
+    module _ (fit : numbersFit n ≡ true) where
+      pub write-rows : rowsFit cells (2 ^ (n .bits)) (n .replication) ≡ false → writeFault n cells room ≡ 10
+      unfolding writeFault
+      write-rows h = simp (le-ltb (length cells) layoutCells whole, fit, h)
+
+      module _ (rows : rowsFit cells (2 ^ (n .bits)) (n .replication) ≡ true) where
+        pub write-room : room < recordLength (n .bits) (n .replication) → writeFault n cells room ≡ 8
+        unfolding writeFault
+        write-room h = simp (le-ltb (length cells) layoutCells whole, fit, rows, lt-ltb room (recordLength (n .bits) (n .replication)) h)
+
+        pub write-none : recordLength (n .bits) (n .replication) ≤ room → writeFault n cells room ≡ 0
+        unfolding writeFault
+        write-none h = simp (le-ltb (length cells) layoutCells whole, fit, rows, le-ltb room (recordLength (n .bits) (n .replication)) h)
+
+-- What can be written: a whole buffer, numbers in range, rows that fit, and room for the record.
+pub record Writable (n : Numbers) (cells : List ℕ) (room : ℕ) : Type 0 where
+  pub whole : layoutCells ≤ length cells
+  pub fit : numbersFit n ≡ true
+  pub rows : rowsFit cells (2 ^ (n .bits)) (n .replication) ≡ true
+  pub long : recordLength (n .bits) (n .replication) ≤ room
+
+-- No fault is found exactly where it can be written.
+pub no-fault : (n : Numbers) (cells : List ℕ) (room : ℕ) → writeFault n cells room ≡ 0 → Writable n cells room
+no-fault n cells room z =
+    ⊎-elim (λ l. absurd (omega (arith, write-cells n cells room l)))
+    (λ w. ⊎-elim
+    (λ fit. ⊎-elim
+    (λ rows. ⊎-elim (λ l. absurd (omega (arith, write-room n cells room w fit rows l))) (λ g. record { whole = w; fit = fit; rows = rows; long = g })
+    (lt-or-ge room (recordLength (n .bits) (n .replication))))
+    (λ h. absurd (omega (arith, write-rows n cells room w fit h))) (test-cases (rowsFit cells (2 ^ (n .bits)) (n .replication))))
+    (λ h. absurd (omega (arith, write-numbers n cells room w h))) (test-cases (numbersFit n)))
+    (lt-or-ge (length cells) layoutCells)

@@ -1,0 +1,36 @@
+-- `layout_record::head::next_field` meets its contract.
+-- Assumes nothing.
+use borrow.Author.Needs.{needs}
+use native.Mathlib.Omega.{arith}
+use mathlib.Core.Path.{_≡_, refl, sym, ap, ap₂, _∙_, subst}
+use Prim.Native.Nat.{ℕ, zero, suc, _+_, _-_, _*_, _^_, _≤_, _<_}
+use lib.ListN.{length}
+use Rattle.sets.specs.Bits.{withOf}
+use Rattle.fields.specs.RecordField.{fieldAt, Within}
+use Rattle.layout_record.proofs.NumberFields.{next-missing, next-there}
+use Rattle.layout_record.proofs.NumberFields.{next-missing, next-there}
+use Rattle.layout_record.proofs.NumberFields.{next-missing, next-there}
+use Rattle.layout_record.proofs.NumberFields.{next-missing, next-there}
+use Rattle.layout_record.proofs.head.next_field.Statement.{statement}
+use Rattle.layout_record.proofs.head.next_field.Tie as tie
+
+returns : tie.Need-returns
+returns c = let a = c .before .before .args in (sym (next-missing (a .bytes .now) (a .at) (a .tag) (a .exact) (c .if1 .taken)), tt)
+
+with-requires : tie.Need-with-requires
+with-requires c κs = search needs
+
+field-at-requires : tie.Need-field-at-requires
+field-at-requires c κs = search needs
+
+returns-2 : tie.Need-returns-2
+returns-2 c =
+    let a = c .before .before .before .before .args in
+    let w = c .before .with .ensures in
+    let s = a .bytes .now in (
+      c .field-at .ensures .0 ∙ (ap (λ (m : ℕ). fieldAt s (a .at) m (a .exact)) w ∙ sym (next-there s (a .at) (a .tag) (a .exact) (c .before .before .if1 .left))),
+      subst (λ (m : ℕ). Within (length s) (a .at) m (a .exact) (c .field-at .result)) w (c .field-at .ensures .1),
+    )
+
+pub next-field-spec : {M : Type 1} → statement M
+next-field-spec = tie.close (tie.spec returns with-requires field-at-requires returns-2)

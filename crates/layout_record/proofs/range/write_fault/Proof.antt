@@ -1,0 +1,87 @@
+-- `layout_record::range::write_fault` meets its contract: the tests stand in the order of the faults.
+-- Assumes nothing.
+use borrow.Author.Needs.{needs}
+use native.Mathlib.Omega.{arith}
+use Prim.Native.Nat.{ℕ, zero, suc, _+_, _-_, _*_, _^_, _≤_, _<_}
+use mathlib.Core.Path.{_≡_, refl, sym, ap, ap₂, _∙_, subst}
+use lib.ListN.{length}
+use mathlib.Core.Bool.{true}
+use borrow.Author.Tests.{not-true, not-false}
+use Rattle.cluster.specs.Limits.{layoutCells}
+use Rattle.layout_record.specs.RecordLayout.{InRange, recordLength}
+use Rattle.layout_record.specs.RecordLayoutFaults.{numbersFit, rowsFit}
+use Rattle.layout_record.proofs.RowFaults.{fit-range, write-cells, write-numbers, write-rows, write-room, write-none}
+use Rattle.layout_record.proofs.RowFaults.{fit-range, write-cells, write-numbers, write-rows, write-room, write-none}
+use Rattle.layout_record.proofs.RowFaults.{fit-range, write-cells, write-numbers, write-rows, write-room, write-none}
+use Rattle.layout_record.proofs.range.write_fault.Statement.{statement}
+use Rattle.layout_record.proofs.range.write_fault.Tie as tie
+
+-- What the tests leave: the numbers are in range, the rows fit.
+fit : (c : tie.Else2) → numbersFit (c .before .before .before .before .args .numbers) ≡ true
+fit c = let r = c .before .in-range in sym (r .ensures) ∙ not-false (r .result) (c .if2 .left)
+
+ranges : (c : tie.Else2) → InRange (c .before .before .before .before .args .numbers)
+ranges c = fit-range (c .before .before .before .before .args .numbers) (fit c)
+
+right : (c : tie.Else3) → let a = c .before .before .before .before .before .before .before .args in rowsFit (a .cells .now) (2 ^ (a .numbers .bits)) (a .numbers .replication) ≡ true
+right c =
+    let a = c .before .before .before .before .before .before .before .args in
+    let r = c .before .rows-fit in
+    ap (λ (k : ℕ). rowsFit (a .cells .now) k (a .numbers .replication)) (sym (c .before .before .partitions .ensures)) ∙ (sym (r .ensures) ∙ not-false (r .result) (c .if3 .left))
+
+returns : tie.Need-returns
+returns c = let a = c .before .before .args in sym (write-cells (a .numbers) (a .cells .now) (a .room) (c .if1 .taken))
+
+in-range-requires : tie.Need-in-range-requires
+in-range-requires c κs = search needs
+
+returns-2 : tie.Need-returns-2
+returns-2 c =
+    let k = c .before in
+    let a = k .before .before .before .args in
+    sym (write-numbers (a .numbers) (a .cells .now) (a .room) (omega arith) (sym (k .in-range .ensures) ∙ not-true (k .in-range .result) (c .if2 .taken)))
+
+partitions-requires : tie.Need-partitions-requires
+partitions-requires c κs = ranges c .bits
+
+rows-fit-requires : tie.Need-rows-fit-requires
+rows-fit-requires c κs = (omega arith, ranges (c .before) .replication .1)
+
+returns-3 : tie.Need-returns-3
+returns-3 c =
+    let e = c .before .before .before in
+    let a = e .before .before .before .before .args in
+    let r = c .before .rows-fit in
+    sym (write-rows (a .numbers) (a .cells .now) (a .room) (omega arith) (fit e)
+    (ap (λ (k : ℕ). rowsFit (a .cells .now) k (a .numbers .replication)) (sym (c .before .before .partitions .ensures)) ∙ (sym (r .ensures) ∙ not-true (r .result) (c .if3 .taken))))
+
+record-length-requires : tie.Need-record-length-requires
+record-length-requires c κs = let r = ranges (c .before .before .before) in (r .bits, r .replication .1)
+
+returns-4 : tie.Need-returns-4
+returns-4 c =
+    let j = c .before .before in
+    let e = j .before .before .before in
+    let a = e .before .before .before .before .args in
+    sym (write-room (a .numbers) (a .cells .now) (a .room) (omega arith) (fit e) (right j) (omega (arith, c .before .record-length .ensures)))
+
+returns-5 : tie.Need-returns-5
+returns-5 c =
+    let j = c .before .before in
+    let e = j .before .before .before in
+    let a = e .before .before .before .before .args in
+    sym (write-none (a .numbers) (a .cells .now) (a .room) (omega arith) (fit e) (right j) (omega (arith, c .before .record-length .ensures)))
+
+pub write-fault-spec : {M : Type 1} → statement M
+write-fault-spec =
+    tie.close
+    (tie.spec
+    returns
+    in-range-requires
+    returns-2
+    partitions-requires
+    rows-fit-requires
+    returns-3
+    record-length-requires
+    returns-4
+    returns-5)

@@ -1,0 +1,52 @@
+-- `layout_record::rows::ended` meets its contract.
+-- Assumes nothing.
+use borrow.Author.Needs.{needs}
+use native.Mathlib.Omega.{arith}
+use mathlib.Core.Path.{_≡_, refl, sym, ap, ap₂, _∙_, subst}
+use Prim.Native.Nat.{ℕ, zero, suc, _+_, _-_, _*_, _^_, _≤_, _<_}
+use Rattle.cluster.specs.Terms.{Layout}
+use Rattle.fields.specs.RecordField.{fieldAt, refusalOf, placeOf}
+use Rattle.layout_record.specs.RecordLayoutFaults.{refusedAt, endIn}
+use Rattle.layout_record.specs.RecordLayoutAnswer.{answerOf}
+use Rattle.layout_record.proofs.RowFaults.{end-whole, end-more}
+use Rattle.layout_record.proofs.RowFaults.{end-whole, end-more}
+use Rattle.layout_record.proofs.RowFaults.{end-whole, end-more}
+use Rattle.layout_record.proofs.RowFaults.{end-whole, end-more}
+use Rattle.layout_record.proofs.rows.ended.Statement.{statement}
+use Rattle.layout_record.proofs.rows.ended.Tie as tie
+
+returns : tie.Need-returns
+unfolding answerOf
+returns c = let a = c .before .before .args in λ (L : Layout). sym (ap answerOf (end-whole (a .bytes .now) (a .at) (a .numbers) L (c .if1 .taken)))
+
+field-at-requires : tie.Need-field-at-requires
+field-at-requires c κs = search needs
+
+refusal-of-requires : tie.Need-refusal-of-requires
+refusal-of-requires c κs = search needs
+
+place-of-requires : tie.Need-place-of-requires
+place-of-requires c κs = search needs
+
+refused-requires : tie.Need-refused-requires
+refused-requires c κs = search needs
+
+returns-2 : tie.Need-returns-2
+returns-2 c =
+    let k = c .before .before .before in
+    let a = k .before .before .before .args in
+    λ (L : Layout). c .refused .ensures
+    ∙ (ap₂ (λ (x y : ℕ). answerOf (refusedAt x y)) (c .before .before .refusal-of .ensures ∙ ap refusalOf (k .field-at .ensures .0))
+    (c .before .place-of .ensures ∙ ap placeOf (k .field-at .ensures .0))
+    ∙ sym (ap answerOf (end-more (a .bytes .now) (a .at) (a .numbers) L (k .before .if1 .left))))
+
+pub ended-spec : {M : Type 1} → statement M
+ended-spec =
+    tie.close
+    (tie.spec
+    returns
+    field-at-requires
+    refusal-of-requires
+    place-of-requires
+    refused-requires
+    returns-2)

@@ -1,0 +1,69 @@
+-- `layout_record::write::put_record` meets its contract: the numbers, and then the rows.
+-- Assumes nothing.
+use borrow.Author.Needs.{needs}
+use native.Mathlib.Omega.{arith}
+use Prim.Native.Nat.{ℕ, zero, suc, _+_, _-_, _*_, _^_, _≤_, _<_}
+use mathlib.Core.Path.{_≡_, refl, sym, ap, ap₂, _∙_, subst}
+use lib.ListN.{length}
+use Rattle.cluster.specs.TermsCells.{rowsIn}
+use Rattle.fields.specs.RecordField.{over}
+use Rattle.fields.proofs.Written.{length-written}
+use Rattle.layout_record.specs.RecordLayout.{numberFields, layoutRecord, InRange}
+use Rattle.layout_record.specs.RecordLayoutFaults.{rowsFit}
+use Rattle.layout_record.proofs.RowFaults.{few-partitions, fit-range, Writable, no-fault}
+use Rattle.layout_record.proofs.PutRows.{head-room, rows-room, whole-room, put-whole}
+use Rattle.layout_record.proofs.write.put_record.Statement.{statement}
+use Rattle.layout_record.proofs.write.put_record.Tie as tie
+
+-- The record can be written.
+can : (c : tie.Start) → Writable (c .args .numbers) (c .args .cells .now) (length (c .args .out .now))
+can c = no-fault (c .args .numbers) (c .args .cells .now) (length (c .args .out .now)) (c .pre)
+
+ranges : (c : tie.Start) → InRange (c .args .numbers)
+ranges c = fit-range (c .args .numbers) (can c .fit)
+
+put-numbers-requires : tie.Need-put-numbers-requires
+put-numbers-requires c κs = let k = c .before .before .before in omega (arith, head-room (k .args .numbers) (k .args .cells .now) (length (k .args .out .now)) (can k))
+
+partitions-requires : tie.Need-partitions-requires
+partitions-requires c κs = ranges (c .before .before .before .before .before .before .before) .bits
+
+cast-put-rows : tie.Need-cast-put-rows
+cast-put-rows c = search needs
+
+put-rows-requires : tie.Need-put-rows-requires
+put-rows-requires c κs =
+    let n = c .before .before .before .before .before in
+    let k = n .before .before .before .before in
+    let a = k .args in
+    let e = c .before .partitions .ensures in (
+      omega (arith, rows-room (a .numbers) (a .cells .now) (length (a .out .now)) _ e (can k), ap length (n .put-numbers .ensures) ∙ length-written (a .out .now) 0 (numberFields (a .numbers))),
+      omega (arith, can k .whole),
+      omega (arith, e, few-partitions (a .numbers .bits) (ranges k .bits)),
+      ranges k .replication .1,
+      ap (λ (p : ℕ). rowsFit (a .cells .now) p (a .numbers .replication)) e ∙ can k .rows,
+    )
+
+same-length : tie.Need-same-length
+same-length c = search needs
+
+returns : tie.Need-returns
+returns c =
+    let r = c .before .before in
+    let e = r .before .before .partitions .ensures in
+    let n = r .before .before .before .before .before .before in
+    let k = n .before .before .before .before in
+    let a = k .args in
+    put-whole (a .out .now) _ _ (a .numbers) (rowsIn _ (a .cells .now)) (n .put-numbers .ensures) (r .put-rows .ensures) (whole-room (a .numbers) (a .cells .now) (length (a .out .now)) _ e (can k))
+    ∙ ap (λ (p : ℕ). over (layoutRecord (a .numbers) (rowsIn p (a .cells .now))) (a .out .now)) e
+
+pub put-record-spec : {M : Type 1} → statement M
+put-record-spec =
+    tie.close
+    (tie.spec
+    put-numbers-requires
+    partitions-requires
+    cast-put-rows
+    put-rows-requires
+    same-length
+    returns)

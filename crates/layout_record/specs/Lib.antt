@@ -1,0 +1,4 @@
+pub mod ReadingParts
+pub mod RecordLayout
+pub mod RecordLayoutAnswer
+pub mod RecordLayoutFaults

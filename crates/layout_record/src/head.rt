@@ -1,0 +1,170 @@
+// Reading the fields before the rows: one number each.
+ghost use mathlib.Core.Path.{_≡_};
+ghost use mathlib.Core.Logic.{_⊎_};
+ghost use lib.ListN.{length};
+ghost use Rattle.sets.specs.Bits.{withOf};
+ghost use Rattle.fields.specs.RecordField.{numberAt, Within};
+ghost use Rattle.layout_record.specs.ReadingParts.{Narrow, haltedBy, haltOf, haltAt};
+ghost use Rattle.layout_record.specs.RecordLayoutFaults.{nextField, numberIn, headIn};
+use super::Numbers;
+use cluster::Cluster;
+use cluster::refusal;
+use fields::Field;
+
+// What a field with a number says: the number and the byte after the field, or a refusal with its byte.
+pub enum Number {
+    Value { value: u32, end: usize },
+    Stopped { refusal: u32, byte: usize },
+}
+
+// What the fields before the rows say: the numbers and the byte after them, or a refusal with its byte.
+pub enum Head {
+    Read { numbers: Numbers, end: usize },
+    Halted { refusal: u32, byte: usize },
+}
+
+// The field at a byte, which must have this tag; the record must not end there.
+pub fn next_field(bytes: &[u8], at: usize, tag: u32, exact: usize) -> Field
+    ensures { λ r. ⌜ (r ≡ nextField (now (bytes .entry)) at tag exact) × Within (length (now (bytes .entry))) at (withOf 0 tag) exact r ⌝ }
+{
+    if bytes.len() <= at {
+        return Field::Refused {
+            refusal: refusal::MISSING,
+            at: bytes.len(),
+        };
+    }
+    fields::field_at(bytes, at, sets::with(0, tag), exact)
+}
+
+// The number in a body of one, two or four bytes.
+fn number_at(bytes: &[u8], start: usize, len: usize) -> u32
+    requires { ⌜ (len ≡ 1) ⊎ ((len ≡ 2) ⊎ (len ≡ 4)) ⌝ }
+    ensures { λ r. ⌜ r ≡ numberAt (now (bytes .entry)) start len ⌝ }
+{
+    if len == 1 {
+        return fields::byte_at(bytes, start);
+    }
+    if len == 2 {
+        return fields::pair_at(bytes, start);
+    }
+    fields::word_at(bytes, start)
+}
+
+// The number in the field at a byte, from `least` to `most`.
+fn number_in(bytes: &[u8], at: usize, tag: u32, least: u32, most: u32) -> Number
+    requires { ⌜ Narrow tag ⌝ }
+    ensures { λ r. ⌜ r ≡ numberIn (now (bytes .entry)) at tag least most ⌝ }
+{
+    let f = next_field(bytes, at, tag, 0);
+    let Field::Body { tag: _, start, len } = f else {
+        return Number::Stopped {
+            refusal: fields::refusal_of(f),
+            byte: fields::place_of(f),
+        };
+    };
+    let value = number_at(bytes, start, len);
+    if value < least {
+        return Number::Stopped {
+            refusal: refusal::RANGE,
+            byte: at,
+        };
+    }
+    if most < value {
+        return Number::Stopped {
+            refusal: refusal::RANGE,
+            byte: at,
+        };
+    }
+    Number::Value {
+        value,
+        end: start + len,
+    }
+}
+
+// The refusal of a field that has no number.
+fn halted(n: Number) -> Head
+    ensures { λ r. ⌜ r ≡ haltedBy n ⌝ }
+{
+    match n {
+        Number::Value { value: _, end: _ } => Head::Halted {
+            refusal: 0,
+            byte: 0,
+        },
+        Number::Stopped { refusal, byte } => Head::Halted { refusal, byte },
+    }
+}
+
+// The refusal of a head; 0 where it was read.
+pub fn refusal_of(h: Head) -> u32
+    ensures { λ r. ⌜ r ≡ haltOf h ⌝ }
+{
+    match h {
+        Head::Read { numbers: _, end: _ } => 0,
+        Head::Halted { refusal, byte: _ } => refusal,
+    }
+}
+
+// The byte given with the refusal of a head; 0 where it was read.
+pub fn place_of(h: Head) -> usize
+    ensures { λ r. ⌜ r ≡ haltAt h ⌝ }
+{
+    match h {
+        Head::Read { numbers: _, end: _ } => 0,
+        Head::Halted { refusal: _, byte } => byte,
+    }
+}
+
+// Reads the fields before the rows, one after the other.
+pub fn read_head(bytes: &[u8]) -> Head
+    ensures { λ r. ⌜ r ≡ headIn (now (bytes .entry)) ⌝ }
+{
+    let first = number_in(bytes, 0, 1, 0, Cluster::BITS);
+    let Number::Value { value: bits, end } = first else {
+        return halted(first);
+    };
+    let second = number_in(bytes, end, 2, 1, Cluster::REPLICATION);
+    let Number::Value {
+        value: replication,
+        end,
+    } = second
+    else {
+        return halted(second);
+    };
+    let third = number_in(bytes, end, 6, 1, Numbers::SIZE);
+    let Number::Value { value: size, end } = third else {
+        return halted(third);
+    };
+    let fourth = number_in(bytes, end, 7, 0, Numbers::DISTANCE);
+    let Number::Value {
+        value: distance,
+        end,
+    } = fourth
+    else {
+        return halted(fourth);
+    };
+    let fifth = number_in(bytes, end, 8, 0, Numbers::VERDICT);
+    let Number::Value {
+        value: verdict,
+        end,
+    } = fifth
+    else {
+        return halted(fifth);
+    };
+    let sixth = number_in(bytes, end, 9, 0, Numbers::IMPROVEMENTS);
+    let Number::Value {
+        value: improvements,
+        end,
+    } = sixth
+    else {
+        return halted(sixth);
+    };
+    let numbers = Numbers {
+        bits,
+        replication,
+        size,
+        distance,
+        verdict,
+        improvements,
+    };
+    Head::Read { numbers, end }
+}

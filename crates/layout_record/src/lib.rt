@@ -1,0 +1,107 @@
+// Layout records, read and written: the numbers of a layout and its rows.
+ghost use mathlib.Core.Path.{_≡_};
+ghost use Rattle.layout_record.specs.RecordLayoutFaults.{noNumbers, refusedAt};
+ghost use Rattle.layout_record.specs.RecordLayoutAnswer.{answerOf, readAnswer, assignmentAfter, writeAnswer, outAfter};
+use cluster::Cluster;
+use cluster::refusal;
+
+mod head;
+mod ids;
+mod range;
+mod rows;
+mod write;
+
+// The numbers of a layout record.
+pub struct Numbers {
+    pub bits: u32,
+    pub replication: u32,
+    pub size: u32,
+    pub distance: u32,
+    pub verdict: u32,
+    pub improvements: u32,
+}
+
+impl Numbers {
+    // The largest size.
+    pub const SIZE: u32 = 4294967295;
+    // The largest distance.
+    pub const DISTANCE: u32 = 4096;
+    // The larger verdict: 1 finished, 0 stopped.
+    pub const VERDICT: u32 = 1;
+    // The most improvements.
+    pub const IMPROVEMENTS: u32 = 2048;
+
+    // The numbers of a refused reading.
+    pub fn none() -> Numbers
+        ensures { λ r. ⌜ r ≡ noNumbers ⌝ }
+    {
+        Numbers {
+            bits: 0,
+            replication: 0,
+            size: 0,
+            distance: 0,
+            verdict: 0,
+            improvements: 0,
+        }
+    }
+}
+
+// What reading yields: the refusal, 0 for none, with its byte, and the numbers.
+pub struct ReadLayout {
+    pub refusal: u32,
+    pub byte: usize,
+    pub numbers: Numbers,
+}
+
+// What writing yields: the refusal, 0 for none, and the record's length.
+pub struct Written {
+    pub refusal: u32,
+    pub length: usize,
+}
+
+// A refused reading yields no numbers.
+fn refused(refusal: u32, byte: usize) -> ReadLayout
+    ensures { λ r. ⌜ r ≡ answerOf (refusedAt refusal byte) ⌝ }
+{
+    ReadLayout {
+        refusal,
+        byte,
+        numbers: Numbers::none(),
+    }
+}
+
+// Reads a layout record. The layout goes into the first 2,048 lent cells, all of them or, where the reading is refused,
+// none.
+pub fn read_layout(bytes: &[u8], assignment: &mut [u32]) -> ReadLayout
+    ensures { λ r. ⌜ (r ≡ readAnswer (now (bytes .entry)) (now (assignment .entry)))
+        × (now (assignment .exit) ≡ assignmentAfter (now (bytes .entry)) (now (assignment .entry))) ⌝ }
+{
+    if assignment.len() < Cluster::CELLS {
+        return refused(refusal::BUFFER, 0);
+    }
+    let mut cells = [0u32; Cluster::CELLS];
+    let r = rows::read_into(bytes, &mut cells);
+    if r.refusal == 0 {
+        rows::copy_cells(&cells, assignment);
+    }
+    r
+}
+
+// Writes a layout record to the front of the lent bytes, or nothing where it is refused; answers its length.
+pub fn write_layout(numbers: Numbers, assignment: &[u32], out: &mut [u8]) -> Written
+    ensures { λ r. ⌜ (r ≡ writeAnswer numbers (now (assignment .entry)) (now (out .entry)))
+        × (now (out .exit) ≡ outAfter numbers (now (assignment .entry)) (now (out .entry))) ⌝ }
+{
+    let fault = range::write_fault(numbers, assignment, out.len());
+    if fault != 0 {
+        return Written {
+            refusal: fault,
+            length: 0,
+        };
+    }
+    write::put_record(numbers, assignment, out);
+    Written {
+        refusal: 0,
+        length: range::record_length(numbers.bits, numbers.replication),
+    }
+}

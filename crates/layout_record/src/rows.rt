@@ -1,0 +1,110 @@
+// Reading the rows of a layout record into cells.
+ghost use mathlib.Core.Path.{_≡_};
+ghost use mathlib.Core.List.{[], _++_};
+ghost use Prim.Native.Nat.{_+_, _*_, _^_, _≤_};
+ghost use lib.ListN.{length, drop, replicate};
+ghost use Rattle.cluster.specs.Limits.{mostBits, mostCopies, layoutCells};
+ghost use Rattle.cluster.specs.Terms.{Layout};
+ghost use Rattle.cluster.specs.TermsCells.{cellsOf};
+ghost use Rattle.fields.specs.RecordField.{numberAt};
+ghost use Rattle.layout_record.specs.RecordLayoutFaults.{idsAt, rowFault, endIn, rowsFrom, readLayout};
+ghost use Rattle.layout_record.specs.RecordLayoutAnswer.{answerOf};
+use super::Numbers;
+use super::ReadLayout;
+use super::head;
+use super::head::Head;
+use super::ids;
+use super::range;
+use super::refused;
+use cluster::Cluster;
+use cluster::refusal;
+use fields::Field;
+
+// The fault of a row whose body begins at byte `start`: a value outside its range, then a row that is not the next or
+// ids that do not rise; 0 where there is none.
+fn row_fault(bytes: &[u8], start: usize, partitions: usize, next: usize, count: usize) -> u32
+    requires { ⌜ start + 2 + 4 * count ≤ length (now bytes) ⌝ }
+    ensures { λ r. ⌜ r ≡ rowFault partitions next (numberAt (now (bytes .entry)) start 2) (idsAt (now (bytes .entry)) (start + 2) count) ⌝ }
+{
+    let partition = fields::pair_at(bytes, start) as usize;
+    if partitions <= partition {
+        return refusal::RANGE;
+    }
+    if ids::has_zero(bytes, start + 2, count) {
+        return refusal::RANGE;
+    }
+    if partition != next {
+        return refusal::ORDER;
+    }
+    if ids::ids_rise(bytes, start + 2, count) {
+        0
+    } else {
+        refusal::ORDER
+    }
+}
+
+// What is said after the last row: no field is allowed there.
+fn ended(bytes: &[u8], at: usize, numbers: Numbers) -> ReadLayout
+    ensures { λ r. ⌜ ((L : Layout) → r ≡ answerOf (endIn (now (bytes .entry)) at numbers L)) ⌝ }
+{
+    if bytes.len() <= at {
+        return ReadLayout {
+            refusal: 0,
+            byte: 0,
+            numbers,
+        };
+    }
+    let f = fields::field_at(bytes, at, 0, 0);
+    refused(fields::refusal_of(f), fields::place_of(f))
+}
+
+// Reads the rows from byte `from` on into cells that are zero.
+fn read_rows(bytes: &[u8], from: usize, numbers: Numbers, cells: &mut [u32]) -> ReadLayout
+    requires { ⌜ (numbers .bits ≤ mostBits) × (1 ≤ numbers .replication) × (numbers .replication ≤ mostCopies) × (now cells ≡ cellsOf []) ⌝ }
+    ensures { λ r. ⌜ (r ≡ answerOf (rowsFrom (2 ^ (numbers .bits)) (now (bytes .entry)) from numbers []))
+        × (r .refusal ≡ 0 → now (cells .exit) ≡ cellsOf (rowsFrom (2 ^ (numbers .bits)) (now (bytes .entry)) from numbers [] .layout)) ⌝ }
+{
+    let partitions = range::partitions(numbers.bits);
+    let count = numbers.replication as usize;
+    let mut at = from;
+    let mut next = 0;
+    while next < partitions {
+        let f = head::next_field(bytes, at, 10, 2 + 4 * count);
+        let Field::Body { tag: _, start, len } = f else {
+            return refused(fields::refusal_of(f), fields::place_of(f));
+        };
+        let fault = row_fault(bytes, start, partitions, next, count);
+        if fault != 0 {
+            return refused(fault, at);
+        }
+        ids::put_ids(cells, bytes, next, start + 2, count);
+        at = start + len;
+        next += 1;
+    }
+    ended(bytes, at, numbers)
+}
+
+// Reads a record into cells that are zero.
+pub fn read_into(bytes: &[u8], cells: &mut [u32]) -> ReadLayout
+    requires { ⌜ now cells ≡ replicate layoutCells 0 ⌝ }
+    ensures { λ r. ⌜ (r ≡ answerOf (readLayout (now (bytes .entry))))
+        × (r .refusal ≡ 0 → now (cells .exit) ≡ cellsOf (readLayout (now (bytes .entry)) .layout)) ⌝ }
+{
+    let h = head::read_head(bytes);
+    let Head::Read { numbers, end } = h else {
+        return refused(head::refusal_of(h), head::place_of(h));
+    };
+    read_rows(bytes, end, numbers, cells)
+}
+
+// Copies the cells of a layout to the front of a lent buffer.
+pub fn copy_cells(cells: &[u32], to: &mut [u32])
+    requires { ⌜ (length (now cells) ≡ layoutCells) × (layoutCells ≤ length (now to)) ⌝ }
+    ensures { λ _. ⌜ now (to .exit) ≡ now (cells .entry) ++ drop layoutCells (now (to .entry)) ⌝ }
+{
+    let mut i = 0;
+    while i < Cluster::CELLS {
+        to[i] = cells[i];
+        i += 1;
+    }
+}

@@ -1,0 +1,105 @@
+// Writing a layout record, from front to back, where it fits.
+ghost use mathlib.Core.Path.{_≡_};
+ghost use mathlib.Core.Bool.{true};
+ghost use mathlib.Core.List.{_++_};
+ghost use mathlib.Core.Logic.{_⊎_};
+ghost use Prim.Native.Nat.{_+_, _*_, _^_, _≤_, _<_};
+ghost use lib.ListN.{length, take, drop};
+ghost use Rattle.cluster.specs.Limits.{mostBits, mostCopies, rowCells, bufferRows, layoutCells};
+ghost use Rattle.cluster.specs.TermsCells.{rowAt, rowsIn};
+ghost use Rattle.fields.specs.RecordField.{bytesOf, written, over, field};
+ghost use Rattle.layout_record.specs.RecordLayout.{numberFields, idBytes, rowField, rowFields, layoutRecord};
+ghost use Rattle.layout_record.specs.RecordLayoutFaults.{rowsFit, writeFault};
+use super::Numbers;
+use super::range;
+use cluster::Cluster;
+
+// Puts the tag and the length of a field.
+fn put_head(out: &mut [u8], at: usize, tag: u32, len: usize)
+    requires { ⌜ (at + 3 ≤ length (now out)) × (len < 65536) ⌝ }
+    ensures { λ _. ⌜ now (out .exit) ≡ written (now (out .entry)) at (bytesOf 1 tag ++ bytesOf 2 len) ⌝ }
+{
+    fields::put_byte(out, at, tag);
+    fields::put_pair(out, at + 1, len as u32);
+}
+
+// Puts a field of one number of one, two or four bytes.
+fn put_number(out: &mut [u8], at: usize, tag: u32, width: usize, value: u32)
+    requires { ⌜ (at + 3 + width ≤ length (now out)) × (tag < 256) × ((width ≡ 1) ⊎ ((width ≡ 2) ⊎ (width ≡ 4))) ⌝ }
+    ensures { λ _. ⌜ now (out .exit) ≡ written (now (out .entry)) at (field tag (bytesOf width value)) ⌝ }
+{
+    put_head(out, at, tag, width);
+    if width == 1 {
+        fields::put_byte(out, at + 3, value);
+        return;
+    }
+    if width == 2 {
+        fields::put_pair(out, at + 3, value);
+        return;
+    }
+    fields::put_word(out, at + 3, value);
+}
+
+// Puts the fields before the rows.
+fn put_numbers(out: &mut [u8], n: Numbers)
+    requires { ⌜ 29 ≤ length (now out) ⌝ }
+    ensures { λ _. ⌜ now (out .exit) ≡ written (now (out .entry)) 0 (numberFields n) ⌝ }
+{
+    put_number(out, 0, 1, 1, n.bits);
+    put_number(out, 4, 2, 1, n.replication);
+    put_number(out, 8, 6, 4, n.size);
+    put_number(out, 15, 7, 2, n.distance);
+    put_number(out, 20, 8, 1, n.verdict);
+    put_number(out, 24, 9, 2, n.improvements);
+}
+
+// Puts the ids in the cells from `from` on, four bytes each.
+fn put_ids(out: &mut [u8], at: usize, cells: &[u32], from: usize, count: usize)
+    requires { ⌜ (at + 4 * count ≤ length (now out)) × (from + count ≤ length (now cells)) ⌝ }
+    ensures { λ _. ⌜ now (out .exit) ≡ written (now (out .entry)) at (idBytes (take count (drop from (now (cells .entry))))) ⌝ }
+{
+    let mut j = 0;
+    while j < count {
+        fields::put_word(out, at + 4 * j, cells[from + j]);
+        j += 1;
+    }
+}
+
+// Puts the field of a row.
+fn put_row(out: &mut [u8], at: usize, cells: &[u32], p: usize, count: usize)
+    requires { ⌜ (at + 5 + 4 * count ≤ length (now out)) × (layoutCells ≤ length (now cells)) × (p < bufferRows) × (count ≤ mostCopies) ⌝ }
+    ensures { λ _. ⌜ now (out .exit) ≡ written (now (out .entry)) at (rowField p (take count (rowAt (now (cells .entry)) p))) ⌝ }
+{
+    put_head(out, at, 10, 2 + 4 * count);
+    fields::put_pair(out, at + 3, p as u32);
+    put_ids(out, at + range::ROW, cells, p * Cluster::ROW, count);
+}
+
+// Puts the fields of the rows after those of the numbers.
+fn put_rows(out: &mut [u8], cells: &[u32], partitions: usize, count: usize)
+    requires { ⌜ (29 + partitions * (5 + 4 * count) ≤ length (now out)) × (layoutCells ≤ length (now cells)) × (partitions ≤ bufferRows)
+        × (count ≤ mostCopies) × (rowsFit (now cells) partitions count ≡ true) ⌝ }
+    ensures { λ _. ⌜ now (out .exit) ≡ written (now (out .entry)) 29 (rowFields 0 (rowsIn partitions (now (cells .entry)))) ⌝ }
+{
+    let mut at = range::HEAD;
+    let mut p = 0;
+    while p < partitions {
+        put_row(out, at, cells, p, count);
+        at += range::ROW + 4 * count;
+        p += 1;
+    }
+}
+
+// Puts a record without fault.
+pub fn put_record(numbers: Numbers, cells: &[u32], out: &mut [u8])
+    requires { ⌜ writeFault numbers (now cells) (length (now out)) ≡ 0 ⌝ }
+    ensures { λ _. ⌜ now (out .exit) ≡ over (layoutRecord numbers (rowsIn (2 ^ (numbers .bits)) (now (cells .entry)))) (now (out .entry)) ⌝ }
+{
+    put_numbers(out, numbers);
+    put_rows(
+        out,
+        cells,
+        range::partitions(numbers.bits),
+        numbers.replication as usize,
+    );
+}

@@ -1,0 +1,104 @@
+-- What it means that a row or a node has no fault.
+-- Assumes nothing.
+use Prim.Native.Nat.{ℕ, _*_, _≤_, _<_}
+use mathlib.Core.Path.{_≡_, refl, sym, ap, _∙_}
+use mathlib.Core.Bool.{Bool, true, false, _&&_}
+use mathlib.Core.List.{List}
+use native.Mathlib.Omega.{arith}
+use lib.Dec.{ltb, eqb}
+use lib.ListN.{length}
+use borrow.Author.Tests.{lt-ltb, le-ltb, ltb-false, eq-eqb, eqb-true}
+use Rattle.sums.specs.Sum.{pick}
+use Rattle.cluster.specs.Limits.{bufferRows}
+use Rattle.cluster.specs.Terms.{Topology, partitions, nodeAt, idsOf, zonesOf, Layout, copiesIn, ValidRow}
+use Rattle.cluster.specs.TermsCells.{rowAt, idsIn, blank, formed}
+use Rattle.cluster.specs.Faults.{Accepted}
+use Rattle.cluster.proofs.CellRows.{both, formed-rising}
+use Rattle.layouts.specs.TermsCheck.{fault, allIn, rightIds, rowFault, rowsFault, nodeFault}
+use Rattle.layouts.proofs.Sound.{few-rows}
+use Rattle.layouts.proofs.RowFaults.{all-mem, mem-all}
+use Rattle.layouts.proofs.CheckOrder.{none-found}
+
+-- What the right ids are.
+pub right-parts : (t : Topology) (r : List ℕ) → rightIds t r ≡ true
+    → (formed r ≡ true) × (length (idsIn r) ≡ t .replication) × (allIn (idsIn r) (idsOf (t .nodes)) ≡ true)
+unfolding rightIds
+right-parts t r e =
+    let a = both (formed r && eqb (length (idsIn r)) (t .replication)) (allIn (idsIn r) (idsOf (t .nodes))) e in
+    let b = both (formed r) (eqb (length (idsIn r)) (t .replication)) (a .0) in
+    (b .0, eqb-true (length (idsIn r)) (t .replication) (b .1), a .1)
+
+-- A row of the first P without fault is rising ids followed by zeros, and these are a valid row.
+pub own-row : (t : Topology) (cells : List ℕ) (p : ℕ) → p < partitions t → rowFault t cells p ≡ 0
+    → (formed (rowAt cells p) ≡ true) × ValidRow t (idsIn (rowAt cells p))
+unfolding rowFault
+own-row t cells p h e =
+    go (rightIds t r) refl (ltb (zonesOf (t .nodes) (idsIn r)) (t .redundancy)) refl
+    (sym (ap (λ (b : Bool). pick b (pick (rightIds t r) (pick (ltb (zonesOf (t .nodes) (idsIn r)) (t .redundancy)) 11 0) 10) (pick (blank r) 0 10)) (lt-ltb p (partitions t) h)) ∙ e)
+  where
+    r : List ℕ
+    r = rowAt cells p
+
+    go : (a : Bool) → rightIds t r ≡ a → (b : Bool) → ltb (zonesOf (t .nodes) (idsIn r)) (t .redundancy) ≡ b → _≡_ {A = ℕ} (pick a (pick b 11 0) 10) 0
+        → (formed r ≡ true) × ValidRow t (idsIn r)
+    go false q b z k = absurd (omega arith)
+    go true q true z k = absurd (omega arith)
+    go true q false z k =
+        let w = right-parts t r q in (
+          w .0,
+          record {
+            ids = formed-rising 0 r (w .0);
+            many = w .1;
+            known = all-mem (idsIn r) (idsOf (t .nodes)) (w .2);
+            zones = ltb-false (zonesOf (t .nodes) (idsIn r)) (t .redundancy) z;
+          },
+        )
+
+-- A valid row, as rising ids followed by zeros, has no fault.
+pub row-own : (t : Topology) (cells : List ℕ) (p : ℕ) → p < partitions t → formed (rowAt cells p) ≡ true → ValidRow t (idsIn (rowAt cells p))
+    → rowFault t cells p ≡ 0
+unfolding rowFault rightIds
+row-own t cells p h f v =
+    simp (
+      lt-ltb p (partitions t) h,
+      f,
+      eq-eqb (length (idsIn (rowAt cells p))) (t .replication) (v .many),
+      mem-all (idsIn (rowAt cells p)) (idsOf (t .nodes)) (v .known),
+      le-ltb (zonesOf (t .nodes) (idsIn (rowAt cells p))) (t .redundancy) (v .zones),
+    )
+
+-- A row from P on has no fault exactly where it is blank.
+pub other-row : (t : Topology) (cells : List ℕ) (p : ℕ) → partitions t ≤ p → rowFault t cells p ≡ 0 → blank (rowAt cells p) ≡ true
+unfolding rowFault
+other-row t cells p h e = go (blank (rowAt cells p)) (sym (simp (le-ltb p (partitions t) h)) ∙ e)
+  where
+    go : (b : Bool) → _≡_ {A = ℕ} (pick b 0 10) 0 → b ≡ true
+    go true q = refl
+    go false q = absurd (omega arith)
+
+pub row-other : (t : Topology) (cells : List ℕ) (p : ℕ) → partitions t ≤ p → blank (rowAt cells p) ≡ true → rowFault t cells p ≡ 0
+unfolding rowFault
+row-other t cells p h f = simp (le-ltb p (partitions t) h, f)
+
+-- A node without fault holds no more than its capacity takes.
+pub node-held : (t : Topology) (L : Layout) (size b : ℕ) → nodeFault t L size b ≡ 0 → copiesIn L (nodeAt t b .id) * size ≤ nodeAt t b .capacity
+unfolding nodeFault
+node-held t L size b e = go (ltb (nodeAt t b .capacity) (copiesIn L (nodeAt t b .id) * size)) refl e
+  where
+    go : (a : Bool) → ltb (nodeAt t b .capacity) (copiesIn L (nodeAt t b .id) * size) ≡ a → _≡_ {A = ℕ} (pick a 12 0) 0
+        → copiesIn L (nodeAt t b .id) * size ≤ nodeAt t b .capacity
+    go true q h = absurd (omega arith)
+    go false q h = ltb-false (nodeAt t b .capacity) (copiesIn L (nodeAt t b .id) * size) q
+
+pub held-node : (t : Topology) (L : Layout) (size b : ℕ) → copiesIn L (nodeAt t b .id) * size ≤ nodeAt t b .capacity → nodeFault t L size b ≡ 0
+unfolding nodeFault
+held-node t L size b h = simp (le-ltb (nodeAt t b .capacity) (copiesIn L (nodeAt t b .id) * size) h)
+
+-- Where no row has a fault, each row has none,
+pub each-row : (t : Topology) (cells : List ℕ) → rowsFault t cells .refusal ≡ 0 → (p : ℕ) → p < bufferRows → rowFault t cells p ≡ 0
+unfolding rowsFault
+each-row t cells e p l = none-found bufferRows 0 (λ q. fault (rowFault t cells q) q) e p (omega arith) (omega arith)
+
+-- and each of the first P is rising ids followed by zeros.
+pub each-formed : (t : Topology) (cells : List ℕ) → Accepted t → rowsFault t cells .refusal ≡ 0 → (p : ℕ) → p < partitions t → formed (rowAt cells p) ≡ true
+each-formed t cells a e p l = own-row t cells p l (each-row t cells e p (omega (arith, few-rows t a))) .0

@@ -1,0 +1,163 @@
+-- The turns of the walks that make the figures, over plain lists and numbers, and what the figures are made of.
+-- Assumes nothing.
+use Prim.Native.Nat.{ℕ, zero, suc, _+_, _*_, _≤_, _<_}
+use mathlib.Core.Path.{_≡_, refl, sym, ap, ap₂, _∙_}
+use mathlib.Core.Bool.{Bool}
+use mathlib.Core.List.{List, [], _∷_}
+use mathlib.Core.Logic.{⊎-elim}
+use native.Mathlib.Nat.{one-mul, zero-mul}
+use native.Mathlib.Numerals.{add-one}
+use native.Mathlib.Omega.{arith}
+use lib.Dec.{ltb, eqb}
+use lib.ListN.{length, take, getD, set, length-take, List·getD-eq-default}
+use borrow.Author.Tests.{lt-ltb, le-ltb, eq-eqb, ne-eqb}
+use Rattle.sums.specs.Sum.{sumTo, one-if, is, pick}
+use Rattle.sums.proofs.Sum.{lt-or-ge, is-eq, is-ne, sum-cong}
+use Rattle.cells.specs.Cells.{tab, put}
+use Rattle.cluster.specs.Limits.{figureCells}
+use Rattle.cluster.specs.Terms.{Topology, topology, partitions, noNode, nodeAt, mem, copiesIn, Layout}
+use Rattle.cluster.specs.TermsCells.{rowAt, idsIn, rowsIn}
+use Rattle.cluster.specs.declared.Cluster.{Cluster}
+use Rattle.cluster.specs.declared.Node.{Node}
+use Rattle.cluster.proofs.Slots.{node-slot}
+use Rattle.layouts.specs.declared.check.Checked.{Checked}
+use Rattle.layouts.specs.declared.figures.Figured.{Figured}
+use Rattle.layouts.specs.TermsCheck.{fault, checkOf}
+use Rattle.layouts.specs.TermsFigures.{nodeCopies, zoneCopies, figuresMade, hopeOf, figuresFault, figuresOf, figuresIn}
+use Rattle.layouts.specs.Scans.{copiesSoFar, zoneSum}
+use Rattle.layouts.proofs.RowWalks.{zero-unnamed}
+use Rattle.layouts.proofs.CopyWalk.{copies-more, so-far-cell}
+
+-- One term more.
+pub sum-next : (b : ℕ) (f : ℕ → ℕ) → sumTo (b + 1) f ≡ sumTo b f + f b
+unfolding sumTo
+sum-next b f = ap (λ (n : ℕ). sumTo n f) (add-one b)
+
+-- A turn of a walk that adds up.
+pub add-turn : (total more b : ℕ) (f : ℕ → ℕ) → total ≡ sumTo b f → more ≡ f b → total + more ≡ sumTo (b + 1) f
+add-turn total more b f e d = ap₂ _+_ e d ∙ sym (sum-next b f)
+
+-- The nodes in use are as many as the count says, where it is within the slots.
+pub nodes-count : (c : Cluster) → length (c .nodes) ≡ 32 → c .count ≤ 32 → length (topology c .nodes) ≡ c .count
+nodes-count c l h = omega (arith, length-take (c .count) (c .nodes))
+
+-- Equal numbers, written, give equal lists.
+pub put-cong : (b : ℕ) (f g : ℕ → ℕ) (n : ℕ) (l : List ℕ) → ((i : ℕ) → i < n → f i ≡ g i) → put b f n l ≡ put b g n l
+unfolding put
+put-cong b f g zero l h = refl
+put-cong b f g (suc n) l h = ap₂ (λ (r : List ℕ) (v : ℕ). set r (b + n) v) (put-cong b f g n l (λ i k. h i (omega arith))) (h n (omega arith))
+
+-- ---- the copies in a zone
+
+-- What node x adds to the zone of node b.
+unfoldable pub zoneTerm : Topology → List ℕ → ℕ → ℕ → ℕ
+zoneTerm t counts b x = is (nodeAt t x .zone) (nodeAt t b .zone) * getD counts x 0
+
+module _ (c : Cluster) (counts : List ℕ) (b x : ℕ) (b-used : b < c .count) (x-used : x < c .count) where
+  -- A node of the zone adds its copies.
+  pub term-same : getD (c .nodes) x noNode .zone ≡ getD (c .nodes) b noNode .zone → getD counts x 0 ≡ zoneTerm (topology c) counts b x
+  unfolding zoneTerm
+  term-same e =
+      sym
+      (ap (λ (n : ℕ). n * getD counts x 0)
+      (is-eq (ap (λ (n : Node). n .zone) (node-slot c x x-used) ∙ (e ∙ sym (ap (λ (n : Node). n .zone) (node-slot c b b-used)))))
+      ∙ one-mul (getD counts x 0))
+
+  -- Another node adds nothing.
+  pub term-other : (getD (c .nodes) x noNode .zone ≡ getD (c .nodes) b noNode .zone → ⊥) → 0 ≡ zoneTerm (topology c) counts b x
+  unfolding zoneTerm
+  term-other h =
+      sym
+      (ap (λ (n : ℕ). n * getD counts x 0)
+      (is-ne
+      (λ (e : nodeAt (topology c) x .zone ≡ nodeAt (topology c) b .zone). h
+      (sym (ap (λ (n : Node). n .zone) (node-slot c x x-used)) ∙ (e ∙ ap (λ (n : Node). n .zone) (node-slot c b b-used)))))
+      ∙ zero-mul (getD counts x 0))
+
+module _ (t : Topology) (counts : List ℕ) (b : ℕ) where
+  -- A slot that is not in use has no zone.
+  pub zone-unused : length (t .nodes) ≤ b → 0 ≡ zoneSum t counts b
+  unfolding zoneSum
+  zone-unused h = sym (simp (le-ltb b (length (t .nodes)) h))
+
+  -- The zone of a node in use.
+  pub zone-used : b < length (t .nodes) → sumTo (length (t .nodes)) (zoneTerm t counts b) ≡ zoneSum t counts b
+  unfolding zoneSum zoneTerm
+  zone-used h = sym (simp (lt-ltb b (length (t .nodes)) h))
+
+-- ---- the figures
+
+module _ (t : Topology) (cells : List ℕ) (p : ℕ) where
+  -- No row names a slot that is not in use.
+  unused-none : (q : ℕ) → copiesIn (rowsIn q cells) 0 ≡ 0
+  unfolding copiesIn rowsIn tab one-if
+  unused-none zero = refl
+  unused-none (suc q) =
+      ap (λ (n : ℕ). copiesIn (rowsIn n cells) 0) (sym (add-one q))
+      ∙ (copies-more cells q 0 ∙ ap₂ (λ (n : ℕ) (m : Bool). n + one-if m) (unused-none q) (zero-unnamed (rowAt cells q)))
+
+  -- The counts are the copies of the nodes in use, then zeros.
+  pub node-figure : (b : ℕ) → b < 32 → getD (copiesSoFar t cells p) b 0 ≡ nodeCopies t (rowsIn p cells) b
+  unfolding nodeCopies
+  node-figure b h =
+      so-far-cell t cells p b h
+      ∙ ⊎-elim (λ l. sym (ap (λ (m : Bool). pick m (copiesIn (rowsIn p cells) (nodeAt t b .id)) 0) (lt-ltb b (length (t .nodes)) l)))
+      (λ l. ap (λ (n : Node). copiesIn (rowsIn p cells) (n .id)) (List·getD-eq-default (t .nodes) noNode l)
+      ∙ (unused-none p ∙ sym (ap (λ (m : Bool). pick m (copiesIn (rowsIn p cells) (nodeAt t b .id)) 0) (le-ltb b (length (t .nodes)) l))))
+      (lt-or-ge b (length (t .nodes)))
+
+  -- The sums of the counts are the copies of the zones.
+  pub zone-figure : length (t .nodes) ≤ 32 → (b : ℕ) → zoneSum t (copiesSoFar t cells p) b ≡ zoneCopies t (rowsIn p cells) b
+  unfolding zoneSum zoneCopies
+  zone-figure few b =
+      ap (λ (n : ℕ). pick (ltb b (length (t .nodes))) n 0)
+      (sum-cong (length (t .nodes)) (λ x. is (nodeAt t x .zone) (nodeAt t b .zone) * getD (copiesSoFar t cells p) x 0)
+      (λ x. is (nodeAt t x .zone) (nodeAt t b .zone) * copiesIn (rowsIn p cells) (nodeAt t x .id))
+      (λ x l. ap (λ (n : ℕ). is (nodeAt t x .zone) (nodeAt t b .zone) * n) (so-far-cell t cells p x (omega arith))))
+
+  -- All 64 cells.
+  pub all-figures : length (t .nodes) ≤ 32 → (counts l : List ℕ) → counts ≡ copiesSoFar t cells p
+      → put 32 (zoneSum t counts) 32 (put 0 (λ b. getD counts b 0) 32 l)
+      ≡ figuresMade t (rowsIn p cells) l
+  all-figures few counts l e =
+      put-cong 32 (zoneSum t counts) (zoneCopies t (rowsIn p cells)) 32 (put 0 (λ b. getD counts b 0) 32 l)
+      (λ b h. ap (λ (k : List ℕ). zoneSum t k b) e ∙ zone-figure few b)
+      ∙ ap (put 32 (zoneCopies t (rowsIn p cells)) 32)
+      (put-cong 0 (λ b. getD counts b 0) (nodeCopies t (rowsIn p cells)) 32 l
+      (λ b h. ap (λ (k : List ℕ). getD k b 0) e ∙ node-figure b h))
+
+-- ---- the answer
+
+module _ (c : Cluster) (assignment : List ℕ) (size : ℕ) (cells : List ℕ) where
+  -- A short buffer is refused first.
+  pub short-fault : length cells < figureCells → figuresFault c assignment size cells ≡ fault 8 0
+  unfolding figuresFault
+  short-fault h = simp (lt-ltb (length cells) figureCells h)
+
+  -- Then what check refuses.
+  pub check-fault : figureCells ≤ length cells → figuresFault c assignment size cells ≡ checkOf c assignment size
+  unfolding figuresFault
+  check-fault h = simp (le-ltb (length cells) figureCells h)
+
+  -- The answer, and what the cells hold, where it is refused,
+  pub refused-answer : (f : Checked) → figuresFault c assignment size cells ≡ f → (f .refusal ≡ 0 → ⊥)
+      → (record { refusal = f .refusal; place = f .place; hope = 0 } ≡ figuresOf c assignment size cells) × (cells ≡ figuresIn c assignment size cells)
+  unfolding figuresOf figuresIn
+  refused-answer f e h =
+      let n = ap (λ (k : Checked). eqb (k .refusal) 0) e ∙ ne-eqb (f .refusal) 0 h in
+      (sym (ap (λ (k : Checked). answer k (pick (eqb (k .refusal) 0) (hopeOf (topology c)) 0)) e ∙ ap (λ (b : Bool). answer f (pick b (hopeOf (topology c)) 0)) (ne-eqb (f .refusal) 0 h)), sym (simp n))
+    where
+      answer : Checked → ℕ → Figured
+      answer k hope = record { refusal = k .refusal; place = k .place; hope = hope }
+
+  -- and where it is not.
+  pub made-answer : (f : Checked) → figuresFault c assignment size cells ≡ f → f .refusal ≡ 0
+      → (record { refusal = 0; place = f .place; hope = hopeOf (topology c) } ≡ figuresOf c assignment size cells)
+      × (figuresMade (topology c) (rowsIn (partitions (topology c)) assignment) cells ≡ figuresIn c assignment size cells)
+  unfolding figuresOf figuresIn
+  made-answer f e h =
+      let n = ap (λ (k : Checked). eqb (k .refusal) 0) e ∙ eq-eqb (f .refusal) 0 h in
+      (sym (ap (λ (k : Checked). answer (k .refusal) (k .place) (pick (eqb (k .refusal) 0) (hopeOf (topology c)) 0)) e ∙ ap (λ (r : ℕ). answer r (f .place) (pick (eqb r 0) (hopeOf (topology c)) 0)) h), sym (simp n))
+    where
+      answer : ℕ → ℕ → ℕ → Figured
+      answer r p hope = record { refusal = r; place = p; hope = hope }

@@ -1,0 +1,150 @@
+-- What the tests of a row tell: the number of its ids, of its nodes and of its zones.
+-- Assumes nothing.
+use Prim.Native.Nat.{ℕ, _+_, _*_, _≤_, _<_}
+use mathlib.Core.Path.{_≡_, refl, sym, ap, ap₂, _∙_}
+use mathlib.Core.Bool.{Bool, true, false, not, _&&_, and-false}
+use mathlib.Core.List.{List, [], _∷_}
+use mathlib.Core.Logic.{⊎-elim}
+use native.Mathlib.Omega.{arith}
+use lib.Dec.{ltb, eqb}
+use lib.ListN.{length}
+use borrow.Author.Tests.{ltb-true, lt-ltb, le-ltb, eq-eqb, ne-eqb, eqb-true}
+use Rattle.sums.specs.Sum.{sumTo, one-if, pick}
+use Rattle.sums.proofs.Sum.{eq-or-ne}
+use Rattle.sets.specs.Bits.{countOf}
+use Rattle.sets.proofs.Laws.{count-mask}
+use Rattle.cluster.specs.Limits.{bufferRows, layoutCells}
+use Rattle.cluster.specs.Terms.{Topology, partitions, nodeAt, idsOf, mem, rising, onlyIn, zonesOf}
+use Rattle.cluster.specs.TermsCells.{rowAt, idsIn, blank, formed}
+use Rattle.cluster.specs.RowScan.{hasRow, rowIds, rowIsBlank}
+use Rattle.cluster.specs.Faults.{Accepted}
+use Rattle.cluster.specs.Tie.{bitsOf}
+use Rattle.cluster.specs.Columns.{zoneCells}
+use Rattle.cluster.proofs.CellRows.{both, formed-rising}
+use Rattle.cluster.proofs.RowScans.{row-ids-formed, formed-row-ids, ill-row-ids, row-of-buffer}
+use Rattle.cluster.proofs.Lists.{test-cases, same-test, one-if-le, mem-head, mem-tail, mem-none, mem-cases, over, over-common, only-or-common}
+use Rattle.cluster.proofs.TieRows.{over-ids, row-length}
+use Rattle.masks.specs.Model.{rowMask}
+use Rattle.masks.proofs.Laws.{mask-bits}
+use Rattle.layouts.specs.TermsCheck.{allIn, rightIds, rowFault}
+use Rattle.layouts.specs.Scans.{rowNodes, zonesIn}
+use Rattle.layouts.proofs.RowWalks.{count-zones}
+
+-- ---- rows of known ids
+
+-- Of ids that all stand in a list, each does.
+pub all-mem : (l known : List ℕ) → allIn l known ≡ true → (i : ℕ) → mem i l ≡ true → mem i known ≡ true
+unfolding allIn
+all-mem [] known a i m = absurd (mem-none i m)
+all-mem (x ∷ xs) known a i m =
+    let b = both (mem x known) (allIn xs known) a in
+    ⊎-elim (λ e. ap (λ (k : ℕ). mem k known) e ∙ b .0) (λ h. all-mem xs known (b .1) i h) (mem-cases i x xs m)
+
+-- Where each id stands in a list, all do.
+pub mem-all : (l known : List ℕ) → ((i : ℕ) → mem i l ≡ true → mem i known ≡ true) → allIn l known ≡ true
+unfolding allIn
+mem-all [] known h = refl
+mem-all (x ∷ xs) known h =
+    ap₂ _&&_ (h x (mem-head x x xs refl)) (mem-all xs known (λ i m. h i (mem-tail i x xs m)))
+
+-- Where no id stands in the first list only, all stand in the second.
+only-all : (l known : List ℕ) → onlyIn l known ≡ 0 → allIn l known ≡ true
+unfolding allIn onlyIn one-if
+only-all [] known e = refl
+only-all (x ∷ xs) known e = go (mem x known) (only-all xs known) e
+  where
+    go : (m : Bool) → (onlyIn xs known ≡ 0 → allIn xs known ≡ true) → one-if (not m) + onlyIn xs known ≡ 0 → m && allIn xs known ≡ true
+    go true r h = r (omega arith)
+    go false r h = absurd (omega arith)
+
+-- Rising ids all stand among the ids of the nodes exactly where they are as many as the nodes that they name.
+pub all-count : (t : Topology) (r : List ℕ) → rising (idsOf (t .nodes)) ≡ true → rising r ≡ true
+    → allIn r (idsOf (t .nodes)) ≡ eqb (sumTo (length (t .nodes)) (bitsOf (t .nodes) r)) (length r)
+all-count t r d e =
+    same-test (allIn r (idsOf (t .nodes))) (eqb (sumTo (length (t .nodes)) (bitsOf (t .nodes) r)) (length r))
+    (λ a. eq-eqb (sumTo (length (t .nodes)) (bitsOf (t .nodes) r)) (length r) (sym (row-length 0 0 (t .nodes) r d e (all-mem r (idsOf (t .nodes)) a))))
+    (λ q. only-all r (idsOf (t .nodes))
+    (omega (
+      arith,
+      only-or-common r (idsOf (t .nodes)),
+      over-common 0 0 r (idsOf (t .nodes)) e d,
+      over-ids (t .nodes) (λ y. one-if (mem y r)),
+      eqb-true (sumTo (length (t .nodes)) (bitsOf (t .nodes) r)) (length r) q,
+    )))
+
+-- ---- the fault of a row
+
+module _ (t : Topology) (cells : List ℕ) (p : ℕ) (a : Accepted t) (whole : layoutCells ≤ length cells) (inside : p < bufferRows) where
+  abbrev ids : List ℕ
+  ids = idsIn (rowAt cells p)
+
+  -- The nodes that a row names are as many as its bits.
+  count-nodes : countOf (rowNodes t cells p) ≡ sumTo (length (t .nodes)) (bitsOf (t .nodes) ids)
+  unfolding rowNodes
+  count-nodes = count-mask (bitsOf (t .nodes) ids) (length (t .nodes)) (a .few) (λ b l. one-if-le (mem (nodeAt t b .id) ids))
+
+  -- A row with another number of ids has not the right ids.
+  wrong-number : (rowIds cells p ≡ t .replication → ⊥) → rightIds t (rowAt cells p) ≡ false
+  unfolding rightIds
+  wrong-number h =
+      ⊎-elim
+      (λ f. ap₂ (λ (s m : Bool). s && m && allIn ids (idsOf (t .nodes))) f
+      (ne-eqb (length ids) (t .replication) (λ e. h (formed-row-ids cells p (row-of-buffer cells p whole inside) f ∙ e))))
+      (λ f. ap (λ (s : Bool). s && eqb (length ids) (t .replication) && allIn ids (idsOf (t .nodes))) f)
+      (test-cases (formed (rowAt cells p)))
+
+  -- A row with the right number of ids has the right ones where it names as many nodes.
+  right-number : rowIds cells p ≡ t .replication → rightIds t (rowAt cells p) ≡ eqb (countOf (rowNodes t cells p)) (t .replication)
+  unfolding rightIds
+  right-number e =
+      let w = row-ids-formed cells p (omega (arith, a .replication)) in
+      ap₂ (λ (s m : Bool). s && m && allIn ids (idsOf (t .nodes))) (w .1) (eq-eqb (length ids) (t .replication) (w .2 ∙ e))
+      ∙ (all-count t ids (a .ids) (formed-rising 0 (rowAt cells p) (w .1))
+      ∙ ap₂ eqb (sym count-nodes) (w .2 ∙ e))
+
+  -- The mask of a row with the right number of ids is the set of the nodes that it names.
+  mask-nodes : rowIds cells p ≡ t .replication → rowMask (t .nodes) cells p ≡ rowNodes t cells p
+  unfolding rowNodes
+  mask-nodes e =
+      let w = row-ids-formed cells p (omega (arith, a .replication)) in
+      mask-bits (t .nodes) cells p (a .ids) (w .0) (w .1)
+
+  module _ (own : p < partitions t) where
+    -- Not R ids: 10.
+    pub fault-ids : (rowIds cells p ≡ t .replication → ⊥) → rowFault t cells p ≡ 10
+    unfolding rowFault
+    fault-ids h = simp (lt-ltb p (partitions t) own, wrong-number h)
+
+    -- Not R nodes: 10.
+    pub fault-nodes : rowIds cells p ≡ t .replication → (countOf (rowMask (t .nodes) cells p) ≡ t .replication → ⊥) → rowFault t cells p ≡ 10
+    unfolding rowFault
+    fault-nodes e h = simp (lt-ltb p (partitions t) own, right-number e, ne-eqb (countOf (rowNodes t cells p)) (t .replication) (λ n. h (ap countOf (mask-nodes e) ∙ n)))
+
+    -- Fewer than Z zones: 11.
+    pub fault-zones : rowIds cells p ≡ t .replication → countOf (rowMask (t .nodes) cells p) ≡ t .replication
+        → countOf (zonesIn (zoneCells t) (rowMask (t .nodes) cells p)) < t .redundancy → rowFault t cells p ≡ 11
+    unfolding rowFault
+    fault-zones e n h =
+        simp (
+          lt-ltb p (partitions t) own,
+          right-number e,
+          eq-eqb (countOf (rowNodes t cells p)) (t .replication) (sym (ap countOf (mask-nodes e)) ∙ n),
+          lt-ltb (zonesOf (t .nodes) ids) (t .redundancy) (omega (arith, count-zones t cells p (a .few), ap (λ (m : ℕ). countOf (zonesIn (zoneCells t) m)) (mask-nodes e))),
+        )
+
+    -- No fault.
+    pub fault-none : rowIds cells p ≡ t .replication → countOf (rowMask (t .nodes) cells p) ≡ t .replication
+        → t .redundancy ≤ countOf (zonesIn (zoneCells t) (rowMask (t .nodes) cells p)) → rowFault t cells p ≡ 0
+    unfolding rowFault
+    fault-none e n h =
+        simp (
+          lt-ltb p (partitions t) own,
+          right-number e,
+          eq-eqb (countOf (rowNodes t cells p)) (t .replication) (sym (ap countOf (mask-nodes e)) ∙ n),
+          le-ltb (zonesOf (t .nodes) ids) (t .redundancy) (omega (arith, count-zones t cells p (a .few), ap (λ (m : ℕ). countOf (zonesIn (zoneCells t) m)) (mask-nodes e))),
+        )
+
+  -- A row from P on has a fault where it is not blank.
+  pub fault-beyond : partitions t ≤ p → rowFault t cells p ≡ pick (rowIsBlank cells p) 0 10
+  unfolding rowFault rowIsBlank
+  fault-beyond h = simp (le-ltb p (partitions t) h, row-of-buffer cells p whole inside)

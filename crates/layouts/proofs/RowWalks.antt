@@ -1,0 +1,129 @@
+-- The sets of the nodes and of the zones of a row, and the walk that makes the zones of nodes.
+-- Assumes nothing.
+use Prim.Native.Nat.{ℕ, zero, suc, _+_, _-_, _*_, _^_, _≤_, _<_, min, max}
+use mathlib.Core.Path.{_≡_, refl, sym, ap, ap₂, _∙_}
+use mathlib.Core.Bool.{Bool, true, false, _||_}
+use mathlib.Core.List.{List, [], _∷_}
+use mathlib.Core.Logic.{⊎-elim}
+use native.Mathlib.Nat.{zero-mul, mul-zero}
+use native.Mathlib.Numerals.{add-one}
+use native.Mathlib.Omega.{arith}
+use lib.Dec.{eqb}
+use lib.ListN.{length, take, drop, getD, List·getD-eq-default}
+use borrow.Author.Tests.{eq-eqb, ne-eqb}
+use Rattle.sums.specs.Sum.{sumTo, one-if, is, pick}
+use Rattle.sums.proofs.Sum.{lt-or-ge, is-le, is-ne, is-sym, sum-cong, sum-cut, sum-zero}
+use Rattle.cells.proofs.Cells.{rest-cons}
+use Rattle.sets.specs.Bits.{bit, maskOf, memberOf, withOf, countOf}
+use Rattle.sets.proofs.Laws.{bit-ext, bit-le, bit-zero, bit-mask, bit-maskOf, bit-mask-high, mask-lt, mask-unique, mask-same, mask-with, with-lt, bit-with, mask-cong, member-true, member-false, bit-true, bit-false, count-sum}
+use Rattle.exchange.specs.Row.{zoneCount, cover}
+use Rattle.cluster.specs.Terms.{Topology, topology, noNode, nodeAt, mem, zonesOf}
+use Rattle.cluster.specs.TermsCells.{rowAt, idsIn}
+use Rattle.cluster.specs.Tie.{zoneIndex, bitsOf}
+use Rattle.cluster.specs.Columns.{zoneCells}
+use Rattle.cluster.specs.declared.Cluster.{Cluster}
+use Rattle.cluster.specs.declared.Node.{Node}
+use Rattle.cluster.proofs.Lists.{one-if-le}
+use Rattle.cluster.proofs.CellRows.{ids-more}
+use Rattle.cluster.proofs.TieZones.{zones-cover, zone-below}
+use Rattle.cluster.proofs.Columns.{cell-column}
+use Rattle.cluster.proofs.Slots.{node-slot}
+use Rattle.layouts.specs.Scans.{rowNodes, zonesIn}
+
+-- No row names the id 0.
+pub zero-unnamed : (l : List ℕ) → mem 0 (idsIn l) ≡ false
+unfolding mem idsIn
+zero-unnamed [] = refl
+zero-unnamed (zero ∷ xs) = refl
+zero-unnamed (suc x ∷ xs) =
+    ap (λ (r : List ℕ). mem 0 r) (ids-more x xs) ∙ (ap (λ (t : Bool). t || mem 0 (idsIn xs)) (ne-eqb 0 (suc x) (λ e. omega arith)) ∙ zero-unnamed xs)
+
+-- ---- the nodes of a row
+
+module _ (t : Topology) (cells : List ℕ) (p : ℕ) where
+  -- Whether row p names node b, also of a slot that is not in use.
+  abbrev named : ℕ → Bool
+  named b = mem (nodeAt t b .id) (idsIn (rowAt cells p))
+
+  -- The digits of the set of the nodes of a row.
+  pub bit-nodes : (b : ℕ) → bit (rowNodes t cells p) b ≡ one-if (named b)
+  unfolding rowNodes one-if
+  bit-nodes b =
+      ⊎-elim
+      (λ h. bit-maskOf (bitsOf (t .nodes) (idsIn (rowAt cells p))) (length (t .nodes)) b h (one-if-le (named b)))
+      (λ h. bit-mask-high (bitsOf (t .nodes) (idsIn (rowAt cells p))) (length (t .nodes)) b h
+      ∙ ap one-if (sym (ap (λ (n : Node). mem (n .id) (idsIn (rowAt cells p))) (List·getD-eq-default (t .nodes) noNode h) ∙ zero-unnamed (rowAt cells p))))
+      (lt-or-ge b (length (t .nodes)))
+
+-- ---- the zones of a set of nodes
+
+-- A number put into a mask is counted in the function that the mask is made of.
+mask-grow : (f g : ℕ → ℕ) (k : ℕ) → ((z : ℕ) → z < 32 → g z ≡ f z + is k z) → withOf (maskOf f 32) k ≡ maskOf g 32
+mask-grow f g k h =
+    bit-ext 32 (withOf (maskOf f 32) k) (maskOf g 32) (with-lt (maskOf f 32) k) (mask-lt g 32)
+    (λ z l. omega (arith, bit-with (maskOf f 32) k z l, bit-mask f 32 z l, bit-mask g 32 z l, h z l, is-le k z))
+
+-- The zones of the first b nodes of a set.
+unfoldable pub zonesTo : List ℕ → ℕ → ℕ → ℕ
+zonesTo zones nodes b = maskOf (zoneCount b (λ x. getD zones x 0) (bit nodes)) 32
+
+module _ (zones : List ℕ) (nodes : ℕ) where
+  -- Of no nodes there are no zones.
+  pub zones-none : 0 ≡ zonesTo zones nodes 0
+  unfolding zonesTo zoneCount sumTo
+  zones-none = mask-unique 32 0 (zoneCount 0 (λ x. getD zones x 0) (bit nodes)) (omega arith) (λ i l. bit-zero i)
+
+  -- One node more counts where it is in the set.
+  zone-step : (b z : ℕ) → zoneCount (b + 1) (λ x. getD zones x 0) (bit nodes) z ≡ zoneCount b (λ x. getD zones x 0) (bit nodes) z + bit nodes b * is (getD zones b 0) z
+  unfolding zoneCount sumTo
+  zone-step b z = ap (λ (n : ℕ). sumTo n (λ x. bit nodes x * is (getD zones x 0) z)) (add-one b)
+
+  -- The zone of a node of the set is put in.
+  pub zones-put : (b : ℕ) → memberOf nodes b ≡ true → withOf (zonesTo zones nodes b) (getD zones b 0) ≡ zonesTo zones nodes (b + 1)
+  unfolding zonesTo
+  zones-put b m =
+      mask-grow (zoneCount b (λ x. getD zones x 0) (bit nodes)) (zoneCount (b + 1) (λ x. getD zones x 0) (bit nodes)) (getD zones b 0)
+      (λ z l. omega (arith, zone-step b z, ap (λ (n : ℕ). n * is (getD zones b 0) z) (member-true nodes b m)))
+
+  -- A node that is not in the set has no part.
+  pub zones-pass : (b : ℕ) → memberOf nodes b ≡ false → zonesTo zones nodes b ≡ zonesTo zones nodes (b + 1)
+  unfolding zonesTo
+  zones-pass b m =
+      mask-cong (zoneCount b (λ x. getD zones x 0) (bit nodes)) (zoneCount (b + 1) (λ x. getD zones x 0) (bit nodes)) 32
+      (λ z l. omega (arith, zone-step b z, ap (λ (n : ℕ). n * is (getD zones b 0) z) (member-false nodes b m)))
+
+-- The zones of the nodes of a row are as many as the row lies in.
+pub count-zones : (t : Topology) (cells : List ℕ) (p : ℕ) → length (t .nodes) ≤ 32
+    → countOf (zonesIn (zoneCells t) (rowNodes t cells p)) ≡ zonesOf (t .nodes) (idsIn (rowAt cells p))
+unfolding zonesIn cover
+count-zones t cells p few =
+    count-sum 32 (maskOf covered 32) (omega arith) (mask-lt covered 32)
+    ∙ (sum-cong 32 (λ z. bit (maskOf covered 32) z) (λ z. min 1 (zoneCount n (zoneIndex t) S z)) (λ z l. bit-mask covered 32 z l ∙ ap (min 1) (same z))
+    ∙ (sum-cut n 32 (λ z. min 1 (zoneCount n (zoneIndex t) S z)) few (λ z l k. ap (min 1) (beyond z l))
+    ∙ sym (zones-cover t (idsIn (rowAt cells p)))))
+  where
+    n : ℕ
+    n = length (t .nodes)
+
+    S : ℕ → ℕ
+    S = bitsOf (t .nodes) (idsIn (rowAt cells p))
+
+    nodes : ℕ
+    nodes = rowNodes t cells p
+
+    covered : ℕ → ℕ
+    covered = zoneCount 32 (λ x. getD (zoneCells t) x 0) (bit nodes)
+
+    same : (z : ℕ) → covered z ≡ zoneCount n (zoneIndex t) S z
+    same z =
+        unfold zoneCount zoneCells rowNodes in
+        (sum-cut n 32 (λ x. bit nodes x * is (getD (zoneCells t) x 0) z) few
+        (λ x l k. ap (λ (m : ℕ). m * is (getD (zoneCells t) x 0) z) (bit-mask-high S n x l) ∙ zero-mul (is (getD (zoneCells t) x 0) z))
+        ∙ sum-cong n (λ x. bit nodes x * is (getD (zoneCells t) x 0) z) (λ x. S x * is (zoneIndex t x) z)
+        (λ x l. ap₂ (λ (m v : ℕ). m * is v z) (bit-nodes t cells p x) (cell-column (zoneIndex t) n x few l)))
+
+    beyond : (z : ℕ) → n ≤ z → zoneCount n (zoneIndex t) S z ≡ 0
+    beyond z h =
+        unfold zoneCount in
+        sum-zero n (λ x. S x * is (zoneIndex t x) z)
+        (λ x l. ap (λ (m : ℕ). S x * m) (is-ne {a = zoneIndex t x} {b = z} (λ e. omega (arith, zone-below t x l))) ∙ mul-zero (S x))

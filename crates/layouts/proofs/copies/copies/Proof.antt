@@ -1,0 +1,67 @@
+-- `layouts::copies::copies` meets its contract. The loop's invariant: the counts are, for every node, the copies in the rows so far.
+-- Assumes nothing.
+use borrow.Author.Needs.{needs}
+use native.Mathlib.Omega.{arith}
+use Prim.Native.Nat.{ℕ, _≤_, _-_}
+use mathlib.Core.Path.{_≡_, refl, sym, ap, _∙_}
+use lib.ListN.{length}
+use Rattle.cluster.specs.Limits.{bufferRows}
+use Rattle.cluster.specs.Terms.{topology, partitions}
+use Rattle.layouts.specs.Scans.{copiesSoFar}
+use Rattle.cluster.proofs.Accepting.{accepted}
+use Rattle.layouts.proofs.FaultMeaning.{each-formed}
+use Rattle.layouts.proofs.CopyWalk.{length-so-far, so-far-none}
+use Rattle.layouts.proofs.copies.copies.Statement.{statement}
+use Rattle.layouts.proofs.copies.copies.Tie as tie
+
+abbrev Inv-loop : tie.InvT-loop
+Inv-loop c cells partitions counts₀ p₀ counts p = (p ≤ partitions) × (partitions ≤ bufferRows) × (counts ≡ copiesSoFar (topology c) cells p)
+
+abbrev μ-loop : tie.MeasureT-loop
+μ-loop c cells partitions counts₀ p₀ counts p = partitions - p
+
+partitions-requires : tie.Need-partitions-requires Inv-loop μ-loop
+partitions-requires c κs = search needs
+
+loop-holds : tie.Need-loop-holds Inv-loop μ-loop
+loop-holds c = (search needs, search needs, so-far-none (topology (c .before .before .args .c)) (c .before .before .args .cells .now))
+
+slice-aggregate-count-row : tie.Need-slice-aggregate-count-row Inv-loop μ-loop
+slice-aggregate-count-row c = let k = c .before .before in
+    let a = k .before .before .before .args in
+    sym (ap length (k .loop .inv .2) ∙ length-so-far (topology (a .c)) (a .cells .now) (k .loop .p))
+
+count-row-requires : tie.Need-count-row-requires Inv-loop μ-loop
+count-row-requires c κs = let k = c .before .before in
+    let s = k .before .before .before in
+    (s .pre .0, search needs, s .pre .1, each-formed (topology (s .args .c)) (s .args .cells .now) (accepted (s .args .c) (s .pre .0)) (s .pre .2) (k .loop .p) (omega arith), k .loop .inv .2)
+
+add-p : tie.Need-add-p Inv-loop μ-loop
+add-p c = search needs
+
+loop-less : tie.Need-loop-less Inv-loop μ-loop
+loop-less c = search needs
+
+loop-again : tie.Need-loop-again Inv-loop μ-loop
+loop-again c = (search needs, search needs, c .before .count-row .ensures)
+
+returns : tie.Need-returns Inv-loop μ-loop
+returns c = let k = c .before in
+    let s = k .before .before .before in
+    let e : k .loop .p ≡ partitions (topology (s .args .c)) = omega arith in
+    k .loop .inv .2 ∙ ap (copiesSoFar (topology (s .args .c)) (s .args .cells .now)) e
+
+pub copies-spec : {M : Type 1} → statement M
+copies-spec =
+    tie.close
+    (tie.spec
+    Inv-loop
+    μ-loop
+    partitions-requires
+    loop-holds
+    slice-aggregate-count-row
+    count-row-requires
+    add-p
+    loop-less
+    loop-again
+    returns)

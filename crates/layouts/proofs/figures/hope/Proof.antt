@@ -1,0 +1,47 @@
+-- `layouts::figures::hope` meets its contract.
+-- Assumes nothing.
+use borrow.Author.Needs.{needs}
+use native.Mathlib.Omega.{arith}
+use Prim.Native.Nat.{ℕ, _≤_, _*_, _/_}
+use mathlib.Core.Path.{_≡_, refl, sym, ap, ap₂, _∙_}
+use native.Mathlib.Nat.{mul-le-mul-right}
+use lib.Pow.{pow-pos}
+use Rattle.cluster.specs.Terms.{topology, partitions}
+use Rattle.cluster.proofs.Accepting.{accepted}
+use Rattle.layouts.specs.TermsFigures.{hopeOf}
+use Rattle.layouts.proofs.figures.hope.Statement.{statement}
+use Rattle.layouts.proofs.figures.hope.Tie as tie
+
+cast-copies : tie.Need-cast-copies
+cast-copies c = search needs
+
+partitions-requires : tie.Need-partitions-requires
+partitions-requires c κs = search needs
+
+mul-copies : tie.Need-mul-copies
+mul-copies c = let a = accepted (c .before .before .args .c) (c .before .before .pre) in
+    omega (arith, mul-le-mul-right (c .partitions .result) (a .replication .1))
+
+total-capacity-requires : tie.Need-total-capacity-requires
+total-capacity-requires c κs = search needs
+
+div-result : tie.Need-div-result
+div-result c = let s = c .before .before .before in
+    let a = accepted (s .args .c) (s .pre) in
+    omega (arith, mul-le-mul-right (c .before .partitions .result) (a .replication .0), pow-pos (s .args .c .bits))
+
+returns : tie.Need-returns
+unfolding hopeOf
+returns c = let a = c .before .before .before .args .c in
+    ap₂ (λ (n m : ℕ). n / (a .replication * m)) (c .total-capacity .ensures) (c .before .partitions .ensures .0)
+
+pub hope-spec : {M : Type 1} → statement M
+hope-spec =
+    tie.close
+    (tie.spec
+    cast-copies
+    partitions-requires
+    mul-copies
+    total-capacity-requires
+    div-result
+    returns)

@@ -1,0 +1,56 @@
+-- `layouts::figures::put_figures` meets its contract.
+-- Assumes nothing.
+use borrow.Author.Needs.{needs}
+use native.Mathlib.Omega.{arith}
+use Prim.Native.Nat.{ℕ, _≤_}
+use mathlib.Core.Path.{_≡_, sym, ap, _∙_}
+use mathlib.Core.List.{List}
+use lib.ListN.{length, getD}
+use Rattle.cells.specs.Cells.{put}
+use Rattle.cells.proofs.Cells.{length-put}
+use Rattle.cluster.specs.Terms.{topology, partitions}
+use Rattle.cluster.proofs.Accepting.{accepted}
+use Rattle.layouts.specs.Scans.{zoneSum}
+use Rattle.layouts.proofs.Sound.{few-nodes, few-rows}
+use Rattle.layouts.proofs.CopyWalk.{so-far-few}
+use Rattle.layouts.proofs.FigureWalk.{all-figures}
+use Rattle.layouts.proofs.figures.put_figures.Statement.{statement}
+use Rattle.layouts.proofs.figures.put_figures.Tie as tie
+
+copies-requires : tie.Need-copies-requires
+copies-requires c κs = let s = c .before .before in (s .pre .0, s .pre .1, s .pre .2)
+
+put-copies-requires : tie.Need-put-copies-requires
+put-copies-requires c κs = c .before .before .before .before .pre .3
+
+put-zones-requires : tie.Need-put-zones-requires
+put-zones-requires c κs = let k = c .before .before .before .before .before in
+    let s = k .before .before .before in
+    let t = topology (s .args .c) in (
+      few-nodes (s .args .c) (s .pre .0),
+      λ x l. omega (
+        arith,
+        ap (λ (r : List ℕ). getD r x 0) (k .copies .ensures),
+        so-far-few t (s .args .assignment .now) (partitions t) x l,
+        few-rows t (accepted (s .args .c) (s .pre .0)),
+      ),
+      omega
+          (arith, ap length (c .before .before .before .put-copies .ensures), length-put 0 (λ b. getD (k .copies .result) b 0) 32 (s .args .cells .now), s .pre .3),
+    )
+
+same-length : tie.Need-same-length
+same-length c = search needs
+
+returns : tie.Need-returns
+returns c = let z = c .before .before in
+    let q = z .before .before .before .before in
+    let k = q .before .before in
+    let s = k .before .before .before in
+    let t = topology (s .args .c) in
+    z .put-zones .ensures
+    ∙ (ap (put 32 (zoneSum t (k .copies .result)) 32) (q .put-copies .ensures)
+    ∙ all-figures t (s .args .assignment .now) (partitions t) (accepted (s .args .c) (s .pre .0) .few) (k .copies .result) (s .args .cells .now) (k .copies .ensures))
+
+pub put-figures-spec : {M : Type 1} → statement M
+put-figures-spec =
+    tie.close (tie.spec copies-requires put-copies-requires put-zones-requires same-length returns)

@@ -1,0 +1,79 @@
+-- `layouts::figures::total_capacity` meets its contract. The loop's invariant: the capacities of the first b nodes are added up.
+-- Assumes nothing.
+use borrow.Author.Needs.{needs}
+use native.Mathlib.Omega.{arith}
+use Prim.Native.Nat.{ℕ, _≤_, _-_, _*_, _^_}
+use mathlib.Core.Path.{_≡_, refl, sym, ap, ap₂, _∙_}
+use lib.ListN.{length, getD}
+use Rattle.sums.specs.Sum.{sumTo}
+use Rattle.cells.proofs.Cells.{length-of-map}
+use Rattle.cluster.specs.Terms.{topology, noNode, nodeAt}
+use Rattle.cluster.specs.declared.Node.{Node}
+use Rattle.cluster.proofs.Slots.{node-slot}
+use Rattle.layouts.proofs.Sound.{few-nodes}
+use Rattle.layouts.proofs.FigureWalk.{add-turn, nodes-count}
+use Rattle.layouts.proofs.figures.total_capacity.Statement.{statement}
+use Rattle.layouts.proofs.figures.total_capacity.Tie as tie
+
+abbrev Inv-loop : tie.InvT-loop
+Inv-loop c n total₀ b₀ total b = (b ≤ n) × (n ≤ 32) × (total ≤ 4294967296 * b) × (total ≡ sumTo b (λ i. nodeAt (topology c) i .capacity))
+
+abbrev μ-loop : tie.MeasureT-loop
+μ-loop c n total₀ b₀ total b = n - b
+
+long : (c : tie.Start Inv-loop μ-loop) → length (c .args .t1 .nodes) ≡ 32
+long c = search length-of-map
+
+loop-holds : tie.Need-loop-holds Inv-loop μ-loop
+unfolding sumTo
+loop-holds c = (search needs, few-nodes (c .args .t1) (c .pre), search needs, refl)
+
+mul-node : tie.Need-mul-node Inv-loop μ-loop
+mul-node c = search needs
+
+element-copy-out-node : tie.Need-element-copy-out-node Inv-loop μ-loop
+element-copy-out-node c = search needs
+
+cast-total : tie.Need-cast-total Inv-loop μ-loop
+cast-total c = search needs
+
+add-total : tie.Need-add-total Inv-loop μ-loop
+add-total c = search needs
+
+add-b : tie.Need-add-b Inv-loop μ-loop
+add-b c = search needs
+
+loop-less : tie.Need-loop-less Inv-loop μ-loop
+loop-less c = search needs
+
+loop-again : tie.Need-loop-again Inv-loop μ-loop
+loop-again c = let k = c .before .before .before in
+    let a = k .before .args .t1 in (
+      search needs,
+      search needs,
+      search needs,
+      add-turn (k .loop .total) (getD (a .nodes) (k .loop .b) noNode .capacity) (k .loop .b) (λ i. nodeAt (topology a) i .capacity) (k .loop .inv .3)
+          (sym (ap (λ (n : Node). n .capacity) (node-slot a (k .loop .b) (search needs)))),
+    )
+
+returns : tie.Need-returns Inv-loop μ-loop
+returns c = let k = c .before in
+    let a = k .before .args .t1 in
+    let e : k .loop .b ≡ length (topology a .nodes) = omega (arith, nodes-count a (long (k .before)) (omega arith)) in
+    k .loop .inv .3 ∙ ap (λ (n : ℕ). sumTo n (λ i. nodeAt (topology a) i .capacity)) e
+
+pub total-capacity-spec : {M : Type 1} → statement M
+total-capacity-spec =
+    tie.close
+    (tie.spec
+    Inv-loop
+    μ-loop
+    loop-holds
+    mul-node
+    element-copy-out-node
+    cast-total
+    add-total
+    add-b
+    loop-less
+    loop-again
+    returns)

@@ -1,0 +1,4 @@
+pub mod Scans
+pub mod TermsCheck
+pub mod TermsFigures
+pub mod TermsShow

@@ -1,0 +1,230 @@
+// Runs check, figures and show of the crate `layouts` on example M and on the order of faults, and prints a line for each.
+use cluster::Cluster;
+use cluster::Node;
+use layouts::check;
+use layouts::figures;
+use layouts::show;
+
+mod print;
+
+// The cluster with node b in its slot.
+fn with_node(c: Cluster, b: usize, id: u32, zone: u16, capacity: u32) -> Cluster {
+    let mut next = c;
+    if b < 32 {
+        next.nodes[b] = Node { id, zone, capacity };
+    }
+    next
+}
+
+// Example K: bits 0, replication 3, redundancy 2, nodes 1/1/9 2/1/9 3/1/9 4/2/1.
+fn example_k() -> Cluster {
+    let mut c = Cluster::none();
+    c.replication = 3;
+    c.redundancy = 2;
+    c.count = 4;
+    let c1 = with_node(c, 0, 1, 1, 9);
+    let c2 = with_node(c1, 1, 2, 1, 9);
+    let c3 = with_node(c2, 2, 3, 1, 9);
+    with_node(c3, 3, 4, 2, 1)
+}
+
+// A number into a cell.
+fn put(cells: &mut [u32], at: usize, value: u32) {
+    if at < cells.len() {
+        cells[at] = value;
+    }
+}
+
+// Three ids into the row that starts at cell `from`.
+fn row(cells: &mut [u32], from: usize, a: u32, b: u32, c: u32) {
+    put(cells, from, a);
+    if from < 4096 {
+        put(cells, from + 1, b);
+        put(cells, from + 2, c);
+    }
+}
+
+// What a cell holds.
+fn cell(cells: &[u32], at: usize) -> u64 {
+    if at < cells.len() {
+        let value = cells[at];
+        print::wide(value)
+    } else {
+        0
+    }
+}
+
+// Check of three ids in row 0 at a size.
+fn check_row(name: &[u8], c: Cluster, a: u32, b: u32, d: u32, size: u32) {
+    let mut cells = [0u32; 2048];
+    row(&mut cells, 0, a, b, d);
+    let r = check::check(c, &cells, size);
+    print::answer(name, r.refusal, r.place);
+}
+
+// Check of three ids in row 0 and three in the row that starts at cell `from`.
+fn check_rows(name: &[u8], c: Cluster, a: u32, b: u32, d: u32, from: usize, size: u32) {
+    let mut cells = [0u32; 2056];
+    row(&mut cells, 0, a, b, d);
+    row(&mut cells, from, 1, 1, 4);
+    let r = check::check(c, &cells, size);
+    print::answer(name, r.refusal, r.place);
+}
+
+// Example M, and other rows that are not what the cluster's are.
+fn example_m() {
+    let k = example_k();
+    check_row(b"M: row 1 2 3 at 1", k, 1, 2, 3, 1);
+    check_row(b"M: row 1 1 4 at 1", k, 1, 1, 4, 1);
+    check_row(b"M: row 1 2 4 at 2", k, 1, 2, 4, 2);
+    check_row(b"row 1 2 4 at 1", k, 1, 2, 4, 1);
+    check_row(b"unknown id 5", k, 1, 2, 5, 1);
+    check_row(b"last id twice", k, 1, 4, 4, 1);
+    check_row(b"ids fall", k, 2, 1, 4, 1);
+    check_row(b"two ids", k, 1, 4, 0, 1);
+    check_row(b"no nodes", Cluster::none(), 0, 0, 0, 1);
+}
+
+// The order of faults in rows and nodes.
+fn order() {
+    let k = example_k();
+    let mut two = k;
+    two.bits = 1;
+    check_rows(b"11 in row 0, 10 in row 1", two, 1, 2, 3, 8, 1);
+    check_rows(b"10 in row 1, 12 of node 1", two, 1, 2, 4, 8, 10);
+    check_rows(b"10 in row 200, 12 of node 1", k, 1, 2, 4, 1600, 10);
+    check_rows(b"10 in row 255", k, 1, 2, 4, 2040, 1);
+    check_rows(b"cells from 2048 on", k, 1, 2, 4, 2048, 1);
+    check_row(b"12 of node 1, 12 of node 4", k, 1, 2, 4, 10);
+}
+
+// The faults before any row.
+fn before_rows() {
+    let k = example_k();
+    let cells = [0u32; 2047];
+    let mut many = k;
+    many.count = 33;
+    let r = check::check(many, &cells, 0);
+    print::answer(b"short, count 33, size 0", r.refusal, r.place);
+    check_row(b"count 33, size 0", many, 1, 2, 3, 0);
+    let falling = with_node(k, 1, 1, 1, 9);
+    check_row(b"size 0, ids of nodes fall", falling, 1, 2, 3, 0);
+    check_row(b"ids of nodes fall", falling, 1, 2, 3, 1);
+    let mut wide = falling;
+    wide.redundancy = 4;
+    check_row(b"redundancy 4, ids of nodes fall", wide, 1, 2, 3, 1);
+}
+
+// Capacities: none at all, the largest, and a product of 2 to the 32.
+fn capacities() {
+    let mut c = Cluster::none();
+    c.count = 1;
+    let none = with_node(c, 0, 7, 0, 0);
+    check_row(b"capacity 0", none, 7, 0, 0, 1);
+    let full = with_node(c, 0, 7, 65535, 4294967295);
+    check_row(b"capacity 4294967295", full, 7, 0, 0, 4294967295);
+    let mut two = full;
+    two.bits = 1;
+    check_twice(b"twice 2147483647", two, 7, 2147483647);
+    check_twice(b"twice 2147483648", two, 7, 2147483648);
+}
+
+// Check of one id in row 0 and in row 1.
+fn check_twice(name: &[u8], c: Cluster, a: u32, size: u32) {
+    let mut cells = [0u32; 2048];
+    row(&mut cells, 0, a, 0, 0);
+    row(&mut cells, 8, a, 0, 0);
+    let r = check::check(c, &cells, size);
+    print::answer(name, r.refusal, r.place);
+}
+
+// Some of the figures, and the cell after them.
+fn some_figures(cells: &[u32]) {
+    print::number(b"  copies ", cell(cells, 0));
+    print::number(b"  copies ", cell(cells, 2));
+    print::number(b"  copies ", cell(cells, 3));
+    print::number(b"  zone ", cell(cells, 32));
+    print::number(b"  zone ", cell(cells, 34));
+    print::number(b"  zone ", cell(cells, 35));
+    print::number(b"  after ", cell(cells, 64));
+}
+
+// Figures of ids in row 0 and in the row that starts at cell `again`, into lent cells of 77.
+fn figure(name: &[u8], c: Cluster, a: u32, b: u32, d: u32, again: usize, size: u32) {
+    let mut assignment = [0u32; 2048];
+    row(&mut assignment, 0, a, b, d);
+    row(&mut assignment, again, a, b, d);
+    let mut cells = [77u32; 65];
+    let r = figures::figures(c, &assignment, size, &mut cells);
+    print::answer(name, r.refusal, r.place);
+    print::number(b"  hope ", r.hope);
+    some_figures(&cells);
+}
+
+// Example A, at its size and above it: bits 1, replication 3, redundancy 2, nodes 1/1/100 2/1/70 3/2/50.
+fn example_a() {
+    let mut c = Cluster::none();
+    c.bits = 1;
+    c.replication = 3;
+    c.redundancy = 2;
+    c.count = 3;
+    let c1 = with_node(c, 0, 1, 1, 100);
+    let c2 = with_node(c1, 1, 2, 1, 70);
+    let a = with_node(c2, 2, 3, 2, 50);
+    figure(b"A at 25", a, 1, 2, 3, 8, 25);
+    figure(b"A at 26", a, 1, 2, 3, 8, 26);
+    let assignment = [0u32; 2048];
+    let mut cells = [77u32; 63];
+    let mut many = a;
+    many.count = 33;
+    let r = figures::figures(many, &assignment, 1, &mut cells);
+    print::answer(b"short figures, count 33", r.refusal, r.place);
+}
+
+// 32 nodes of the largest capacity.
+fn large() {
+    let mut c = Cluster::none();
+    c.count = 32;
+    let mut b = 0;
+    while b < 32 {
+        c.nodes[b] = Node {
+            id: b as u32 + 1,
+            zone: b as u16,
+            capacity: 4294967295,
+        };
+        b += 1;
+    }
+    figure(b"32 nodes of 4294967295", c, 3, 0, 0, 0, 1);
+}
+
+// One row: its refusal, the number of its cells, and its third cell.
+fn show_one(name: &[u8], cells: &[u32], partition: u32) {
+    let mut refusal = 99;
+    let part = show::show_row(cells, partition, &mut refusal);
+    print::answer(name, refusal, 0);
+    print::number(b"  cells ", part.len() as u64);
+    print::number(b"  third ", cell(part, 2));
+}
+
+// Rows shown, and the order of the refusals.
+fn shown() {
+    let mut cells = [0u32; 2056];
+    row(&mut cells, 8, 1, 2, 4);
+    row(&mut cells, 2040, 5, 6, 7);
+    show_one(b"show row 0", &cells, 0);
+    show_one(b"show row 1", &cells, 1);
+    show_one(b"show row 255", &cells, 255);
+    show_one(b"show row 256", &cells, 256);
+    let short = [9u32; 2047];
+    show_one(b"show row 300 of a short buffer", &short, 300);
+}
+
+fn main() {
+    example_m();
+    order();
+    before_rows();
+    capacities();
+    example_a();
+    large();
+    shown();
+}
