@@ -1,13 +1,14 @@
 // The faults of a cluster in hand, over the nodes in use only.
 ghost use mathlib.Core.Path.{_≡_};
 ghost use Prim.Native.Nat.{_≤_};
+ghost use Rattle.cluster.specs.Limits.{mostNodes};
 ghost use Rattle.cluster.specs.Terms.{topology, idsOf, mem, rising};
 ghost use Rattle.cluster.specs.Faults.{outOfRange};
 use super::Cluster;
 
 // Whether a used id is 0.
 fn has_zero_id(c: Cluster) -> bool
-    requires { ⌜ c .count ≤ 32 ⌝ }
+    requires { ⌜ c .count ≤ mostNodes ⌝ }
     ensures { λ r. ⌜ r ≡ mem 0 (idsOf (topology c .nodes)) ⌝ }
 {
     let n = c.count;
@@ -22,8 +23,8 @@ fn has_zero_id(c: Cluster) -> bool
 }
 
 // Whether a number of the cluster or a used id is out of its range.
-pub fn out_of_range(c: Cluster) -> bool
-    requires { ⌜ c .count ≤ 32 ⌝ }
+pub(crate) fn out_of_range(c: Cluster) -> bool
+    requires { ⌜ c .count ≤ mostNodes ⌝ }
     ensures { λ r. ⌜ r ≡ outOfRange (topology c) ⌝ }
 {
     if Cluster::BITS < c.bits {
@@ -45,8 +46,8 @@ pub fn out_of_range(c: Cluster) -> bool
 }
 
 // Whether the used ids rise.
-pub fn ids_rise(c: Cluster) -> bool
-    requires { ⌜ c .count ≤ 32 ⌝ }
+pub(crate) fn ids_rise(c: Cluster) -> bool
+    requires { ⌜ c .count ≤ mostNodes ⌝ }
     ensures { λ r. ⌜ r ≡ rising (idsOf (topology c .nodes)) ⌝ }
 {
     let n = c.count;

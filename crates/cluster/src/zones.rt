@@ -35,11 +35,11 @@ fn zone_index(c: Cluster, b: usize) -> u32
 }
 
 // The zone of each node in use, as the index of the first node of the same zone, then zeros.
-pub fn zones(c: Cluster) -> [u32; 32]
+pub fn zones(c: Cluster) -> [u32; Cluster::NODES]
     ensures { λ r. ⌜ r ≡ zoneCells (topology c) ⌝ }
 {
     let n = used(c);
-    let mut zones = [0u32; 32];
+    let mut zones = [0u32; Cluster::NODES];
     let mut b = 0;
     while b < n {
         zones[b] = zone_index(c, b);

@@ -55,7 +55,14 @@ fn node_fault(count: usize, last: u32, id: u32) -> u32
 }
 
 // Of a whole field.
-pub fn field_fault(bytes: &[u8], c: Cluster, next: usize, tag: u8, start: usize, len: usize) -> u32
+pub(crate) fn field_fault(
+    bytes: &[u8],
+    c: Cluster,
+    next: usize,
+    tag: u8,
+    start: usize,
+    len: usize,
+) -> u32
     requires { ⌜ (c .count ≤ mostNodes) × (c .bits ≤ mostBits) × (start + len ≤ length (now bytes)) × (1 ≤ tag) × (4 < tag → 2 ≤ len) ⌝ }
     ensures { λ r. ⌜ r ≡ faultIn (topology c) next (itemIn (now (bytes .entry)) tag start len) ⌝ }
 {

@@ -49,7 +49,7 @@ fn ids_rise(bytes: &[u8], from: usize, count: usize) -> bool
 }
 
 // Of a former row of so many ids, where the partitions before `next` are passed.
-pub fn row_fault(bytes: &[u8], bits: u32, next: usize, start: usize, count: usize) -> u32
+pub(crate) fn row_fault(bytes: &[u8], bits: u32, next: usize, start: usize, count: usize) -> u32
     requires { ⌜ (bits ≤ mostBits) × (start + 2 + 4 * count ≤ length (now bytes)) ⌝ }
     ensures { λ r. ⌜ r ≡ pick (leb (2 ^ bits) (numberAt (now (bytes .entry)) start 2) || mem 0 (idsAt (now (bytes .entry)) (start + 2) count)) 4
         (pick (ltb (numberAt (now (bytes .entry)) start 2) next || not (rising (idsAt (now (bytes .entry)) (start + 2) count))) 5 0) ⌝ }

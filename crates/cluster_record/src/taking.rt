@@ -14,7 +14,7 @@ use cluster::Cluster;
 use cluster::Node;
 
 // A cluster with what a field says of it.
-pub fn cluster_with(bytes: &[u8], c: Cluster, tag: u8, start: usize) -> Cluster
+pub(crate) fn cluster_with(bytes: &[u8], c: Cluster, tag: u8, start: usize) -> Cluster
     requires { ⌜ (tag ≡ 4 → (c .count < mostNodes) × (start + 10 ≤ length (now bytes))) ⌝ }
     ensures { λ r. ⌜ ((t : Topology) (len : ℕ) → c ≡ slotsOf t → r ≡ slotsOf (withItem t (itemIn (now (bytes .entry)) tag start len))) ⌝ }
 {
@@ -57,7 +57,7 @@ fn put_row(rows: &mut [u32], bytes: &[u8], row: usize, from: usize, count: usize
 }
 
 // Takes a former row into its cells; answers the first partition that is not passed.
-pub fn take_row(
+pub(crate) fn take_row(
     rows: &mut [u32],
     bytes: &[u8],
     next: usize,
@@ -79,7 +79,7 @@ pub fn take_row(
 }
 
 // Copies the cells of a layout to the front of a lent buffer.
-pub fn copy_cells(cells: &[u32], to: &mut [u32])
+pub(crate) fn copy_cells(cells: &[u32], to: &mut [u32])
     requires { ⌜ (length (now cells) ≡ layoutCells) × (layoutCells ≤ length (now to)) ⌝ }
     ensures { λ _. ⌜ now (to .exit) ≡ now (cells .entry) ++ drop layoutCells (now (to .entry)) ⌝ }
 {

@@ -10,7 +10,7 @@ ghost use Rattle.layout_record.specs.RecordLayoutFaults.{idsAt};
 use cluster::Cluster;
 
 // Whether one of the ids from byte `from` on is 0.
-pub fn has_zero(bytes: &[u8], from: usize, count: usize) -> bool
+pub(crate) fn has_zero(bytes: &[u8], from: usize, count: usize) -> bool
     requires { ⌜ from + 4 * count ≤ length (now bytes) ⌝ }
     ensures { λ r. ⌜ r ≡ mem 0 (idsAt (now (bytes .entry)) from count) ⌝ }
 {
@@ -27,7 +27,7 @@ pub fn has_zero(bytes: &[u8], from: usize, count: usize) -> bool
 }
 
 // Whether the ids from byte `from` on rise.
-pub fn ids_rise(bytes: &[u8], from: usize, count: usize) -> bool
+pub(crate) fn ids_rise(bytes: &[u8], from: usize, count: usize) -> bool
     requires { ⌜ from + 4 * count ≤ length (now bytes) ⌝ }
     ensures { λ r. ⌜ r ≡ rising (idsAt (now (bytes .entry)) from count) ⌝ }
 {
@@ -47,7 +47,7 @@ pub fn ids_rise(bytes: &[u8], from: usize, count: usize) -> bool
 }
 
 // Puts the ids from byte `from` on into the cells of a row.
-pub fn put_ids(cells: &mut [u32], bytes: &[u8], row: usize, from: usize, count: usize)
+pub(crate) fn put_ids(cells: &mut [u32], bytes: &[u8], row: usize, from: usize, count: usize)
     requires { ⌜ (row * rowCells + count ≤ length (now cells)) × (from + 4 * count ≤ length (now bytes)) ⌝ }
     ensures { λ _. ⌜ now (cells .exit) ≡ put (row * rowCells) (λ j. numberAt (now (bytes .entry)) (from + 4 * j) 4) count (now (cells .entry)) ⌝ }
 {

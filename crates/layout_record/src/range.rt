@@ -16,7 +16,7 @@ pub const HEAD: usize = 29;
 pub const ROW: usize = 5;
 
 // The number of partitions.
-pub fn partitions(bits: u32) -> usize
+pub(crate) fn partitions(bits: u32) -> usize
     requires { ⌜ bits ≤ mostBits ⌝ }
     ensures { λ r. ⌜ r ≡ 2 ^ bits ⌝ }
 {
@@ -24,7 +24,7 @@ pub fn partitions(bits: u32) -> usize
 }
 
 // The length of a record.
-pub fn record_length(bits: u32, replication: u32) -> usize
+pub(crate) fn record_length(bits: u32, replication: u32) -> usize
     requires { ⌜ (bits ≤ mostBits) × (replication ≤ mostCopies) ⌝ }
     ensures { λ r. ⌜ r ≡ recordLength bits replication ⌝ }
 {

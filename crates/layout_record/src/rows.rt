@@ -85,7 +85,7 @@ fn read_rows(bytes: &[u8], from: usize, numbers: Numbers, cells: &mut [u32]) -> 
 }
 
 // Reads a record into cells that are zero.
-pub fn read_into(bytes: &[u8], cells: &mut [u32]) -> ReadLayout
+pub(crate) fn read_into(bytes: &[u8], cells: &mut [u32]) -> ReadLayout
     requires { ⌜ now cells ≡ replicate layoutCells 0 ⌝ }
     ensures { λ r. ⌜ (r ≡ answerOf (readLayout (now (bytes .entry))))
         × (r .refusal ≡ 0 → now (cells .exit) ≡ cellsOf (readLayout (now (bytes .entry)) .layout)) ⌝ }
@@ -98,7 +98,7 @@ pub fn read_into(bytes: &[u8], cells: &mut [u32]) -> ReadLayout
 }
 
 // Copies the cells of a layout to the front of a lent buffer.
-pub fn copy_cells(cells: &[u32], to: &mut [u32])
+pub(crate) fn copy_cells(cells: &[u32], to: &mut [u32])
     requires { ⌜ (length (now cells) ≡ layoutCells) × (layoutCells ≤ length (now to)) ⌝ }
     ensures { λ _. ⌜ now (to .exit) ≡ now (cells .entry) ++ drop layoutCells (now (to .entry)) ⌝ }
 {

@@ -91,7 +91,7 @@ fn put_rows(out: &mut [u8], cells: &[u32], partitions: usize, count: usize)
 }
 
 // Puts a record without fault.
-pub fn put_record(numbers: Numbers, cells: &[u32], out: &mut [u8])
+pub(crate) fn put_record(numbers: Numbers, cells: &[u32], out: &mut [u8])
     requires { ⌜ writeFault numbers (now cells) (length (now out)) ≡ 0 ⌝ }
     ensures { λ _. ⌜ now (out .exit) ≡ over (layoutRecord numbers (rowsIn (2 ^ (numbers .bits)) (now (cells .entry)))) (now (out .entry)) ⌝ }
 {

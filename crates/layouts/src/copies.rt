@@ -33,7 +33,7 @@ fn count_row(c: Cluster, cells: &[u32], p: usize, counts: &mut [u32])
 }
 
 // The copies that each node holds in the first P rows: one walk over the rows, in their order.
-pub fn copies(c: Cluster, cells: &[u32]) -> [u32; 32]
+pub(crate) fn copies(c: Cluster, cells: &[u32]) -> [u32; 32]
     requires { ⌜ (faultOf c ≡ 0) × (layoutCells ≤ length (now cells)) × (rowsFault (topology c) (now cells) .refusal ≡ 0) ⌝ }
     ensures { λ r. ⌜ r ≡ copiesSoFar (topology c) (now (cells .entry)) (partitions (topology c)) ⌝ }
 {

@@ -13,7 +13,7 @@ use cluster::refusal;
 use cluster::rows;
 
 // The number of partitions of a cluster without fault.
-pub fn partitions(c: Cluster) -> usize
+pub(crate) fn partitions(c: Cluster) -> usize
     requires { ⌜ faultOf c ≡ 0 ⌝ }
     ensures { λ r. ⌜ (r ≡ partitions (topology c)) × (r ≤ bufferRows) ⌝ }
 {
@@ -54,7 +54,7 @@ fn own_row_fault(c: Cluster, zones: [u32; 32], cells: &[u32], p: usize) -> u32
 }
 
 // The fault of row p.
-pub fn row_fault(c: Cluster, zones: [u32; 32], cells: &[u32], p: usize) -> u32
+pub(crate) fn row_fault(c: Cluster, zones: [u32; 32], cells: &[u32], p: usize) -> u32
     requires { ⌜ (faultOf c ≡ 0) × (zones ≡ zoneCells (topology c)) × (p < bufferRows) × (layoutCells ≤ length (now cells)) ⌝ }
     ensures { λ r. ⌜ r ≡ rowFault (topology c) (now (cells .entry)) p ⌝ }
 {

@@ -61,7 +61,13 @@ fn second(caps: &[u32], first: &[u32], n: usize, room: u32) -> [u32; 32]
 }
 
 // The copies that each node is given.
-pub fn given(zones: &[u32], caps: &[u32], n: usize, partitions: u32, replication: u32) -> [u32; 32]
+pub(crate) fn given(
+    zones: &[u32],
+    caps: &[u32],
+    n: usize,
+    partitions: u32,
+    replication: u32,
+) -> [u32; 32]
     requires { ⌜ (n ≤ 32) × (length (now zones) ≡ 32) × (length (now caps) ≡ 32) × (partitions ≤ 256) × (replication ≤ 8) × AtMost 256 n (now caps) ⌝ }
     ensures { λ r. ⌜ r ≡ column (given partitions n replication (cell (now (zones .entry))) (cell (now (caps .entry)))) n ⌝ }
 {

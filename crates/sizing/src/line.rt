@@ -54,7 +54,7 @@ fn zone_begins(sums: &[u32], z: usize, n: usize, partitions: u32) -> u32
 }
 
 // The partition to which the first copy of each node goes.
-pub fn starts(zones: &[u32], copies: &[u32], n: usize, partitions: u32) -> [u32; 32]
+pub(crate) fn starts(zones: &[u32], copies: &[u32], n: usize, partitions: u32) -> [u32; 32]
     requires { ⌜ (n ≤ 32) × (length (now zones) ≡ 32) × (length (now copies) ≡ 32) × (0 < partitions) × AtMost 31 n (now zones)
         × AtMost 256 n (now copies) ⌝ }
     ensures { λ r. ⌜ r ≡ column (λ b. start partitions n (cell (now (zones .entry))) (cell (now (copies .entry))) b % partitions) n ⌝ }
@@ -97,7 +97,7 @@ fn row(starts: &[u32], copies: &[u32], n: usize, partitions: u32, p: u32) -> u32
 }
 
 // Deals the copies: each of the first P cells becomes the row of its partition.
-pub fn deal(rows: &mut [u32], starts: &[u32], copies: &[u32], n: usize, partitions: u32)
+pub(crate) fn deal(rows: &mut [u32], starts: &[u32], copies: &[u32], n: usize, partitions: u32)
     requires { ⌜ (n ≤ 32) × (length (now starts) ≡ 32) × (length (now copies) ≡ 32) × (partitions ≤ 256) × (partitions ≤ length (now rows))
         × ((b : ℕ) → b < n → cell (now starts) b < partitions) ⌝ }
     ensures { λ _. ⌜ now (rows .exit)

@@ -25,7 +25,7 @@ pub fn used(c: Cluster) -> usize
 }
 
 // The first node of the zone of node b.
-pub fn zone_index(c: Cluster, b: usize) -> u32
+pub(crate) fn zone_index(c: Cluster, b: usize) -> u32
     requires { ⌜ (b < c .count) × (b < 32) ⌝ }
     ensures { λ r. ⌜ r ≡ zoneIndex (topology c) b ⌝ }
 {
@@ -72,7 +72,7 @@ pub fn cap(capacity: u32, bits: u32, size: u32) -> u32
 }
 
 // The caps of the first n nodes at a size.
-pub fn caps_at(capacities: &[u32], n: usize, bits: u32, size: u32) -> [u32; 32]
+pub(crate) fn caps_at(capacities: &[u32], n: usize, bits: u32, size: u32) -> [u32; 32]
     requires { ⌜ (n ≤ 32) × (length (now capacities) ≡ 32) ⌝ }
     ensures { λ r. ⌜ r ≡ column (λ b. min (2 ^ bits) (cell (now (capacities .entry)) b / size)) n ⌝ }
 {
@@ -86,7 +86,7 @@ pub fn caps_at(capacities: &[u32], n: usize, bits: u32, size: u32) -> [u32; 32]
 }
 
 // The set of the first n nodes whose zone is z.
-pub fn of_zone(zones: &[u32], n: usize, z: u32) -> u32
+pub(crate) fn of_zone(zones: &[u32], n: usize, z: u32) -> u32
     requires { ⌜ (n ≤ 32) × (length (now zones) ≡ 32) ⌝ }
     ensures { λ r. ⌜ r ≡ maskOf (λ b. is (cell (now (zones .entry)) b) z) n ⌝ }
 {

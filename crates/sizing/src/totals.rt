@@ -16,7 +16,7 @@ pub fn least(x: u32, y: u32) -> u32
 }
 
 // The sum of the first n numbers, each counted up to `most`.
-pub fn total(numbers: &[u32], n: usize, most: u32) -> u32
+pub(crate) fn total(numbers: &[u32], n: usize, most: u32) -> u32
     requires { ⌜ (n ≤ 32) × (length (now numbers) ≡ 32) × (most ≤ 256) ⌝ }
     ensures { λ r. ⌜ r ≡ sumTo n (λ b. min most (cell (now (numbers .entry)) b)) ⌝ }
 {
@@ -30,7 +30,7 @@ pub fn total(numbers: &[u32], n: usize, most: u32) -> u32
 }
 
 // The sum of the numbers of zone z among the first n nodes.
-pub fn in_zone(zones: &[u32], numbers: &[u32], z: u32, n: usize) -> u32
+pub(crate) fn in_zone(zones: &[u32], numbers: &[u32], z: u32, n: usize) -> u32
     requires { ⌜ (n ≤ 32) × (length (now zones) ≡ 32) × (length (now numbers) ≡ 32) × AtMost 256 n (now numbers) ⌝ }
     ensures { λ r. ⌜ r ≡ inZone (cell (now (zones .entry))) (cell (now (numbers .entry))) z n ⌝ }
 {
@@ -46,7 +46,7 @@ pub fn in_zone(zones: &[u32], numbers: &[u32], z: u32, n: usize) -> u32
 }
 
 // The sum of the numbers of each zone.
-pub fn zone_totals(zones: &[u32], numbers: &[u32], n: usize) -> [u32; 32]
+pub(crate) fn zone_totals(zones: &[u32], numbers: &[u32], n: usize) -> [u32; 32]
     requires { ⌜ (n ≤ 32) × (length (now zones) ≡ 32) × (length (now numbers) ≡ 32) × AtMost 31 n (now zones) × AtMost 256 n (now numbers) ⌝ }
     ensures { λ r. ⌜ r ≡ column (λ z. inZone (cell (now (zones .entry))) (cell (now (numbers .entry))) z n) 32 ⌝ }
 {
@@ -61,7 +61,7 @@ pub fn zone_totals(zones: &[u32], numbers: &[u32], n: usize) -> [u32; 32]
 }
 
 // Whether caps have room for R copies of each partition, and, counting at most P in a zone, for Z copies of each.
-pub fn fit(
+pub(crate) fn fit(
     zones: &[u32],
     caps: &[u32],
     n: usize,
