@@ -13,14 +13,14 @@ use fields::Field;
 
 // What a field with a number says: the number and the byte after the field, or a refusal with its byte.
 pub enum Number {
-    Value { value: u32, end: usize },
-    Stopped { refusal: u32, byte: usize },
+    Value(u32, usize),
+    Stopped(u32, usize),
 }
 
 // What the fields before the rows say: the numbers and the byte after them, or a refusal with its byte.
 pub enum Head {
-    Read { numbers: Numbers, end: usize },
-    Halted { refusal: u32, byte: usize },
+    Read(Numbers, usize),
+    Halted(u32, usize),
 }
 
 // The field at a byte, which must have this tag; the record must not end there.
@@ -57,28 +57,16 @@ fn number_in(bytes: &[u8], at: usize, tag: u32, least: u32, most: u32) -> Number
 {
     let f = next_field(bytes, at, tag, 0);
     let Field::Body { tag: _, start, len } = f else {
-        return Number::Stopped {
-            refusal: fields::refusal_of(f),
-            byte: fields::place_of(f),
-        };
+        return Number::Stopped(fields::refusal_of(f), fields::place_of(f));
     };
     let value = number_at(bytes, start, len);
     if value < least {
-        return Number::Stopped {
-            refusal: refusal::RANGE,
-            byte: at,
-        };
+        return Number::Stopped(refusal::RANGE, at);
     }
     if most < value {
-        return Number::Stopped {
-            refusal: refusal::RANGE,
-            byte: at,
-        };
+        return Number::Stopped(refusal::RANGE, at);
     }
-    Number::Value {
-        value,
-        end: start + len,
-    }
+    Number::Value(value, start + len)
 }
 
 // The refusal of a field that has no number.
@@ -86,11 +74,8 @@ fn halted(n: Number) -> Head
     ensures { λ r. ⌜ r ≡ haltedBy n ⌝ }
 {
     match n {
-        Number::Value { value: _, end: _ } => Head::Halted {
-            refusal: 0,
-            byte: 0,
-        },
-        Number::Stopped { refusal, byte } => Head::Halted { refusal, byte },
+        Number::Value(_, _) => Head::Halted(0, 0),
+        Number::Stopped(refusal, byte) => Head::Halted(refusal, byte),
     }
 }
 
@@ -99,8 +84,8 @@ pub fn refusal_of(h: Head) -> u32
     ensures { λ r. ⌜ r ≡ haltOf h ⌝ }
 {
     match h {
-        Head::Read { numbers: _, end: _ } => 0,
-        Head::Halted { refusal, byte: _ } => refusal,
+        Head::Read(_, _) => 0,
+        Head::Halted(refusal, _) => refusal,
     }
 }
 
@@ -109,8 +94,8 @@ pub fn place_of(h: Head) -> usize
     ensures { λ r. ⌜ r ≡ haltAt h ⌝ }
 {
     match h {
-        Head::Read { numbers: _, end: _ } => 0,
-        Head::Halted { refusal: _, byte } => byte,
+        Head::Read(_, _) => 0,
+        Head::Halted(_, byte) => byte,
     }
 }
 
@@ -119,43 +104,27 @@ pub fn read_head(bytes: &[u8]) -> Head
     ensures { λ r. ⌜ r ≡ headIn (now (bytes .entry)) ⌝ }
 {
     let first = number_in(bytes, 0, 1, 0, Cluster::BITS);
-    let Number::Value { value: bits, end } = first else {
+    let Number::Value(bits, end) = first else {
         return halted(first);
     };
     let second = number_in(bytes, end, 2, 1, Cluster::REPLICATION);
-    let Number::Value {
-        value: replication,
-        end,
-    } = second
-    else {
+    let Number::Value(replication, end) = second else {
         return halted(second);
     };
     let third = number_in(bytes, end, 6, 1, Numbers::SIZE);
-    let Number::Value { value: size, end } = third else {
+    let Number::Value(size, end) = third else {
         return halted(third);
     };
     let fourth = number_in(bytes, end, 7, 0, Numbers::DISTANCE);
-    let Number::Value {
-        value: distance,
-        end,
-    } = fourth
-    else {
+    let Number::Value(distance, end) = fourth else {
         return halted(fourth);
     };
     let fifth = number_in(bytes, end, 8, 0, Numbers::VERDICT);
-    let Number::Value {
-        value: verdict,
-        end,
-    } = fifth
-    else {
+    let Number::Value(verdict, end) = fifth else {
         return halted(fifth);
     };
     let sixth = number_in(bytes, end, 9, 0, Numbers::IMPROVEMENTS);
-    let Number::Value {
-        value: improvements,
-        end,
-    } = sixth
-    else {
+    let Number::Value(improvements, end) = sixth else {
         return halted(sixth);
     };
     let numbers = Numbers {
@@ -166,5 +135,5 @@ pub fn read_head(bytes: &[u8]) -> Head
         verdict,
         improvements,
     };
-    Head::Read { numbers, end }
+    Head::Read(numbers, end)
 }

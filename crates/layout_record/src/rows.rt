@@ -91,7 +91,7 @@ pub(crate) fn read_into(bytes: &[u8], cells: &mut [u32]) -> ReadLayout
         × (r .refusal ≡ 0 → now (cells .exit) ≡ cellsOf (readLayout (now (bytes .entry)) .layout)) ⌝ }
 {
     let h = head::read_head(bytes);
-    let Head::Read { numbers, end } = h else {
+    let Head::Read(numbers, end) = h else {
         return refused(head::refusal_of(h), head::place_of(h));
     };
     read_rows(bytes, end, numbers, cells)
