@@ -30,8 +30,10 @@ esac
 if [ -d crates/console ]; then
     rt staticlib console || fail "the static library of the console crate was not built"
 fi
-if [ -f console/Cargo.toml ]; then
-    cargo test --release --offline --manifest-path console/Cargo.toml || fail "a Rust test failed"
-fi
+for manifest in console/reference/Cargo.toml console/Cargo.toml; do
+    if [ -f "$manifest" ]; then
+        cargo test --release --offline --manifest-path "$manifest" || fail "a Rust test failed"
+    fi
+done
 
 printf '%s\n' "$last"
