@@ -1,4 +1,4 @@
-pub mod Runs
 pub mod Rules
 pub mod Machines
 pub mod Demands
+pub mod Refusals

@@ -47,9 +47,10 @@ use Rattle.cycles.specs.ModelGraph.{graphOf, arcOf, weightOf}
 use Rattle.cycles.specs.ModelFound.{searchable, endLength, endWalk, foundLength, foundWalk}
 use Rattle.circuits.specs.ModelCircuits.{turnedOf, okOf, witnessOf}
 use Rattle.circuits.proofs.Improving.{ok-right, witness-graph, turned-length, held-cycle, turned-small, turned-better}
-use Rattle.planner.specs.Run.{Ran, after, run}
-use Rattle.planner.specs.ModelRun.{arcsIn, cycleIn, improvesIn, nextIn, agreementIn, bitsAt, matesOf, formerMasks, startRows, layoutRows, farRows, improvesAt, nextAt}
-use Rattle.planner.proofs.Runs.{true-or-false, not-both}
+use Rattle.improve.specs.Run.{Ran, after, run}
+use Rattle.improve.specs.ModelImprove.{arcsIn, cycleIn, improvesIn, nextIn, agreementIn}
+use Rattle.planner.specs.ModelRun.{bitsAt, matesOf, formerMasks, startRows, layoutRows, farRows, improvesAt, nextAt}
+use Rattle.improve.proofs.Runs.{true-or-false, not-both}
 use Rattle.planner.proofs.Rules.{Machine}
 
 -- ---- a cluster with a layout
