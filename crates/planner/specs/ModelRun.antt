@@ -3,10 +3,10 @@
 -- Assumes nothing.
 use Prim.Native.Nat.{ℕ, _+_, _-_, _*_}
 use mathlib.Core.Bool.{Bool}
-use mathlib.Core.List.{List}
-use lib.ListN.{getD, replicate}
+use mathlib.Core.List.{List, _++_}
+use lib.ListN.{getD, drop, replicate}
 use Rattle.sets.specs.Bits.{bit, maskOf}
-use Rattle.cells.specs.Cells.{put}
+use Rattle.cells.specs.Cells.{tab}
 use Rattle.cluster.specs.Limits.{bufferRows}
 use Rattle.cluster.specs.Terms.{Topology, partitions, Layout}
 use Rattle.cluster.specs.Tie.{incidence, layoutOf, formerPairs}
@@ -27,7 +27,7 @@ matesOf t = mateCells (zoneCells t) (nodesOf t)
 
 -- The former rows, cut to the nodes of the cluster.
 unfoldable pub formerMasks : Topology → Layout → List ℕ
-formerMasks t F = put 0 (λ p. maskOf (incidence t F p) (nodesOf t)) (partitions t) (replicate bufferRows 0)
+formerMasks t F = tab (λ p. maskOf (incidence t F p) (nodesOf t)) (partitions t) ++ drop (partitions t) (replicate bufferRows 0)
 
 -- The rows of the beginning.
 unfoldable pub startRows : Topology → List ℕ
@@ -48,9 +48,13 @@ improvesAt t F = improvesIn (formerMasks t F) (partitions t) (matesOf t) (capCel
 abbrev pub nextAt : Topology → Layout → List ℕ → List ℕ
 nextAt t F = nextIn (formerMasks t F) (partitions t) (matesOf t) (capCells t (sizeOf t)) (nodesOf t) (t .redundancy)
 
--- Where the run with an allowance ends.
-unfoldable pub ranOf : Topology → Layout → ℕ → Ran (List ℕ)
-ranOf t F a = run (improvesAt t F) (nextAt t F) a (startRows t)
+-- Where the run with an allowance ends, from the rows dealt at a size, `before` the former rows as masks.
+unfoldable pub ranFrom : Topology → ℕ → List ℕ → ℕ → Ran (List ℕ)
+ranFrom t s before a =
+    ranIn before (partitions t) (matesOf t) (capCells t s) (nodesOf t) (t .redundancy) a (dealtRows t s (replicate bufferRows 0))
+
+abbrev pub ranOf : Topology → Layout → ℕ → Ran (List ℕ)
+ranOf t F a = ranFrom t (sizeOf t) (formerMasks t F) a
 
 -- The answer of planning, of the nodes in use, the first P former rows and the allowance alone.
 unfoldable pub planOf : Topology → Layout → ℕ → Answer
