@@ -14,12 +14,19 @@ pub struct Ended {
 }
 
 // Whether the rows can be improved; where they can and it is allowed, they are, by the exchanges of one cycle.
-fn step(rows: &mut [u32], former: &[u32], partitions: usize, mates: &[u32], caps: &[u32], nodes: u32, z: u32, allowed: bool) -> bool
-    ensures {
-        λ r. ⌜ (r ≡ improvesIn (now (former .entry)) partitions (now (mates .entry)) (now (caps .entry)) nodes z (now (rows .entry)))
+fn step(
+    rows: &mut [u32],
+    former: &[u32],
+    partitions: usize,
+    mates: &[u32],
+    caps: &[u32],
+    nodes: u32,
+    z: u32,
+    allowed: bool,
+) -> bool
+    ensures { λ r. ⌜ (r ≡ improvesIn (now (former .entry)) partitions (now (mates .entry)) (now (caps .entry)) nodes z (now (rows .entry)))
         × (now (rows .exit)
-        ≡ steppedIn (now (former .entry)) partitions (now (mates .entry)) (now (caps .entry)) nodes z allowed (now (rows .entry))) ⌝
-    }
+        ≡ steppedIn (now (former .entry)) partitions (now (mates .entry)) (now (caps .entry)) nodes z allowed (now (rows .entry))) ⌝ }
 {
     let all = sets::below(nodes);
     let mut arcs = [0u32; 96];
@@ -36,15 +43,22 @@ fn step(rows: &mut [u32], former: &[u32], partitions: usize, mates: &[u32], caps
 }
 
 // The run from the rows in hand, with an allowance of improvements.
-pub fn run(rows: &mut [u32], former: &[u32], partitions: usize, mates: &[u32], caps: &[u32], nodes: u32, z: u32, allowance: u32) -> Ended
-    ensures {
-        λ r. ⌜ (now (rows .exit)
+pub fn run(
+    rows: &mut [u32],
+    former: &[u32],
+    partitions: usize,
+    mates: &[u32],
+    caps: &[u32],
+    nodes: u32,
+    z: u32,
+    allowance: u32,
+) -> Ended
+    ensures { λ r. ⌜ (now (rows .exit)
         ≡ ranIn (now (former .entry)) partitions (now (mates .entry)) (now (caps .entry)) nodes z allowance (now (rows .entry)) .state)
         × (r .finished
         ≡ ranIn (now (former .entry)) partitions (now (mates .entry)) (now (caps .entry)) nodes z allowance (now (rows .entry)) .finished)
         × (r .improvements
-        ≡ ranIn (now (former .entry)) partitions (now (mates .entry)) (now (caps .entry)) nodes z allowance (now (rows .entry)) .steps) ⌝
-    }
+        ≡ ranIn (now (former .entry)) partitions (now (mates .entry)) (now (caps .entry)) nodes z allowance (now (rows .entry)) .steps) ⌝ }
 {
     let mut done = 0;
     while done < allowance {

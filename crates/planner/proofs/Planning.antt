@@ -81,13 +81,12 @@ module _ (c : Cluster) (former : List ℕ) (allowance : ℕ) (assignment scratch
 
     -- No layout is valid at size 1.
     pub none-ends : (size : ℕ) → size ≡ sizeIn c → size ≡ 0 → (rest : List ℕ) → rest ≡ replicate 16384 0 ++ drop 16384 scratch
-      → (r : Planned) → r ≡ refusedWith 9 → Ends r assignment rest
+        → (r : Planned) → r ≡ refusedWith 9 → Ends r assignment rest
     none-ends size e z rest er r q =
         let none : sizeOf (topology c) ≡ 0 = sym (size-in c faultless) ∙ (sym e ∙ z) in
         let w =
         with-refusal 9 (none-or-nine ∙ ap (λ (b : Bool). pick b 9 0) (eq-eqb (sizeOf (topology c)) 0 none)) (λ x. absurd (omega arith)) in
-        let empty = no-layout (topology c) (accepted c faultless) .0 none in
-        (
+        let empty = no-layout (topology c) (accepted c faultless) .0 none in (
           q ∙ w .0,
           w .1,
           cleared rest er,
@@ -100,15 +99,14 @@ module _ (c : Cluster) (former : List ℕ) (allowance : ℕ) (assignment scratch
 
     -- The plan is made.
     pub planned-ends : (size : ℕ) → size ≡ sizeIn c → (size ≡ 0 → ⊥) → (rest : List ℕ) → rest ≡ replicate 16384 0 ++ drop 16384 scratch
-      → (r : Planned) → r ≡ answered (answerOf c former allowance) → (cells : List ℕ)
-      → cells ≡ cellsOf (answerOf c former allowance .layout) ++ drop 2048 assignment → Fits32 (topology c) → Ends r cells rest
+        → (r : Planned) → r ≡ answered (answerOf c former allowance) → (cells : List ℕ)
+        → cells ≡ cellsOf (answerOf c former allowance .layout) ++ drop 2048 assignment → Fits32 (topology c) → Ends r cells rest
     unfolding plannedOf assignmentAfter
     planned-ends size e some rest er r q cells ec low =
         let large : sizeOf (topology c) ≡ 0 → ⊥ = λ z. some (e ∙ (size-in c faultless ∙ z)) in
         let no-refusal : planRefusal c former a s ≡ 0 = none-or-nine ∙ ap (λ (b : Bool). pick b 9 0) (ne-eqb (sizeOf (topology c)) 0 large) in
         let test = eq-eqb (planRefusal c former a s) 0 no-refusal in
-        let zero : r .refusal ≡ 0 = ap (λ (p : Planned). p .refusal) q in
-        (
+        let zero : r .refusal ≡ 0 = ap (λ (p : Planned). p .refusal) q in (
           q ∙ sym (ap (λ (b : Bool). pick b (answered (answerOf c former allowance)) (refusedWith (planRefusal c former a s))) test),
           ec ∙ sym (ap (λ (b : Bool). pick b (cellsOf (answerOf c former allowance .layout) ++ drop 2048 assignment) assignment) test),
           cleared rest er,

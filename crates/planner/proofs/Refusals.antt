@@ -56,21 +56,20 @@ unfolding unusable
 usable-has c former a s e = go (ltb (length former) 2048) refl (ltb a 2048) refl (ltb s 16384) refl e
   where
     rows : 2048 ≤ length former → 2048 ≤ a → 16384 ≤ s → faultOf c ≡ 0 → (r : Bool) → rowsFormed former (partitions (topology c)) ≡ r
-      → _≡_ {A = ℕ} (pick r 0 5) 0 → Usable c former a s
+        → _≡_ {A = ℕ} (pick r 0 5) 0 → Usable c former a s
     rows f g h z true q k = record { former-long = f; assignment-long = g; scratch-long = h; faultless = z; rows-formed = q }
     rows f g h z false q k = absurd (omega arith)
 
     fault : 2048 ≤ length former → 2048 ≤ a → 16384 ≤ s → (t : Bool) → eqb (faultOf c) 0 ≡ t
-      → _≡_ {A = ℕ} (pick t (pick (rowsFormed former (partitions (topology c))) 0 5) (faultOf c)) 0 → Usable c former a s
+        → _≡_ {A = ℕ} (pick t (pick (rowsFormed former (partitions (topology c))) 0 5) (faultOf c)) 0 → Usable c former a s
     fault f g h true q k = rows f g h (eqb-true (faultOf c) 0 q) (rowsFormed former (partitions (topology c))) refl k
     fault f g h false q k = absurd (not-both (eqb (faultOf c) 0) (eq-eqb (faultOf c) 0 k) q)
 
     go : (x : Bool) → ltb (length former) 2048 ≡ x → (y : Bool) → ltb a 2048 ≡ y → (z : Bool) → ltb s 16384 ≡ z
-      → _≡_ {A = ℕ} (pick (x || y || z) 8 (pick (eqb (faultOf c) 0) (pick (rowsFormed former (partitions (topology c))) 0 5) (faultOf c))) 0
-      → Usable c former a s
+        → _≡_ {A = ℕ} (pick (x || y || z) 8 (pick (eqb (faultOf c) 0) (pick (rowsFormed former (partitions (topology c))) 0 5) (faultOf c))) 0
+        → Usable c former a s
     go true p y q z r k = absurd (omega arith)
     go false p true q z r k = absurd (omega arith)
     go false p false q true r k = absurd (omega arith)
     go false p false q false r k =
         fault (ltb-false (length former) 2048 p) (ltb-false a 2048 q) (ltb-false s 16384 r) (eqb (faultOf c) 0) refl k
-

@@ -62,18 +62,18 @@ module _ (c : Cluster) (size P n : ℕ) (before rows zones mates caps dealt : Li
     (en : n ≡ nodesOf (topology c)) (e-rows : rows ≡ replicate 256 0) (e-dealt : dealt ≡ dealtIn c size rows) (e-zones : zones ≡ zoneCells (topology c))
     (e-mates : mates ≡ mateCells zones n) (e-caps : caps ≡ capCells (topology c) size)
   where
-  the-dealt : dealt ≡ dealtRows (topology c) size (replicate 256 0)
-  the-dealt =
-      e-dealt
-      ∙ (ap (dealtIn c size) e-rows
-      ∙ deal-in c size (replicate 256 0) e (omega (arith, few-partitions (topology c) (accepted c e), length-replicate {A = ℕ} 256 0)))
+    the-dealt : dealt ≡ dealtRows (topology c) size (replicate 256 0)
+    the-dealt =
+        e-dealt
+        ∙ (ap (dealtIn c size) e-rows
+        ∙ deal-in c size (replicate 256 0) e (omega (arith, few-partitions (topology c) (accepted c e), length-replicate {A = ℕ} 256 0)))
 
-  pub run-is : ranIn before P mates caps n (c .redundancy) a dealt ≡ ranFrom (topology c) size before a
-  unfolding ranFrom
-  run-is = λ i. ranIn before (eP i) (the-mates i) (e-caps i) (en i) (c .redundancy) a (the-dealt i)
-    where
-      the-mates : mates ≡ mateCells (zoneCells (topology c)) (nodesOf (topology c))
-      the-mates = e-mates ∙ (λ i. mateCells (e-zones i) (en i))
+    pub run-is : ranIn before P mates caps n (c .redundancy) a dealt ≡ ranFrom (topology c) size before a
+    unfolding ranFrom
+    run-is = λ i. ranIn before (eP i) (the-mates i) (e-caps i) (en i) (c .redundancy) a (the-dealt i)
+      where
+        the-mates : mates ≡ mateCells (zoneCells (topology c)) (nodesOf (topology c))
+        the-mates = e-mates ∙ (λ i. mateCells (e-zones i) (en i))
 
 -- ---- the answer
 
@@ -82,86 +82,86 @@ module _ (c : Cluster) (former : List ℕ) (a size P : ℕ) (before rows : List 
     (eP : P ≡ partitions (topology c)) (eb : before ≡ masksRead (topology c .nodes) former P (replicate 256 0))
     (er : rows ≡ ranFrom (topology c) size before a .state) (low : Fits32 (topology c))
   where
-  abbrev t : Topology
-  t = topology c
+    abbrev t : Topology
+    t = topology c
 
-  abbrev F : Layout
-  F = rowsIn (partitions t) former
+    abbrev F : Layout
+    F = rowsIn (partitions t) former
 
-  acc : Accepted t
-  acc = accepted c e
+    acc : Accepted t
+    acc = accepted c e
 
-  fo : IsFormer t F
-  fo = formed-former t former formed
+    fo : IsFormer t F
+    fo = formed-former t former formed
 
-  has-size : 1 ≤ sizeOf t
-  has-size = omega (arith, es)
+    has-size : 1 ≤ sizeOf t
+    has-size = omega (arith, es)
 
-  -- The masks read are those of the former layout.
-  mask-is : (p : ℕ) → p < partitions t → rowMask (t .nodes) former p ≡ maskOf (incidence t F p) (nodesOf t)
-  unfolding incidence
-  mask-is p l =
-      let w = formed-each former (partitions t) p formed l in
-      mask-bits (t .nodes) former p (acc .ids) (w .0) (w .1)
-      ∙ mask-cong (bitsOf (t .nodes) (idsIn (rowAt former p))) (incidence t F p) (nodesOf t)
-      (λ b k. ap (λ (r : List ℕ). bitsOf (t .nodes) r b) (sym (row-rowsIn (partitions t) former p l)))
+    -- The masks read are those of the former layout.
+    mask-is : (p : ℕ) → p < partitions t → rowMask (t .nodes) former p ≡ maskOf (incidence t F p) (nodesOf t)
+    unfolding incidence
+    mask-is p l =
+        let w = formed-each former (partitions t) p formed l in
+        mask-bits (t .nodes) former p (acc .ids) (w .0) (w .1)
+        ∙ mask-cong (bitsOf (t .nodes) (idsIn (rowAt former p))) (incidence t F p) (nodesOf t)
+        (λ b k. ap (λ (r : List ℕ). bitsOf (t .nodes) r b) (sym (row-rowsIn (partitions t) former p l)))
 
-  before-is : before ≡ formerMasks t F
-  unfolding masksRead formerMasks
-  before-is =
-      eb
-      ∙ (ap (λ (n : ℕ). masksRead (t .nodes) former n (replicate 256 0)) eP
-      ∙ (simp (le-leb (partitions t) 256 (few-partitions t acc), length-replicate {A = ℕ} 256 0)
-      (ap (λ (l : List ℕ). l ++ drop (partitions t) (replicate 256 0))
-      (tab-cong (λ p. rowMask (t .nodes) former p) (λ p. maskOf (incidence t F p) (nodesOf t)) (partitions t) mask-is))))
+    before-is : before ≡ formerMasks t F
+    unfolding masksRead formerMasks
+    before-is =
+        eb
+        ∙ (ap (λ (n : ℕ). masksRead (t .nodes) former n (replicate 256 0)) eP
+        ∙ (simp (le-leb (partitions t) 256 (few-partitions t acc), length-replicate {A = ℕ} 256 0)
+        (ap (λ (l : List ℕ). l ++ drop (partitions t) (replicate 256 0))
+        (tab-cong (λ p. rowMask (t .nodes) former p) (λ p. maskOf (incidence t F p) (nodesOf t)) (partitions t) mask-is))))
 
-  ran-is : ranFrom t size before a ≡ ranOf t F a
-  ran-is = λ i. ranFrom t (es i) (before-is i) a
+    ran-is : ranFrom t size before a ≡ ranOf t F a
+    ran-is = λ i. ranFrom t (es i) (before-is i) a
 
-  rows-are : rows ≡ ranOf t F a .state
-  rows-are = er ∙ ap (λ (r : Ran (List ℕ)). r .state) ran-is
+    rows-are : rows ≡ ranOf t F a .state
+    rows-are = er ∙ ap (λ (r : Ran (List ℕ)). r .state) ran-is
 
-  good : Good t acc rows
-  good = subst (Good t acc) (sym rows-are) (good-state t acc low has-size F fo a)
+    good : Good t acc rows
+    good = subst (Good t acc) (sym rows-are) (good-state t acc low has-size F fo a)
 
-  ids-are : idsTotal former P ≡ formerPairs t F
-  ids-are = ap (idsTotal former) eP ∙ ids-pairs t former formed
+    ids-are : idsTotal former P ≡ formerPairs t F
+    ids-are = ap (idsTotal former) eP ∙ ids-pairs t former formed
 
-  agreement-is : agreementIn rows before P ≡ agreementIn rows (formerMasks t F) (partitions t)
-  agreement-is = λ i. agreementIn rows (before-is i) (eP i)
+    agreement-is : agreementIn rows before P ≡ agreementIn rows (formerMasks t F) (partitions t)
+    agreement-is = λ i. agreementIn rows (before-is i) (eP i)
 
-  -- What measuring asks for is there.
-  pub measurable : (c .replication ≤ 8) × (P ≤ 256) × (P ≤ length before) × (P ≤ length rows) × (idsTotal former P ≤ 2048)
-    × (2 * agreementIn rows before P ≤ c .replication * P + idsTotal former P)
-  measurable = (
-    acc .replication .1,
-    omega (arith, eP, few-partitions t acc),
-    omega (arith, eP, few-partitions t acc, ap length before-is, fm-long t acc F),
-    omega (arith, eP, few-partitions t acc, good .long),
-    omega (arith, ids-are, former-few t F fo, few-partitions t acc),
-    omega (arith, ids-are, agreement-is, ap (λ (n : ℕ). c .replication * n) eP, far-fits t acc F fo rows good),
-  )
+    -- What measuring asks for is there.
+    pub measurable : (c .replication ≤ 8) × (P ≤ 256) × (P ≤ length before) × (P ≤ length rows) × (idsTotal former P ≤ 2048)
+        × (2 * agreementIn rows before P ≤ c .replication * P + idsTotal former P)
+    measurable = (
+      acc .replication .1,
+      omega (arith, eP, few-partitions t acc),
+      omega (arith, eP, few-partitions t acc, ap length before-is, fm-long t acc F),
+      omega (arith, eP, few-partitions t acc, good .long),
+      omega (arith, ids-are, former-few t F fo, few-partitions t acc),
+      omega (arith, ids-are, agreement-is, ap (λ (n : ℕ). c .replication * n) eP, far-fits t acc F fo rows good),
+    )
 
-  -- The answer is that of the definition.
-  pub answer-is : (d : ℕ) → d ≡ c .replication * P + idsTotal former P - 2 * agreementIn rows before P → (f : Bool) → f ≡ ranFrom t size before a .finished
-    → (s : ℕ) → s ≡ ranFrom t size before a .steps
-    → _≡_ {A = Planned} (record { refusal = 0; size = size; distance = d; finished = f; improvements = s }) (answered (answerOf c former a))
-  unfolding planOf farRows
-  answer-is d ed f ef s es′ =
-      λ i. record { refusal = 0; size = es i; distance = far i; finished = (ef ∙ ap (λ (r : Ran (List ℕ)). r .finished) ran-is) i; improvements = (es′ ∙ ap (λ (r : Ran (List ℕ)). r .steps) ran-is) i }
-    where
-      far : d ≡ farRows t F (ranOf t F a .state)
-      far =
-          ed
-          ∙ ((λ i. c .replication * eP i + ids-are i - 2 * agreement-is i)
-          ∙ ap (λ (l : List ℕ). c .replication * partitions t + formerPairs t F - 2 * agreementIn l (formerMasks t F) (partitions t)) rows-are)
+    -- The answer is that of the definition.
+    pub answer-is : (d : ℕ) → d ≡ c .replication * P + idsTotal former P - 2 * agreementIn rows before P → (f : Bool) → f ≡ ranFrom t size before a .finished
+        → (s : ℕ) → s ≡ ranFrom t size before a .steps
+        → _≡_ {A = Planned} (record { refusal = 0; size = size; distance = d; finished = f; improvements = s }) (answered (answerOf c former a))
+    unfolding planOf farRows
+    answer-is d ed f ef s es′ =
+        λ i. record { refusal = 0; size = es i; distance = far i; finished = (ef ∙ ap (λ (r : Ran (List ℕ)). r .finished) ran-is) i; improvements = (es′ ∙ ap (λ (r : Ran (List ℕ)). r .steps) ran-is) i }
+      where
+        far : d ≡ farRows t F (ranOf t F a .state)
+        far =
+            ed
+            ∙ ((λ i. c .replication * eP i + ids-are i - 2 * agreement-is i)
+            ∙ ap (λ (l : List ℕ). c .replication * partitions t + formerPairs t F - 2 * agreementIn l (formerMasks t F) (partitions t)) rows-are)
 
-  -- The cells written are those of its layout.
-  pub cells-are : (cells : List ℕ) → 2048 ≤ length cells
-    → cellsWritten (t .nodes) rows P cells ≡ cellsOf (answerOf c former a .layout) ++ drop 2048 cells
-  unfolding planOf layoutRows
-  cells-are cells whole =
-      ap (λ (n : ℕ). cellsWritten (t .nodes) rows n cells) eP
-      ∙ (written-layout t rows cells (few-partitions t acc) (omega (arith, few-partitions t acc, good .long)) whole
-      (λ p l. omega (arith, good .within .rows p l .size, acc .replication .1))
-      ∙ ap (λ (l : List ℕ). cellsOf (layoutRows t l) ++ drop 2048 cells) rows-are)
+    -- The cells written are those of its layout.
+    pub cells-are : (cells : List ℕ) → 2048 ≤ length cells
+        → cellsWritten (t .nodes) rows P cells ≡ cellsOf (answerOf c former a .layout) ++ drop 2048 cells
+    unfolding planOf layoutRows
+    cells-are cells whole =
+        ap (λ (n : ℕ). cellsWritten (t .nodes) rows n cells) eP
+        ∙ (written-layout t rows cells (few-partitions t acc) (omega (arith, few-partitions t acc, good .long)) whole
+        (λ p l. omega (arith, good .within .rows p l .size, acc .replication .1))
+        ∙ ap (λ (l : List ℕ). cellsOf (layoutRows t l) ++ drop 2048 cells) rows-are)

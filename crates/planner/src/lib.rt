@@ -2,8 +2,8 @@
 ghost use mathlib.Core.Path.{_≡_};
 ghost use lib.ListN.{length};
 ghost use Rattle.planner.specs.TermsPlan.{plannedOf, assignmentAfter, scratchAfter, refusedWith, Owed};
-use cluster::refusal;
 use cluster::Cluster;
+use cluster::refusal;
 
 mod prepare;
 mod refuse;
@@ -33,13 +33,17 @@ fn refused(number: u32) -> Planned
 
 // The plan of a cluster: the largest size, and a layout of that size that is nearest to the former one, or as near as the allowance of
 // improvements brings it. The assignment takes the layout, the scratch is zeroed.
-pub fn plan(c: Cluster, former: &[u32], allowance: u16, assignment: &mut [u32], scratch: &mut [u32]) -> Planned
-    ensures {
-        λ r. ⌜ (r ≡ plannedOf c (now (former .entry)) allowance (length (now (assignment .entry))) (length (now (scratch .entry))))
+pub fn plan(
+    c: Cluster,
+    former: &[u32],
+    allowance: u16,
+    assignment: &mut [u32],
+    scratch: &mut [u32],
+) -> Planned
+    ensures { λ r. ⌜ (r ≡ plannedOf c (now (former .entry)) allowance (length (now (assignment .entry))) (length (now (scratch .entry))))
         × (now (assignment .exit) ≡ assignmentAfter c (now (former .entry)) allowance (now (assignment .entry)) (length (now (scratch .entry))))
         × (now (scratch .exit) ≡ scratchAfter c (now (former .entry)) (length (now (assignment .entry))) (now (scratch .entry)))
-        × Owed c (now (former .entry)) (length (now (assignment .entry))) (length (now (scratch .entry))) (r .refusal) ⌝
-    }
+        × Owed c (now (former .entry)) (length (now (assignment .entry))) (length (now (scratch .entry))) (r .refusal) ⌝ }
 {
     let unusable = refuse::unusable(c, former, assignment.len(), scratch.len());
     if unusable != 0 {

@@ -2,8 +2,8 @@
 ghost use mathlib.Core.Path.{_≡_};
 ghost use Prim.Native.Nat.{_≤_, _^_};
 ghost use Rattle.planner.specs.TermsPlan.{unusable};
-use cluster::refusal;
 use cluster::Cluster;
+use cluster::refusal;
 
 // The number of partitions of a cluster in range.
 pub(crate) fn partitions(bits: u32) -> usize

@@ -12,20 +12,24 @@ ghost use Rattle.sizing.specs.Model.{Fits32, sizeOf};
 ghost use Rattle.improve.specs.ModelImprove.{agreementIn};
 ghost use Rattle.planner.specs.ModelRun.{ranFrom};
 ghost use Rattle.planner.specs.TermsPlan.{answerOf, answered};
-use super::refuse;
 use super::Planned;
+use super::refuse;
 use cluster::Cluster;
 use improve::Ended;
 
 // The run from the beginning dealt at the size. `before` holds the former rows as masks.
-pub(crate) fn improved(c: Cluster, size: u32, before: &[u32], allowance: u32, rows: &mut [u32]) -> Ended
+pub(crate) fn improved(
+    c: Cluster,
+    size: u32,
+    before: &[u32],
+    allowance: u32,
+    rows: &mut [u32],
+) -> Ended
     requires { ⌜ (faultOf c ≡ 0) × (now rows ≡ replicate 256 0) ⌝ }
-    ensures {
-        λ r. ⌜ (now (rows .exit) ≡ ranFrom (topology c) size (now (before .entry)) allowance .state)
+    ensures { λ r. ⌜ (now (rows .exit) ≡ ranFrom (topology c) size (now (before .entry)) allowance .state)
         × (r .finished ≡ ranFrom (topology c) size (now (before .entry)) allowance .finished)
         × (r .improvements ≡ ranFrom (topology c) size (now (before .entry)) allowance .steps)
-        × Fits32 (topology c) ⌝
-    }
+        × Fits32 (topology c) ⌝ }
 {
     let partitions = refuse::partitions(c.bits);
     let count = c.count;
@@ -33,20 +37,31 @@ pub(crate) fn improved(c: Cluster, size: u32, before: &[u32], allowance: u32, ro
     let zones = sizing::zones(c);
     let mates = sizing::mates(zones, count);
     let caps = sizing::caps(c, size);
-    improve::run(rows, before, partitions, &mates, &caps, count as u32, c.redundancy, allowance)
+    improve::run(
+        rows,
+        before,
+        partitions,
+        &mates,
+        &caps,
+        count as u32,
+        c.redundancy,
+        allowance,
+    )
 }
 
 // How far the layout of the rows is from the former one: the pairs of either, less those of both twice.
-pub(crate) fn measured(replication: u32, former: &[u32], before: &[u32], rows: &[u32], partitions: usize) -> u32
-    requires {
-        ⌜ (replication ≤ 8) × (partitions ≤ 256) × (partitions ≤ length (now before)) × (partitions ≤ length (now rows))
+pub(crate) fn measured(
+    replication: u32,
+    former: &[u32],
+    before: &[u32],
+    rows: &[u32],
+    partitions: usize,
+) -> u32
+    requires { ⌜ (replication ≤ 8) × (partitions ≤ 256) × (partitions ≤ length (now before)) × (partitions ≤ length (now rows))
         × (idsTotal (now former) partitions ≤ 2048)
-        × (2 * agreementIn (now rows) (now before) partitions ≤ replication * partitions + idsTotal (now former) partitions) ⌝
-    }
-    ensures {
-        λ r. ⌜ r ≡ replication * partitions + idsTotal (now (former .entry)) partitions
-        - 2 * agreementIn (now (rows .entry)) (now (before .entry)) partitions ⌝
-    }
+        × (2 * agreementIn (now rows) (now before) partitions ≤ replication * partitions + idsTotal (now former) partitions) ⌝ }
+    ensures { λ r. ⌜ r ≡ replication * partitions + idsTotal (now (former .entry)) partitions
+        - 2 * agreementIn (now (rows .entry)) (now (before .entry)) partitions ⌝ }
 {
     let pairs = masks::count_ids(former, partitions);
     let shared = improve::agreement(rows, before, partitions);
@@ -54,16 +69,18 @@ pub(crate) fn measured(replication: u32, former: &[u32], before: &[u32], rows: &
 }
 
 // The plan of a cluster that has a layout.
-pub(crate) fn settle(c: Cluster, former: &[u32], allowance: u32, size: u32, assignment: &mut [u32]) -> Planned
-    requires {
-        ⌜ (faultOf c ≡ 0) × (2048 ≤ length (now assignment)) × (rowsFormed (now former) (partitions (topology c)) ≡ true)
-        × (size ≡ sizeOf (topology c)) × (1 ≤ size) ⌝
-    }
-    ensures {
-        λ r. ⌜ (r ≡ answered (answerOf c (now (former .entry)) allowance))
+pub(crate) fn settle(
+    c: Cluster,
+    former: &[u32],
+    allowance: u32,
+    size: u32,
+    assignment: &mut [u32],
+) -> Planned
+    requires { ⌜ (faultOf c ≡ 0) × (2048 ≤ length (now assignment)) × (rowsFormed (now former) (partitions (topology c)) ≡ true)
+        × (size ≡ sizeOf (topology c)) × (1 ≤ size) ⌝ }
+    ensures { λ r. ⌜ (r ≡ answered (answerOf c (now (former .entry)) allowance))
         × (now (assignment .exit) ≡ cellsOf (answerOf c (now (former .entry)) allowance .layout) ++ drop 2048 (now (assignment .entry)))
-        × Fits32 (topology c) ⌝
-    }
+        × Fits32 (topology c) ⌝ }
 {
     let partitions = refuse::partitions(c.bits);
     let mut before = [0u32; 256];

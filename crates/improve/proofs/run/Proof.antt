@@ -46,8 +46,7 @@ loop-less c = search needs
 loop-again : tie.Need-loop-again Inv-loop μ-loop
 loop-again c =
     let k = c .before .before .before .before .before .before .loop in
-    let s = c .before .before .before .step in
-    (
+    let s = c .before .before .before .step in (
       search needs,
       ap length (s .ensures .1) ∙ (stepped-length _ _ _ _ _ _ _ _ ∙ k .inv .1),
       ran-on _ _ _ _ _ _ _ _ (k .done) (k .rows) (k .inv .2) (s .result) (s .ensures .0) (search needs) _ (s .ensures .1) (not-false (s .result) (c .if1 .left)),

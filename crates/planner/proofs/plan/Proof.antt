@@ -29,11 +29,11 @@ returns c =
 
 -- Past the first test nothing but the lack of a layout can be refused.
 past : (c : tie.Else1)
-  → unusable (c .before .before .before .before .before .args .c) (c .before .before .before .before .before .args .former .now) (length (c .before .before .before .before .before .args .assignment .now)) (length (c .before .before .before .before .before .args .scratch .now)) ≡ 0
+    → unusable (c .before .before .before .before .before .args .c) (c .before .before .before .before .before .args .former .now) (length (c .before .before .before .before .before .args .assignment .now)) (length (c .before .before .before .before .before .args .scratch .now)) ≡ 0
 past c = sym (c .before .unusable .ensures) ∙ c .if1 .left
 
 usable : (c : tie.Else1)
-  → Usable (c .before .before .before .before .before .args .c) (c .before .before .before .before .before .args .former .now) (length (c .before .before .before .before .before .args .assignment .now)) (length (c .before .before .before .before .before .args .scratch .now))
+    → Usable (c .before .before .before .before .before .args .c) (c .before .before .before .before .before .args .former .now) (length (c .before .before .before .before .before .args .assignment .now)) (length (c .before .before .before .before .before .args .scratch .now))
 usable c = usable-has _ _ _ _ (past c)
 
 clear-requires : tie.Need-clear-requires
@@ -58,8 +58,7 @@ settle-requires : tie.Need-settle-requires
 settle-requires c κs =
     let u = usable (c .before .before .before .before .before .before .before) in
     let g = c .before .before .before .before .before .before .before .before .before .before .before .before .args in
-    let z = c .before .before .size in
-    (
+    let z = c .before .before .size in (
       u .faultless,
       u .assignment-long,
       u .rows-formed,

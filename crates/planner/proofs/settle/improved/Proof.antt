@@ -65,8 +65,7 @@ returns c =
     let q =
     run-is (s .args .c) (s .args .size) _ _ (s .args .before .now) (s .args .rows .now) _ _ _ _ (s .args .allowance) (s .pre .0)
     (c .before .before .before .before .before .before .before .before .before .before .before .before .before .partitions .ensures .0) (used s) (s .pre .1) (c .before .before .before .before .before .before .before .before .before .before .before .deal .ensures) (c .before .before .before .before .before .before .before .before .zones .ensures)
-    (c .before .before .before .before .before .before .before .mates .ensures) (c .before .before .before .before .before .before .caps .ensures .0) in
-    (
+    (c .before .before .before .before .before .before .before .mates .ensures) (c .before .before .before .before .before .before .caps .ensures .0) in (
       r .0 ∙ ap (λ (x : Ran (List ℕ)). x .state) q,
       r .1 ∙ ap (λ (x : Ran (List ℕ)). x .finished) q,
       r .2 ∙ ap (λ (x : Ran (List ℕ)). x .steps) q,

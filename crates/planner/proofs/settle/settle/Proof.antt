@@ -55,14 +55,13 @@ same-length c = search needs
 returns : tie.Need-returns
 returns c =
     let s = c .before .before .before .before .before .before .before .before .before .before .before .before .before .before .before .before .before .before in
-    let i = c .before .before .before .before .before .before .before .before .before .improved in
-    (
+    let i = c .before .before .before .before .before .before .before .before .before .improved in (
       answer-is (s .args .c) (s .args .former .now) (s .args .allowance) (s .args .size) _ _ _ (s .pre .0) (s .pre .2) (s .pre .3) (s .pre .4)
-    (c .before .before .before .before .before .before .before .before .before .before .before .before .before .before .before .partitions .ensures .0) (c .before .before .before .before .before .before .before .before .before .before .before .before .before .read-masks .ensures) (c .before .before .before .before .before .before .before .before .before .improved .ensures .0) (c .before .before .before .before .before .before .before .before .before .improved .ensures .3)
-      (c .measured .result) (c .measured .ensures) (i .result .finished) (i .ensures .1) (i .result .improvements) (i .ensures .2),
+          (c .before .before .before .before .before .before .before .before .before .before .before .before .before .before .before .partitions .ensures .0) (c .before .before .before .before .before .before .before .before .before .before .before .before .before .read-masks .ensures) (c .before .before .before .before .before .before .before .before .before .improved .ensures .0) (c .before .before .before .before .before .before .before .before .before .improved .ensures .3)
+          (c .measured .result) (c .measured .ensures) (i .result .finished) (i .ensures .1) (i .result .improvements) (i .ensures .2),
       c .before .before .before .before .before .write-cells .ensures
-      ∙ cells-are (s .args .c) (s .args .former .now) (s .args .allowance) (s .args .size) _ _ _ (s .pre .0) (s .pre .2) (s .pre .3) (s .pre .4)
-    (c .before .before .before .before .before .before .before .before .before .before .before .before .before .before .before .partitions .ensures .0) (c .before .before .before .before .before .before .before .before .before .before .before .before .before .read-masks .ensures) (c .before .before .before .before .before .before .before .before .before .improved .ensures .0) (c .before .before .before .before .before .before .before .before .before .improved .ensures .3) (s .args .assignment .now) (s .pre .1),
+          ∙ cells-are (s .args .c) (s .args .former .now) (s .args .allowance) (s .args .size) _ _ _ (s .pre .0) (s .pre .2) (s .pre .3) (s .pre .4)
+          (c .before .before .before .before .before .before .before .before .before .before .before .before .before .before .before .partitions .ensures .0) (c .before .before .before .before .before .before .before .before .before .before .before .before .before .read-masks .ensures) (c .before .before .before .before .before .before .before .before .before .improved .ensures .0) (c .before .before .before .before .before .before .before .before .before .improved .ensures .3) (s .args .assignment .now) (s .pre .1),
       i .ensures .3,
     )
 
