@@ -53,6 +53,10 @@ ok-at rows mates ys all z p j b to r e f =
     ∙ (ap (λ (x : ℕ). memberOf x b) f
     ∙ ap (λ (k : ℕ). memberOf (targetsOf mates all z (getD rows p 0) (getD ys k 0)) b) (add-one j))
 
+-- The test for a member of a cell, as the code runs it.
+pub member-at : (cells : List ℕ) (i v x : ℕ) (r b : Bool) → r ≡ memberOf x v → x ≡ getD cells i 0 → r ≡ b → memberOf (getD cells i 0) v ≡ b
+member-at cells i v x r b e f g = ap (λ (y : ℕ). memberOf y v) (sym f) ∙ (sym e ∙ g)
+
 -- ---- cells
 
 -- One cell more from the beginning.

@@ -37,7 +37,7 @@ returns c = let s = c .before .before .before .before .before in
 
 returns-2 : tie.Need-returns-2
 unfolding cost
-returns-2 c = (rw (le-ltb (c .before .before .args .q) (c .before .before .args .partitions) (c .if1 .left)), search needs)
+returns-2 c = (rw (le-ltb (c .before .before .args .q) (c .before .before .args .partitions) (c .if1 .left)), omega arith)
 
 pub arc-cost-spec : {M : Type 1} → statement M
 arc-cost-spec =

@@ -38,7 +38,7 @@ same-length : tie.Need-same-length
 same-length c = search needs
 
 same-length-2 : tie.Need-same-length-2
-same-length-2 c = search needs
+same-length-2 c = omega arith
 
 returns : tie.Need-returns
 returns c = let k = c .before .before .before .before .before .before .before in
@@ -47,12 +47,12 @@ returns c = let k = c .before .before .before .before .before .before .before in
     let i = a .i in
     let j = a .j in
     let g = bitsOf (a .former .now) in (
+      omega arith,
       search needs,
-      search needs,
-      search needs,
-      split-inner (a .partitions) (a .m) i j g (a .y .now) (a .q .now) (search needs) (search needs) (search needs) (search needs)
+      omega arith,
+      split-inner (a .partitions) (a .m) i j g (a .y .now) (a .q .now) (omega arith) (omega arith) (omega arith) (omega arith)
           (sym (t .before .gains .ensures) ∙ t .if1 .taken)
-          (inner-in (a .partitions) (a .m) i j g (a .y .now) (a .q .now) (search needs) (search needs) (search needs) (search needs)
+          (inner-in (a .partitions) (a .m) i j g (a .y .now) (a .q .now) (omega arith) (omega arith) (omega arith) (omega arith)
           (k .shift .last .0) (c .before .before .before .shift2 .last .0) (k .shift .ensures) (c .before .before .before .shift2 .ensures)),
     )
 
@@ -81,10 +81,10 @@ sub-result : tie.Need-sub-result
 sub-result c = omega arith
 
 same-length-3 : tie.Need-same-length-3
-same-length-3 c = search needs
+same-length-3 c = omega arith
 
 same-length-4 : tie.Need-same-length-4
-same-length-4 c = search needs
+same-length-4 c = omega arith
 
 returns-2 : tie.Need-returns-2
 returns-2 c = let k = c .before .before .before .before .before .before in
@@ -93,12 +93,12 @@ returns-2 c = let k = c .before .before .before .before .before .before in
     let i = a .i in
     let j = a .j in
     let g = bitsOf (a .former .now) in (
-      search needs,
-      search needs,
-      search needs,
-      split-outer (a .partitions) (a .m) i j g (a .y .now) (a .q .now) (search needs) (search needs) (search needs) (search needs)
+      omega arith,
+      omega arith,
+      omega arith,
+      split-outer (a .partitions) (a .m) i j g (a .y .now) (a .q .now) (omega arith) (omega arith) (omega arith) (omega arith)
           (sym (t .before .gains .ensures) ∙ t .if1 .left)
-          (outer-in (a .partitions) (a .m) i j g (a .y .now) (a .q .now) (search needs) (search needs) (search needs) (search needs)
+          (outer-in (a .partitions) (a .m) i j g (a .y .now) (a .q .now) (omega arith) (omega arith) (omega arith) (omega arith)
           (k .shift3 .last .0) (c .before .before .shift4 .last .0) (k .shift3 .ensures) (c .before .before .shift4 .ensures)),
     )
 

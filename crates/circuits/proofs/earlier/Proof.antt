@@ -27,7 +27,7 @@ unfolding first
 loop-holds c = let a = c .before .before .before .before .args in
     let test : ℕ → Bool =
     λ n. ltb (partner (a .partitions) (okOf (a .rows .now) (a .mates .now) (a .all) (a .z)) (walkIn (a .m) (a .y .now) (a .q .now)) n) (a .m) in
-    (search needs, ap (λ (n : ℕ). firstFrom test n 0) (sym (sub-zero (a .m))))
+    (omega arith, ap (λ (n : ℕ). firstFrom test n 0) (sym (sub-zero (a .m))))
 
 later-requires : tie.Need-later-requires Inv-loop μ-loop
 later-requires c κs = search needs
@@ -39,7 +39,7 @@ returns c = let k = c .before .before .before in
     λ n. ltb (partner (a .partitions) (okOf (a .rows .now) (a .mates .now) (a .all) (a .z)) (walkIn (a .m) (a .y .now) (a .q .now)) n) (a .m) in
     sym
     (k .loop .inv .1
-    ∙ first-here test (a .m) (k .loop .i) (search needs) (ap (λ (n : ℕ). ltb n (a .m)) (sym (c .before .later .ensures)) ∙ lt-ltb _ _ (c .if1 .taken)))
+    ∙ first-here test (a .m) (k .loop .i) (omega arith) (ap (λ (n : ℕ). ltb n (a .m)) (sym (c .before .later .ensures)) ∙ lt-ltb _ _ (c .if1 .taken)))
 
 add-i : tie.Need-add-i Inv-loop μ-loop
 add-i c = omega arith
@@ -52,9 +52,9 @@ loop-again c = let k = c .before .before .before in
     let a = c .before .before .before .before .before .before .before .before .args in
     let test : ℕ → Bool =
     λ n. ltb (partner (a .partitions) (okOf (a .rows .now) (a .mates .now) (a .all) (a .z)) (walkIn (a .m) (a .y .now) (a .q .now)) n) (a .m) in (
-      search needs,
+      omega arith,
       k .loop .inv .1
-          ∙ first-next test (a .m) (k .loop .i) (search needs) (ap (λ (n : ℕ). ltb n (a .m)) (sym (c .before .later .ensures)) ∙ le-ltb _ _ (c .if1 .left)),
+          ∙ first-next test (a .m) (k .loop .i) (omega arith) (ap (λ (n : ℕ). ltb n (a .m)) (sym (c .before .later .ensures)) ∙ le-ltb _ _ (c .if1 .left)),
     )
 
 returns-2 : tie.Need-returns-2 Inv-loop μ-loop
@@ -62,7 +62,7 @@ returns-2 c = let k = c .before in
     let a = c .before .before .before .before .before .before .args in
     let test : ℕ → Bool =
     λ n. ltb (partner (a .partitions) (okOf (a .rows .now) (a .mates .now) (a .all) (a .z)) (walkIn (a .m) (a .y .now) (a .q .now)) n) (a .m) in
-    sym (k .loop .inv .1 ∙ first-end test (a .m) (k .loop .i) (search needs))
+    sym (k .loop .inv .1 ∙ first-end test (a .m) (k .loop .i) (omega arith))
 
 pub earlier-spec : {M : Type 1} → statement M
 earlier-spec =

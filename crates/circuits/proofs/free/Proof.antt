@@ -20,16 +20,16 @@ abbrev μ-loop : tie.MeasureT-loop
 μ-loop y₀ q₀ m rows former partitions mates all z len₀ left₀ y q len left = left
 
 loop-holds : tie.Need-loop-holds Inv-loop μ-loop
-loop-holds c = (search needs, search needs, search needs, same-refl _)
+loop-holds c = (omega arith, omega arith, omega arith, same-refl _)
 
 earlier-requires : tie.Need-earlier-requires Inv-loop μ-loop
 earlier-requires c κs = search needs
 
 same-length : tie.Need-same-length Inv-loop μ-loop
-same-length c = search needs
+same-length c = omega arith
 
 same-length-2 : tie.Need-same-length-2 Inv-loop μ-loop
-same-length-2 c = search needs
+same-length-2 c = omega arith
 
 returns : tie.Need-returns Inv-loop μ-loop
 returns c = let k = c .before .before .before .before .before in
@@ -38,9 +38,9 @@ returns c = let k = c .before .before .before .before .before in
     let ok = okOf (a .rows .now) (a .mates .now) (a .all) (a .z) in
     let w = walkIn (k .loop .len) (k .loop .y) (k .loop .q) in
     let v = uncross (a .m) (a .partitions) 1 g ok (walkIn (a .m) (a .y .now) (a .q .now)) in (
-      search needs,
-      search needs,
-      search needs,
+      omega arith,
+      omega arith,
+      omega arith,
       free-stop (a .partitions) g ok v (k .loop .left) w (k .loop .inv .3)
           (subst (λ (n : ℕ). k .loop .len ≤ n) (c .before .earlier .ensures) (c .if1 .taken)),
     )
@@ -58,8 +58,8 @@ divide-requires c κs = let r = c .before .before in
     let w = walkIn (k .loop .len) (k .loop .y) (k .loop .q) in
     let v = uncross (a .m) (a .partitions) 1 g ok (walkIn (a .m) (a .y .now) (a .q .now)) in
     let p : (e .earlier .result < r .later .result) × (r .later .result < k .loop .len) =
-    pair-in (a .partitions) g ok v w (e .earlier .result) (r .later .result) (e .earlier .ensures) (r .later .ensures) (search needs) in
-    search needs
+    pair-in (a .partitions) g ok v w (e .earlier .result) (r .later .result) (e .earlier .ensures) (r .later .ensures) (omega arith) in
+    omega arith
 
 sub-left : tie.Need-sub-left Inv-loop μ-loop
 sub-left c = omega arith
@@ -77,18 +77,18 @@ loop-again c = let d = c .before .before .before .before in
     let ok = okOf (a .rows .now) (a .mates .now) (a .all) (a .z) in
     let w = walkIn (k .loop .len) (k .loop .y) (k .loop .q) in
     let v = uncross (a .m) (a .partitions) 1 g ok (walkIn (a .m) (a .y .now) (a .q .now)) in (
-      search needs,
-      search needs,
-      search needs,
+      omega arith,
+      omega arith,
+      omega arith,
       free-go (a .partitions) g ok v (k .loop .left) w (walkIn (d .divide .result) (d .divide .last .0) (d .divide .last .1 .0)) (e .earlier .result)
-          (r .later .result) (search needs) (k .loop .inv .3) (e .earlier .ensures) (r .later .ensures) (search needs) (d .divide .ensures .3),
+          (r .later .result) (omega arith) (k .loop .inv .3) (e .earlier .ensures) (r .later .ensures) (omega arith) (d .divide .ensures .3),
     )
 
 same-length-3 : tie.Need-same-length-3 Inv-loop μ-loop
-same-length-3 c = search needs
+same-length-3 c = omega arith
 
 same-length-4 : tie.Need-same-length-4 Inv-loop μ-loop
-same-length-4 c = search needs
+same-length-4 c = omega arith
 
 returns-2 : tie.Need-returns-2 Inv-loop μ-loop
 returns-2 c = let k = c .before in
@@ -97,10 +97,10 @@ returns-2 c = let k = c .before in
     let ok = okOf (a .rows .now) (a .mates .now) (a .all) (a .z) in
     let w = walkIn (k .loop .len) (k .loop .y) (k .loop .q) in
     let v = uncross (a .m) (a .partitions) 1 g ok (walkIn (a .m) (a .y .now) (a .q .now)) in (
-      search needs,
-      search needs,
-      search needs,
-      free-end (a .partitions) g ok v (k .loop .left) w (search needs) (k .loop .inv .3),
+      omega arith,
+      omega arith,
+      omega arith,
+      free-end (a .partitions) g ok v (k .loop .left) w (omega arith) (k .loop .inv .3),
     )
 
 pub free-spec : {M : Type 1} → statement M

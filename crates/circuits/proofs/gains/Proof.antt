@@ -52,8 +52,8 @@ loop-holds : tie.Need-loop-holds Inv-loop μ-loop
 unfolding sumTo
 loop-holds c = let a = c .before .before .before .before .before .before .before .args in
     let e : a .i + 1 - (a .i + 1) ≡ 0 = omega arith in (
-      search needs,
-      search needs,
+      omega arith,
+      omega arith,
       omega (arith, c .arc-cost .ensures .1),
       rw e (c .arc-cost .ensures .0 ∙ sym (add-zero _)),
     )
@@ -98,15 +98,15 @@ loop-again : tie.Need-loop-again Inv-loop μ-loop
 loop-again c = let k = c .before .before .before .before .before in
     let a = k .before .before .before .before .before .before .before .before .args in
     let g = bitsOf (a .former .now) in (
-      search needs,
-      search needs,
+      omega arith,
+      omega arith,
       omega (arith, c .arc-cost2 .ensures .1),
       gains-more (a .partitions) g (a .y .now) (a .q .now) (a .i) (k .loop .t) (entryCost (a .partitions) g (a .y .now) (a .q .now) (a .i + 1) (a .j))
-          (k .loop .sum) (c .arc-cost2 .result) (search needs) (k .loop .inv .3) (c .arc-cost2 .ensures .0),
+          (k .loop .sum) (c .arc-cost2 .result) (omega arith) (k .loop .inv .3) (c .arc-cost2 .ensures .0),
     )
 
 cast-result : tie.Need-cast-result Inv-loop μ-loop
-cast-result c = search needs
+cast-result c = omega arith
 
 sub-result : tie.Need-sub-result Inv-loop μ-loop
 sub-result c = omega arith
@@ -119,7 +119,7 @@ returns c = let k = c .before in
     ap (λ (s : ℕ). ltb s (a .j - a .i))
     (k .loop .inv .3
     ∙ (ap (λ (t : ℕ). entryCost (a .partitions) g (a .y .now) (a .q .now) (a .i + 1) (a .j) + costsAfter (a .partitions) g (a .y .now) (a .q .now) (a .i) (t - (a .i + 1))) e
-    ∙ gains-all (a .partitions) g (a .y .now) (a .q .now) (a .i) (a .j) (search needs)))
+    ∙ gains-all (a .partitions) g (a .y .now) (a .q .now) (a .i) (a .j) (omega arith)))
 
 pub gains-spec : {M : Type 1} → statement M
 gains-spec =

@@ -28,7 +28,7 @@ unfolding partner
 loop-holds c = let a = c .before .before .before .before .args in
     let test : ℕ → Bool =
     crosses (a .partitions) (okOf (a .rows .now) (a .mates .now) (a .all) (a .z)) (λ t. getD (a .y .now) t 0) (λ t. getD (a .q .now) t 0) (a .i) in
-    (search needs, search needs, ap (λ (k : ℕ). firstFrom test (a .m - k) k) (sym (add-one (a .i))))
+    (omega arith, omega arith, ap (λ (k : ℕ). firstFrom test (a .m - k) k) (sym (add-one (a .i))))
 
 crossed-requires : tie.Need-crossed-requires Inv-loop μ-loop
 crossed-requires c κs = search needs
@@ -38,7 +38,7 @@ returns c = let k = c .before .before .before in
     let a = c .before .before .before .before .before .before .before .before .args in
     let test : ℕ → Bool =
     crosses (a .partitions) (okOf (a .rows .now) (a .mates .now) (a .all) (a .z)) (λ t. getD (a .y .now) t 0) (λ t. getD (a .q .now) t 0) (a .i) in
-    sym (k .loop .inv .2 ∙ first-here test (a .m) (k .loop .j) (search needs) (sym (c .before .crossed .ensures) ∙ c .if1 .taken))
+    sym (k .loop .inv .2 ∙ first-here test (a .m) (k .loop .j) (omega arith) (sym (c .before .crossed .ensures) ∙ c .if1 .taken))
 
 add-j-2 : tie.Need-add-j-2 Inv-loop μ-loop
 add-j-2 c = omega arith
@@ -51,9 +51,9 @@ loop-again c = let k = c .before .before .before in
     let a = c .before .before .before .before .before .before .before .before .args in
     let test : ℕ → Bool =
     crosses (a .partitions) (okOf (a .rows .now) (a .mates .now) (a .all) (a .z)) (λ t. getD (a .y .now) t 0) (λ t. getD (a .q .now) t 0) (a .i) in (
-      search needs,
-      search needs,
-      k .loop .inv .2 ∙ first-next test (a .m) (k .loop .j) (search needs) (sym (c .before .crossed .ensures) ∙ c .if1 .left),
+      omega arith,
+      omega arith,
+      k .loop .inv .2 ∙ first-next test (a .m) (k .loop .j) (omega arith) (sym (c .before .crossed .ensures) ∙ c .if1 .left),
     )
 
 returns-2 : tie.Need-returns-2 Inv-loop μ-loop
@@ -61,7 +61,7 @@ returns-2 c = let k = c .before in
     let a = c .before .before .before .before .before .before .args in
     let test : ℕ → Bool =
     crosses (a .partitions) (okOf (a .rows .now) (a .mates .now) (a .all) (a .z)) (λ t. getD (a .y .now) t 0) (λ t. getD (a .q .now) t 0) (a .i) in
-    sym (k .loop .inv .2 ∙ first-end test (a .m) (k .loop .j) (search needs))
+    sym (k .loop .inv .2 ∙ first-end test (a .m) (k .loop .j) (omega arith))
 
 pub later-spec : {M : Type 1} → statement M
 later-spec =

@@ -24,7 +24,7 @@ loop-holds c = let a = c .before .before .before .before .before .before .before
     let n : ℕ → ℕ = λ s. getD (a .walk .now) s 0 in
     let w : ℕ → ℕ =
     witnessIn (a .walk .now) (a .rows .now) (a .former .now) (a .partitions) (a .mates .now) (a .arcs .now) (a .all) (a .z) in
-    (search needs, search needs, search needs, put-none 0 n (a .y .now), put-none 0 w (a .q .now))
+    (omega arith, omega arith, omega arith, put-none 0 n (a .y .now), put-none 0 w (a .q .now))
 
 mul-y : tie.Need-mul-y Inv-loop μ-loop
 mul-y c = omega arith
@@ -57,7 +57,7 @@ witness-requires : tie.Need-witness-requires Inv-loop μ-loop
 witness-requires c κs = search needs
 
 cast-q : tie.Need-cast-q Inv-loop μ-loop
-cast-q c = search needs
+cast-q c = omega arith
 
 mul-q : tie.Need-mul-q Inv-loop μ-loop
 mul-q c = omega arith
@@ -77,7 +77,7 @@ loop-again c = let k = c .before .before .before .before .before in
     let n : ℕ → ℕ = λ s. getD (a .walk .now) s 0 in
     let w : ℕ → ℕ =
     witnessIn (a .walk .now) (a .rows .now) (a .former .now) (a .partitions) (a .mates .now) (a .arcs .now) (a .all) (a .z) in (
-      search needs,
+      omega arith,
       search needs,
       search needs,
       ap (λ (l : List ℕ). set l (k .loop .t) (n (k .loop .t))) (k .loop .inv .3) ∙ put-first n (k .loop .t) (a .y .now),
@@ -100,7 +100,7 @@ same-length : tie.Need-same-length Inv-loop μ-loop
 same-length c = search needs
 
 same-length-2 : tie.Need-same-length-2 Inv-loop μ-loop
-same-length-2 c = search needs
+same-length-2 c = omega arith
 
 returns : tie.Need-returns Inv-loop μ-loop
 returns c = let k = c .before .before in

@@ -20,7 +20,7 @@ abbrev μ-loop : tie.MeasureT-loop
 
 loop-holds : tie.Need-loop-holds Inv-loop μ-loop
 unfolding exchanged
-loop-holds c = (search needs, search needs, refl)
+loop-holds c = (omega arith, omega arith, refl)
 
 mul-p : tie.Need-mul-p Inv-loop μ-loop
 mul-p c = omega arith
@@ -75,7 +75,7 @@ loop-again c = let k = c .before .before .before in
     let a = c .before .before .before .before .before .before .before .args in
     let y : ℕ → ℕ = λ t. getD (a .y .now) t 0 in
     let q : ℕ → ℕ = λ t. getD (a .q .now) t 0 in (
-      search needs,
+      omega arith,
       ⊎-elim (λ w. ap length (w .6) ∙ simp length-set (k .loop .inv .1)) (λ w. ap length (w .1) ∙ k .loop .inv .1) (c .if1 .came),
       ⊎-elim
           (λ w. w .6
@@ -86,7 +86,7 @@ loop-again c = let k = c .before .before .before in
     )
 
 same-length : tie.Need-same-length Inv-loop μ-loop
-same-length c = search needs
+same-length c = omega arith
 
 returns : tie.Need-returns Inv-loop μ-loop
 returns c = let k = c .before in

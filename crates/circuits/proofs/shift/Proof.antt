@@ -19,7 +19,7 @@ abbrev μ-loop : tie.MeasureT-loop
 
 loop-holds : tie.Need-loop-holds Inv-loop μ-loop
 loop-holds c = let a = c .args in
-    (search needs, search needs, put-none (a .start) (λ s. getD (a .cells .now) (a .start + s + a .k) 0) (a .cells .now))
+    (omega arith, omega arith, put-none (a .start) (λ s. getD (a .cells .now) (a .start + s + a .k) 0) (a .cells .now))
 
 add-cells : tie.Need-add-cells Inv-loop μ-loop
 add-cells c = omega arith
@@ -51,14 +51,14 @@ loop-less c = omega arith
 loop-again : tie.Need-loop-again Inv-loop μ-loop
 loop-again c = let k = c .before .before in
     let a = k .before .args in (
-      search needs,
+      omega arith,
       search needs,
       ap (λ (l : List ℕ). set l (a .start + k .loop .t) (getD l (a .start + k .loop .t + a .k) 0)) (k .loop .inv .2)
           ∙ shift-more (a .cells .now) (a .start) (a .k) (k .loop .t),
     )
 
 same-length : tie.Need-same-length Inv-loop μ-loop
-same-length c = search needs
+same-length c = omega arith
 
 returns : tie.Need-returns Inv-loop μ-loop
 returns c = let k = c .before in

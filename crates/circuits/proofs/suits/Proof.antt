@@ -5,11 +5,11 @@ use borrow.Author.Tests.{not-true, not-false}
 use Rattle.sets.specs.Bits.{bit}
 use borrow.Author.Tests.{ne-eqb, eq-eqb}
 use mathlib.Core.Path.{_≡_}
-use Prim.Native.Nat.{_+_}
+use Prim.Native.Nat.{ℕ, _+_}
 use Rattle.circuits.specs.ModelCircuits.{suitsOf}
 use Rattle.sets.specs.Bits.{memberOf}
 use mathlib.Core.Bool.{true, false}
-use mathlib.Core.Path.{sym, _∙_}
+use mathlib.Core.Path.{sym, ap, _∙_}
 use Rattle.circuits.proofs.suits.Statement.{statement}
 use Rattle.circuits.proofs.suits.Tie as tie
 
@@ -30,7 +30,7 @@ unfolding suitsOf
 returns-2 c = let k = c .before .before in
     let a = k .before .before .before .args in
     let d : memberOf (a .row) (a .u) ≡ true = sym (k .before .member .ensures) ∙ not-false (k .before .member .result) (k .if1 .left) in
-    let e : memberOf (a .row) (a .v) ≡ true = cc in
+    let e : memberOf (a .row) (a .v) ≡ true = sym (c .before .member2 .ensures) ∙ c .if2 .taken in
     rw (d, e)
 
 digit-requires : tie.Need-digit-requires
@@ -47,10 +47,11 @@ add-if3-2 c = omega arith
 
 returns-3 : tie.Need-returns-3
 unfolding suitsOf
-returns-3 c = let k = c .before .before .before .before .before in
+returns-3 c = let t = c .before .before .before in
+    let k = t .before .before in
     let a = k .before .before .before .args in
     let d : memberOf (a .row) (a .u) ≡ true = sym (k .before .member .ensures) ∙ not-false (k .before .member .result) (k .if1 .left) in
-    let e : memberOf (a .row) (a .v) ≡ false = cc in
+    let e : memberOf (a .row) (a .v) ≡ false = sym (t .before .member2 .ensures) ∙ t .if2 .left in
     let x : c .before .before .digit .result ≡ bit (a .old) (a .u) = c .before .before .digit .ensures .0 in
     let y : c .before .digit2 .result ≡ bit (a .old) (a .v) = c .before .digit2 .ensures .0 in
     let f = ne-eqb (1 + bit (a .old) (a .u)) (a .w + bit (a .old) (a .v)) (λ q. omega arith) in
@@ -64,14 +65,15 @@ member-requires-3 c κs = search needs
 
 returns-4 : tie.Need-returns-4
 unfolding suitsOf
-returns-4 c = let k = c .before .before .before .before .before .before .before in
+returns-4 c = let t = c .before .before .before .before .before in
+    let k = t .before .before in
     let a = k .before .before .before .args in
     let d : memberOf (a .row) (a .u) ≡ true = sym (k .before .member .ensures) ∙ not-false (k .before .member .result) (k .if1 .left) in
-    let e : memberOf (a .row) (a .v) ≡ false = cc in
+    let e : memberOf (a .row) (a .v) ≡ false = sym (t .before .member2 .ensures) ∙ t .if2 .left in
     let x : c .before .before .before .before .digit .result ≡ bit (a .old) (a .u) = c .before .before .before .before .digit .ensures .0 in
     let y : c .before .before .before .digit2 .result ≡ bit (a .old) (a .v) = c .before .before .before .digit2 .ensures .0 in
     let f = eq-eqb (1 + bit (a .old) (a .u)) (a .w + bit (a .old) (a .v)) (omega arith) in
-    rw (d, e, f) (cc)
+    rw (d, e, f) (c .member3 .ensures ∙ ap (λ (m : ℕ). memberOf m (a .v)) (c .before .targets .ensures))
 
 pub suits-spec : {M : Type 1} → statement M
 suits-spec =

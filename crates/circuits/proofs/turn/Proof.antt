@@ -46,7 +46,7 @@ turn-all-requires : tie.Need-turn-all-requires
 turn-all-requires c κs = search needs
 
 same-length : tie.Need-same-length
-same-length c = search needs
+same-length c = omega arith
 
 returns-6 : tie.Need-returns-6
 unfolding turnedOf

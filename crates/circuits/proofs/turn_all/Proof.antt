@@ -10,34 +10,34 @@ use Rattle.circuits.proofs.turn_all.Statement.{statement}
 use Rattle.circuits.proofs.turn_all.Tie as tie
 
 slice-aggregate-load : tie.Need-slice-aggregate-load
-slice-aggregate-load c = search needs
+slice-aggregate-load c = omega arith
 
 slice-aggregate-load-2 : tie.Need-slice-aggregate-load-2
-slice-aggregate-load-2 c = search needs
+slice-aggregate-load-2 c = omega arith
 
 load-requires : tie.Need-load-requires
 load-requires c κs = search needs
 
 slice-aggregate-free : tie.Need-slice-aggregate-free
-slice-aggregate-free c = search needs
+slice-aggregate-free c = omega arith
 
 slice-aggregate-free-2 : tie.Need-slice-aggregate-free-2
-slice-aggregate-free-2 c = search needs
+slice-aggregate-free-2 c = omega arith
 
 free-requires : tie.Need-free-requires
 free-requires c κs = search needs
 
 slice-aggregate-make : tie.Need-slice-aggregate-make
-slice-aggregate-make c = search needs
+slice-aggregate-make c = omega arith
 
 slice-aggregate-make-2 : tie.Need-slice-aggregate-make-2
-slice-aggregate-make-2 c = search needs
+slice-aggregate-make-2 c = omega arith
 
 make-requires : tie.Need-make-requires
 make-requires c κs = search needs
 
 same-length : tie.Need-same-length
-same-length c = search needs
+same-length c = omega arith
 
 returns : tie.Need-returns
 returns c = let f = c .before .before .before .before .before .before .before .before in

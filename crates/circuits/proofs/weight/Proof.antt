@@ -1,12 +1,10 @@
 -- `circuits::weight` meets its contract. Assumes nothing.
 use borrow.Author.Needs.{needs}
 use native.Mathlib.Omega.{arith}
-use lib.ListN.{getD}
-use mathlib.Core.Path.{_≡_}
 use Prim.Native.Nat.{_+_}
 use Rattle.cycles.specs.ModelGraph.{weightOf}
-use Rattle.sets.specs.Bits.{memberOf}
 use mathlib.Core.Bool.{true, false}
+use Rattle.circuits.proofs.Steps.{member-at}
 use Rattle.circuits.proofs.weight.Statement.{statement}
 use Rattle.circuits.proofs.weight.Tie as tie
 
@@ -18,7 +16,10 @@ member-requires c κs = search needs
 
 returns : tie.Need-returns
 unfolding weightOf
-returns c = let a = c .before .before .before .before .args in let e : memberOf (getD (a .arcs .now) (a .u) 0) (a .v) ≡ true = cc in (rw e, search needs)
+returns c = let k = c .before in
+    let a = k .before .before .before .args in
+    let e = member-at (a .arcs .now) (a .u) (a .v) (k .before .cell .result) (k .member .result) true (k .member .ensures) (k .before .cell .ensures) (c .if1 .taken) in
+    (rw e, omega arith)
 
 add-cell : tie.Need-add-cell
 add-cell c = omega arith
@@ -31,17 +32,23 @@ member-requires-2 c κs = search needs
 
 returns-2 : tie.Need-returns-2
 unfolding weightOf
-returns-2 c = let a = c .before .before .before .before .before .before .before .args in
-    let d : memberOf (getD (a .arcs .now) (a .u) 0) (a .v) ≡ false = cc in
-    let e : memberOf (getD (a .arcs .now) (32 + a .u) 0) (a .v) ≡ true = cc in
-    (rw (d, e), search needs)
+returns-2 c = let t = c .before in
+    let h = t .before .before in
+    let k = h .before in
+    let a = k .before .before .before .args in
+    let d = member-at (a .arcs .now) (a .u) (a .v) (k .before .cell .result) (k .member .result) false (k .member .ensures) (k .before .cell .ensures) (h .if1 .left) in
+    let e = member-at (a .arcs .now) (32 + a .u) (a .v) (t .before .cell2 .result) (t .member2 .result) true (t .member2 .ensures) (t .before .cell2 .ensures) (c .if2 .taken) in
+    (rw (d, e), omega arith)
 
 returns-3 : tie.Need-returns-3
 unfolding weightOf
-returns-3 c = let a = c .before .before .before .before .before .before .before .args in
-    let d : memberOf (getD (a .arcs .now) (a .u) 0) (a .v) ≡ false = cc in
-    let e : memberOf (getD (a .arcs .now) (32 + a .u) 0) (a .v) ≡ false = cc in
-    (rw (d, e), search needs)
+returns-3 c = let t = c .before in
+    let h = t .before .before in
+    let k = h .before in
+    let a = k .before .before .before .args in
+    let d = member-at (a .arcs .now) (a .u) (a .v) (k .before .cell .result) (k .member .result) false (k .member .ensures) (k .before .cell .ensures) (h .if1 .left) in
+    let e = member-at (a .arcs .now) (32 + a .u) (a .v) (t .before .cell2 .result) (t .member2 .result) false (t .member2 .ensures) (t .before .cell2 .ensures) (c .if2 .left) in
+    (rw (d, e), omega arith)
 
 pub weight-spec : {M : Type 1} → statement M
 weight-spec =

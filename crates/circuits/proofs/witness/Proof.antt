@@ -24,7 +24,7 @@ weight-requires c κs = search needs
 loop-holds : tie.Need-loop-holds Inv-loop μ-loop
 unfolding witnessOf
 loop-holds c = let a = c .before .before .before .before .before .args in (
-  search needs,
+  omega arith,
   ap₂ (λ (w n : ℕ). firstFrom (suitsAt (a .rows .now) (a .former .now) (a .mates .now) (a .all) (a .z) w (a .u) (a .v)) n 0)
       (sym (c .weight .ensures .0)) (sym (sub-zero (a .partitions))),
 )
@@ -48,8 +48,8 @@ returns : tie.Need-returns Inv-loop μ-loop
 returns c = let k = c .before .before .before .before .before in
     let a = c .before .before .before .before .before .before .before .before .before .before .before .args in
     let test : ℕ → Bool = suitsAt (a .rows .now) (a .former .now) (a .mates .now) (a .all) (a .z) (k .before .weight .result) (a .u) (a .v) in
-    let e = first-here test (a .partitions) (k .loop .p) (search needs) (sym (c .before .suits .ensures) ∙ c .if1 .taken) in
-    (sym (k .loop .inv .1 ∙ e), search needs)
+    let e = first-here test (a .partitions) (k .loop .p) (omega arith) (sym (c .before .suits .ensures) ∙ c .if1 .taken) in
+    (sym (k .loop .inv .1 ∙ e), omega arith)
 
 add-p : tie.Need-add-p Inv-loop μ-loop
 add-p c = omega arith
@@ -61,14 +61,14 @@ loop-again : tie.Need-loop-again Inv-loop μ-loop
 loop-again c = let k = c .before .before .before .before .before in
     let a = c .before .before .before .before .before .before .before .before .before .before .before .args in
     let test : ℕ → Bool = suitsAt (a .rows .now) (a .former .now) (a .mates .now) (a .all) (a .z) (k .before .weight .result) (a .u) (a .v) in
-    let e = first-next test (a .partitions) (k .loop .p) (search needs) (sym (c .before .suits .ensures) ∙ c .if1 .left) in
-    (search needs, k .loop .inv .1 ∙ e)
+    let e = first-next test (a .partitions) (k .loop .p) (omega arith) (sym (c .before .suits .ensures) ∙ c .if1 .left) in
+    (omega arith, k .loop .inv .1 ∙ e)
 
 returns-2 : tie.Need-returns-2 Inv-loop μ-loop
 returns-2 c = let k = c .before in
     let a = c .before .before .before .before .before .before .before .args in
     let test : ℕ → Bool = suitsAt (a .rows .now) (a .former .now) (a .mates .now) (a .all) (a .z) (k .before .weight .result) (a .u) (a .v) in
-    (sym (k .loop .inv .1 ∙ first-end test (a .partitions) (k .loop .p) (search needs)), search needs)
+    (sym (k .loop .inv .1 ∙ first-end test (a .partitions) (k .loop .p) (omega arith)), omega arith)
 
 pub witness-spec : {M : Type 1} → statement M
 witness-spec =
