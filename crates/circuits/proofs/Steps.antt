@@ -1,8 +1,7 @@
--- The steps of the loops, over plain lists and numbers: scans for a first index, cells that are written or shifted, parts of a walk, and the
--- exchanges of a walk.
+-- The steps of the loops, over plain lists and numbers: cells that are written or shifted, parts of a walk, and the exchanges of a walk.
 -- Assumes nothing.
 use Prim.Native.Nat.{ℕ, zero, suc, _+_, _-_, _≤_, _<_}
-use mathlib.Core.Path.{_≡_, refl, sym, ap, ap₂, _∙_, subst}
+use mathlib.Core.Path.{_≡_, refl, sym, ap, _∙_, subst}
 use mathlib.Core.Bool.{Bool, true, false}
 use mathlib.Core.List.{List}
 use mathlib.Core.Logic.{⊎-elim}
@@ -13,49 +12,15 @@ use lib.Dec.{ltb}
 use lib.ListN.{length, getD, set, length-set}
 use lib.Seq.{getD-set-same, getD-set-other}
 use borrow.Author.Tests.{lt-ltb, le-ltb}
-use Rattle.sums.specs.Sum.{sumTo, pick}
-use Rattle.sums.proofs.Sum.{lt-or-ge, sum-cong}
-use Rattle.sets.specs.Bits.{memberOf, withOf, withoutOf}
-use Rattle.swaps.specs.ModelSwaps.{targetsOf}
+use Rattle.sums.specs.Sum.{pick}
+use Rattle.sums.proofs.Sum.{lt-or-ge}
+use Rattle.sets.specs.Bits.{withOf, withoutOf}
 use Rattle.cells.specs.Cells.{put}
 use Rattle.cells.proofs.Cells.{put-more, length-put, getD-put-in, getD-put-out}
-use Rattle.exchange.specs.Levels.{firstFrom}
-use Rattle.exchange.specs.Circuit.{cost}
-use Rattle.exchange.specs.Uncross.{Walk, Same, partner, first, wrap, inner, outer, walk-costs, split, uncross}
+use Rattle.exchange.specs.Uncross.{Walk, Same, partner, first, inner, outer, split, uncross}
 use Rattle.exchange.proofs.Uncross.{skip-low, skip-high, wrap-low, wrap-end, first-pair}
 use Rattle.exchange.proofs.Walk.{uncross-stop, uncross-go, uncross-same, same-trans}
 use Rattle.circuits.specs.ModelCircuits.{bitsOf, okOf, witnessOf, witnessIn, walkIn, innerGains, cycleOf, freedOf, exchanged, walkedOf}
-
--- ---- a scan for the first index that passes a test
-
-module _ (t : ℕ → Bool) (n i : ℕ) where
-  -- It is here.
-  pub first-here : i < n → t i ≡ true → firstFrom t (n - i) i ≡ i
-  unfolding firstFrom
-  first-here l e = let d : n - i ≡ suc (n - (i + 1)) = omega arith in rw (d, e)
-
-  -- It is not here.
-  pub first-next : i < n → t i ≡ false → firstFrom t (n - i) i ≡ firstFrom t (n - (i + 1)) (i + 1)
-  unfolding firstFrom
-  first-next l e = let d : n - i ≡ suc (n - (i + 1)) = omega arith in rw (d, e, add-one i)
-
-  -- The scan is at its end.
-  pub first-end : n ≤ i → firstFrom t (n - i) i ≡ i
-  unfolding firstFrom
-  first-end l = let d : n - i ≡ 0 = omega arith in rw d
-
--- The test for an exchange, as the code runs it: at the node after j in the cells ys.
-pub ok-at : (rows mates ys : List ℕ) (all z p j b to : ℕ) (r : Bool) → r ≡ memberOf to b → to ≡ targetsOf mates all z (getD rows p 0) (getD ys (j + 1) 0)
-    → r ≡ okOf rows mates all z p (getD ys (suc j) 0) b
-unfolding okOf
-ok-at rows mates ys all z p j b to r e f =
-    e
-    ∙ (ap (λ (x : ℕ). memberOf x b) f
-    ∙ ap (λ (k : ℕ). memberOf (targetsOf mates all z (getD rows p 0) (getD ys k 0)) b) (add-one j))
-
--- The test for a member of a cell, as the code runs it.
-pub member-at : (cells : List ℕ) (i v x : ℕ) (r b : Bool) → r ≡ memberOf x v → x ≡ getD cells i 0 → r ≡ b → memberOf (getD cells i 0) v ≡ b
-member-at cells i v x r b e f g = ap (λ (y : ℕ). memberOf y v) (sym f) ∙ (sym e ∙ g)
 
 -- ---- cells
 
@@ -144,51 +109,6 @@ module _ (P m i j : ℕ) (g : ℕ → ℕ → ℕ) (ys qs : List ℕ) (l : i < j
       → Same (split P 1 g (walkIn m ys qs) i j) w
   unfolding split
   split-outer e s = rw (mul-one (j - i), e) s
-
--- What the arc from entry a to entry b costs.
-abbrev pub entryCost : ℕ → (ℕ → ℕ → ℕ) → List ℕ → List ℕ → ℕ → ℕ → ℕ
-entryCost P g ys qs a b = cost P 1 g (getD qs b 0) (getD ys a 0) (getD ys b 0)
-
--- What the n arcs after arc i cost.
-abbrev pub costsAfter : ℕ → (ℕ → ℕ → ℕ) → List ℕ → List ℕ → ℕ → ℕ → ℕ
-costsAfter P g ys qs i n = sumTo n (λ s. entryCost P g ys qs (suc (s + suc i)) (s + suc i))
-
--- One arc more is added.
-pub gains-more : (P : ℕ) (g : ℕ → ℕ → ℕ) (ys qs : List ℕ) (i t c sum v : ℕ) → i < t → sum ≡ c + costsAfter P g ys qs i (t - (i + 1))
-    → v ≡ entryCost P g ys qs (t + 1) t → sum + v ≡ c + costsAfter P g ys qs i (t + 1 - (i + 1))
-unfolding sumTo
-gains-more P g ys qs i t c sum v l e f =
-    let n = t - (i + 1) in
-    let a : n + suc i ≡ t = omega arith in
-    let b : t + 1 - (i + 1) ≡ suc n = omega arith in
-    omega (
-      arith,
-      ap (λ (k : ℕ). costsAfter P g ys qs i k) b,
-      ap (λ (k : ℕ). entryCost P g ys qs (suc k) k) a,
-      ap (λ (k : ℕ). entryCost P g ys qs k t) (add-one t),
-    )
-
--- With the arc that closes it, they are the inner part.
-pub gains-all : (P : ℕ) (g : ℕ → ℕ → ℕ) (ys qs : List ℕ) (i j : ℕ) → i < j
-    → entryCost P g ys qs (i + 1) j + costsAfter P g ys qs i (j - (i + 1)) ≡ walk-costs P 1 g (inner (walkIn (j + 1) ys qs) i j)
-unfolding sumTo
-gains-all P g ys qs i j l =
-    let k = j - i in
-    let n = j - (i + 1) in
-    let e : k ≡ suc n = omega arith in
-    omega (
-      arith,
-      ap (λ (m : ℕ). sumTo m (λ s. entryCost P g ys qs (wrap i k (suc s)) (wrap i k s))) e,
-      sum-cong n (λ s. entryCost P g ys qs (suc (s + suc i)) (s + suc i)) (λ s. entryCost P g ys qs (wrap i k (suc s)) (wrap i k s))
-          (λ s h. sym (ap₂ (entryCost P g ys qs) (next s (omega arith)) (wrap-low i k s (omega arith)))),
-      ap₂ (entryCost P g ys qs) (wrap-end i k (suc n) (omega arith) ∙ sym (add-one i)) last,
-    )
-  where
-    next : (s : ℕ) → suc s < j - i → wrap i (j - i) (suc s) ≡ suc (s + suc i)
-    next s h = wrap-low i (j - i) (suc s) h ∙ omega arith
-
-    last : wrap i (j - i) (j - (i + 1)) ≡ j
-    last = wrap-low i (j - i) (j - (i + 1)) (omega arith) ∙ omega arith
 
 -- ---- freeing a walk
 

@@ -1,77 +1,11 @@
 // From a cycle of the exchange graph to the exchanges in the rows: each arc gets a partition in which it is an exchange, the circuit is freed of
 // crossed pairs, and its exchanges are made. A row is a set of nodes below 32.
 ghost use mathlib.Core.Path.{_≡_};
-ghost use Prim.Native.Nat.{ℕ, suc, _+_, _-_, _≤_, _<_};
+ghost use Prim.Native.Nat.{ℕ, _+_, _-_, _≤_, _<_};
 ghost use lib.ListN.{length, getD};
-ghost use Rattle.sets.specs.Bits.{bit};
 ghost use Rattle.cells.specs.Cells.{put};
-ghost use Rattle.exchange.specs.Circuit.{cost};
-ghost use Rattle.exchange.specs.Uncross.{crosses, partner, first, split, uncross, Same};
-ghost use Rattle.cycles.specs.ModelGraph.{weightOf};
-ghost use Rattle.circuits.specs.ModelCircuits.{bitsOf, okOf, suitsOf, witnessOf, witnessIn, walkIn, innerGains, freedOf, walkedOf, turnedOf};
-
-// Digit i of s.
-fn digit(s: u32, i: u32) -> u32
-    ensures { λ r. ⌜ (r ≡ bit s i) × (r ≤ 1) ⌝ }
-{
-    if sets::member(s, i) { 1 } else { 0 }
-}
-
-// The weight of the arc from u to v, more by 1.
-fn weight(arcs: &[u32], u: u32, v: u32) -> u32
-    ensures { λ r. ⌜ (r ≡ weightOf (now (arcs .entry)) u v) × (r ≤ 2) ⌝ }
-{
-    if sets::member(swaps::cell(arcs, u as usize), v) {
-        return 0;
-    }
-    if sets::member(swaps::cell(arcs, 32 + u as usize), v) {
-        return 1;
-    }
-    2
-}
-
-// Whether the exchange of u for v is one of the row, at the weight w, where the partition had the row old.
-fn suits(mates: &[u32], all: u32, z: u32, row: u32, old: u32, w: u32, u: u32, v: u32) -> bool
-    requires { ⌜ w ≤ 2 ⌝ }
-    ensures { λ r. ⌜ r ≡ suitsOf (now (mates .entry)) all z row old w u v ⌝ }
-{
-    if !sets::member(row, u) {
-        return false;
-    }
-    if sets::member(row, v) {
-        return false;
-    }
-    if 1 + digit(old, u) != w + digit(old, v) {
-        return false;
-    }
-    sets::member(swaps::targets(mates, all, z, row, u), v)
-}
-
-// The first partition with the exchange of u for v at the arc's weight.
-fn witness(
-    rows: &[u32],
-    former: &[u32],
-    partitions: usize,
-    mates: &[u32],
-    arcs: &[u32],
-    all: u32,
-    z: u32,
-    u: u32,
-    v: u32,
-) -> usize
-    requires { ⌜ (partitions ≤ length (now rows)) × (partitions ≤ length (now former)) ⌝ }
-    ensures { λ r. ⌜ (r ≡ witnessOf (now (rows .entry)) (now (former .entry)) partitions (now (mates .entry)) (now (arcs .entry)) all z u v) × (r ≤ partitions) ⌝ }
-{
-    let w = weight(arcs, u, v);
-    let mut p = 0;
-    while p < partitions {
-        if suits(mates, all, z, rows[p], former[p], w, u, v) {
-            return p;
-        }
-        p += 1;
-    }
-    p
-}
+ghost use Rattle.exchange.specs.Uncross.{split, uncross, Same};
+ghost use Rattle.circuits.specs.ModelCircuits.{bitsOf, okOf, witnessIn, walkIn, freedOf, walkedOf, turnedOf};
 
 // The nodes of a walk into y, and the witnesses of its arcs into q.
 fn load(
@@ -87,8 +21,7 @@ fn load(
     all: u32,
     z: u32,
 )
-    requires { ⌜ (m < length (now y)) × (m ≤ length (now q)) × (m < length (now walk)) × (partitions ≤ length (now rows)) × (partitions ≤ length (now former))
-        × (partitions ≤ 256) ⌝ }
+    requires { ⌜ (m < length (now y)) × (m ≤ length (now q)) × (m < length (now walk)) × (partitions ≤ 256) ⌝ }
     ensures { λ _. ⌜ (now (y .exit) ≡ put 0 (λ t. getD (now (walk .entry)) t 0) (m + 1) (now (y .entry)))
         × (now (q .exit)
         ≡ put 0 (witnessIn (now (walk .entry)) (now (rows .entry)) (now (former .entry)) partitions (now (mates .entry)) (now (arcs .entry)) all z) m
@@ -97,7 +30,7 @@ fn load(
     let mut t = 0;
     while t < m {
         y[t] = walk[t];
-        q[t] = witness(
+        q[t] = walks::witness(
             rows,
             former,
             partitions,
@@ -111,112 +44,6 @@ fn load(
         t += 1;
     }
     y[m] = walk[m];
-}
-
-// Whether the arcs i and j of the walk can be crossed.
-fn crossed(
-    y: &[u32],
-    q: &[u32],
-    i: usize,
-    j: usize,
-    rows: &[u32],
-    partitions: usize,
-    mates: &[u32],
-    all: u32,
-    z: u32,
-) -> bool
-    requires { ⌜ (i + 1 < length (now y)) × (j + 1 < length (now y)) × (i < length (now q)) × (j < length (now q)) × (partitions ≤ length (now rows)) ⌝ }
-    ensures { λ r. ⌜ r
-        ≡ crosses partitions (okOf (now (rows .entry)) (now (mates .entry)) all z) (λ t. getD (now (y .entry)) t 0) (λ t. getD (now (q .entry)) t 0) i j ⌝ }
-{
-    let e = q[i];
-    let p = e as usize;
-    if partitions <= p {
-        return false;
-    }
-    if e != q[j] {
-        return false;
-    }
-    let row = rows[p];
-    if !sets::member(swaps::targets(mates, all, z, row, y[j + 1]), y[i]) {
-        return false;
-    }
-    sets::member(swaps::targets(mates, all, z, row, y[i + 1]), y[j])
-}
-
-// The first arc after i that can be crossed with it.
-fn later(
-    y: &[u32],
-    q: &[u32],
-    m: usize,
-    i: usize,
-    rows: &[u32],
-    partitions: usize,
-    mates: &[u32],
-    all: u32,
-    z: u32,
-) -> usize
-    requires { ⌜ (i < m) × (m < length (now y)) × (m ≤ length (now q)) × (partitions ≤ length (now rows)) ⌝ }
-    ensures { λ r. ⌜ r ≡ partner partitions (okOf (now (rows .entry)) (now (mates .entry)) all z) (walkIn m (now (y .entry)) (now (q .entry))) i ⌝ }
-{
-    let mut j = i + 1;
-    while j < m {
-        if crossed(y, q, i, j, rows, partitions, mates, all, z) {
-            return j;
-        }
-        j += 1;
-    }
-    j
-}
-
-// The first arc that can be crossed with a later one.
-fn earlier(
-    y: &[u32],
-    q: &[u32],
-    m: usize,
-    rows: &[u32],
-    partitions: usize,
-    mates: &[u32],
-    all: u32,
-    z: u32,
-) -> usize
-    requires { ⌜ (m < length (now y)) × (m ≤ length (now q)) × (partitions ≤ length (now rows)) ⌝ }
-    ensures { λ r. ⌜ r ≡ first partitions (okOf (now (rows .entry)) (now (mates .entry)) all z) (walkIn m (now (y .entry)) (now (q .entry))) ⌝ }
-{
-    let mut i = 0;
-    while i < m {
-        if later(y, q, m, i, rows, partitions, mates, all, z) < m {
-            return i;
-        }
-        i += 1;
-    }
-    i
-}
-
-// What the arc from a to b at q costs: an exchange loses a former node or wins one; a step over the store costs 1.
-fn arc_cost(former: &[u32], partitions: usize, q: usize, a: u32, b: u32) -> u32
-    requires { ⌜ partitions ≤ length (now former) ⌝ }
-    ensures { λ r. ⌜ (r ≡ cost partitions 1 (bitsOf (now (former .entry))) q a b) × (r ≤ 2) ⌝ }
-{
-    if q < partitions {
-        let old = former[q];
-        return 1 + digit(old, a) - digit(old, b);
-    }
-    1
-}
-
-// Whether the inner part of the walk, at the arcs i and j, gains: the arcs between them, and the one that closes it.
-fn gains(y: &[u32], q: &[u32], i: usize, j: usize, former: &[u32], partitions: usize) -> bool
-    requires { ⌜ (i < j) × (j < 32) × (j < length (now y)) × (j < length (now q)) × (partitions ≤ length (now former)) ⌝ }
-    ensures { λ r. ⌜ r ≡ innerGains partitions (bitsOf (now (former .entry))) (walkIn (j + 1) (now (y .entry)) (now (q .entry))) i j ⌝ }
-{
-    let mut sum = arc_cost(former, partitions, q[j] as usize, y[i + 1], y[j]);
-    let mut t = i + 1;
-    while t < j {
-        sum += arc_cost(former, partitions, q[t] as usize, y[t + 1], y[t]);
-        t += 1;
-    }
-    (sum as usize) < j - i
 }
 
 // The n cells from `start` on give way to those that stand k further on.
@@ -241,12 +68,12 @@ fn divide(
     former: &[u32],
     partitions: usize,
 ) -> usize
-    requires { ⌜ (i < j) × (j < m) × (m ≤ 32) × (m < length (now y)) × (m ≤ length (now q)) × (partitions ≤ length (now former)) ⌝ }
+    requires { ⌜ (i < j) × (j < m) × (m ≤ 32) × (m < length (now y)) × (m ≤ length (now q)) ⌝ }
     ensures { λ r. ⌜ (r ≤ m) × (length (now (y .exit)) ≡ length (now (y .entry))) × (length (now (q .exit)) ≡ length (now (q .entry)))
         × Same (split partitions 1 (bitsOf (now (former .entry))) (walkIn m (now (y .entry)) (now (q .entry))) i j) (walkIn r (now (y .exit)) (now (q .exit))) ⌝ }
 {
     let k = j - i;
-    if gains(y, q, i, j, former, partitions) {
+    if walks::gains(y, q, i as u32, j as u32, former, partitions) {
         shift(y, 0, i + 1, k);
         shift(q, 0, i + 1, k);
         y[k] = y[0];
@@ -269,7 +96,7 @@ fn free(
     all: u32,
     z: u32,
 ) -> usize
-    requires { ⌜ (m ≤ 32) × (m < length (now y)) × (m ≤ length (now q)) × (partitions ≤ length (now rows)) × (partitions ≤ length (now former)) ⌝ }
+    requires { ⌜ (m ≤ 32) × (m < length (now y)) × (m ≤ length (now q)) ⌝ }
     ensures { λ r. ⌜ (r ≤ m) × (length (now (y .exit)) ≡ length (now (y .entry))) × (length (now (q .exit)) ≡ length (now (q .entry)))
         × Same (uncross m partitions 1 (bitsOf (now (former .entry))) (okOf (now (rows .entry)) (now (mates .entry)) all z) (walkIn m (now (y .entry)) (now (q .entry))))
         (walkIn r (now (y .exit)) (now (q .exit))) ⌝ }
@@ -277,12 +104,13 @@ fn free(
     let mut len = m;
     let mut left = m;
     while 0 < left {
-        let i = earlier(y, q, len, rows, partitions, mates, all, z);
-        if len <= i {
+        let n = len as u32;
+        let i = walks::earlier(y, q, n, rows, partitions, mates, all, z);
+        if n <= i {
             return len;
         }
-        let j = later(y, q, len, i, rows, partitions, mates, all, z);
-        len = divide(y, q, len, i, j, former, partitions);
+        let j = walks::later(y, q, n, i, rows, partitions, mates, all, z);
+        len = divide(y, q, len, i as usize, j, former, partitions);
         left -= 1;
     }
     len
@@ -315,7 +143,7 @@ fn turn_all(
     walk: &[u32],
     m: usize,
 )
-    requires { ⌜ (m ≤ 32) × (partitions ≤ 256) × (partitions ≤ length (now rows)) × (partitions ≤ length (now former)) × (m < length (now walk)) ⌝ }
+    requires { ⌜ (m ≤ 32) × (partitions ≤ 256) × (partitions ≤ length (now rows)) × (m < length (now walk)) ⌝ }
     ensures { λ _. ⌜ now (rows .exit)
         ≡ walkedOf partitions
         (freedOf (now (rows .entry)) (now (former .entry)) partitions (now (mates .entry)) (now (arcs .entry)) all z (now (walk .entry)) m)

@@ -10,6 +10,12 @@ use Rattle.circuits.proofs.divide.Tie as tie
 sub-k : tie.Need-sub-k
 sub-k c = omega arith
 
+cast-gains : tie.Need-cast-gains
+cast-gains c = omega arith
+
+cast-gains-2 : tie.Need-cast-gains-2
+cast-gains-2 c = omega arith
+
 gains-requires : tie.Need-gains-requires
 gains-requires c κs = search needs
 
@@ -107,6 +113,8 @@ divide-spec =
     tie.close
     (tie.spec
     sub-k
+    cast-gains
+    cast-gains-2
     gains-requires
     add-shift
     shift-requires

@@ -22,6 +22,9 @@ abbrev μ-loop : tie.MeasureT-loop
 loop-holds : tie.Need-loop-holds Inv-loop μ-loop
 loop-holds c = (omega arith, omega arith, omega arith, same-refl _)
 
+cast-n : tie.Need-cast-n Inv-loop μ-loop
+cast-n c = omega arith
+
 earlier-requires : tie.Need-earlier-requires Inv-loop μ-loop
 earlier-requires c κs = search needs
 
@@ -47,6 +50,9 @@ returns c = let k = c .before .before .before .before .before in
 
 later-requires : tie.Need-later-requires Inv-loop μ-loop
 later-requires c κs = search needs
+
+cast-divide : tie.Need-cast-divide Inv-loop μ-loop
+cast-divide c = search needs
 
 divide-requires : tie.Need-divide-requires Inv-loop μ-loop
 divide-requires c κs = let r = c .before .before in
@@ -110,11 +116,13 @@ free-spec =
     Inv-loop
     μ-loop
     loop-holds
+    cast-n
     earlier-requires
     same-length
     same-length-2
     returns
     later-requires
+    cast-divide
     divide-requires
     sub-left
     loop-less

@@ -1,4 +1,4 @@
--- `circuits::suits` meets its contract. Assumes nothing.
+-- `walks::suits` meets its contract. Assumes nothing.
 use borrow.Author.Needs.{needs}
 use native.Mathlib.Omega.{arith}
 use borrow.Author.Tests.{not-true, not-false}
@@ -6,12 +6,12 @@ use Rattle.sets.specs.Bits.{bit}
 use borrow.Author.Tests.{ne-eqb, eq-eqb}
 use mathlib.Core.Path.{_≡_}
 use Prim.Native.Nat.{ℕ, _+_}
-use Rattle.circuits.specs.ModelCircuits.{suitsOf}
+use Rattle.walks.specs.ModelWalks.{suitsOf}
 use Rattle.sets.specs.Bits.{memberOf}
 use mathlib.Core.Bool.{true, false}
 use mathlib.Core.Path.{sym, ap, _∙_}
-use Rattle.circuits.proofs.suits.Statement.{statement}
-use Rattle.circuits.proofs.suits.Tie as tie
+use Rattle.walks.proofs.suits.Statement.{statement}
+use Rattle.walks.proofs.suits.Tie as tie
 
 member-requires : tie.Need-member-requires
 member-requires c κs = search needs

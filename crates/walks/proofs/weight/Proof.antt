@@ -1,12 +1,12 @@
--- `circuits::weight` meets its contract. Assumes nothing.
+-- `walks::weight` meets its contract. Assumes nothing.
 use borrow.Author.Needs.{needs}
 use native.Mathlib.Omega.{arith}
 use Prim.Native.Nat.{_+_}
 use Rattle.cycles.specs.ModelGraph.{weightOf}
 use mathlib.Core.Bool.{true, false}
-use Rattle.circuits.proofs.Steps.{member-at}
-use Rattle.circuits.proofs.weight.Statement.{statement}
-use Rattle.circuits.proofs.weight.Tie as tie
+use Rattle.walks.proofs.Steps.{member-at}
+use Rattle.walks.proofs.weight.Statement.{statement}
+use Rattle.walks.proofs.weight.Tie as tie
 
 cell-requires : tie.Need-cell-requires
 cell-requires c κs = search needs

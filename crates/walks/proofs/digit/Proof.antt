@@ -1,10 +1,10 @@
--- `circuits::digit` meets its contract. Assumes nothing.
+-- `walks::digit` meets its contract. Assumes nothing.
 use native.Mathlib.Omega.{arith}
 use borrow.Author.Needs.{needs}
 use mathlib.Core.Path.{sym, _∙_}
 use Rattle.sets.proofs.Laws.{member-true, member-false}
-use Rattle.circuits.proofs.digit.Statement.{statement}
-use Rattle.circuits.proofs.digit.Tie as tie
+use Rattle.walks.proofs.digit.Statement.{statement}
+use Rattle.walks.proofs.digit.Tie as tie
 
 member-requires : tie.Need-member-requires
 member-requires c κs = search needs

@@ -1,15 +1,15 @@
--- `circuits::witness` meets its contract. No partition that the loop passed suits. Assumes nothing.
+-- `walks::witness` meets its contract. No partition that the loop passed suits. Assumes nothing.
 use borrow.Author.Needs.{needs}
 use native.Mathlib.Omega.{arith}
-use Rattle.circuits.proofs.Steps.{first-here, first-next, first-end}
-use Rattle.circuits.specs.ModelCircuits.{suitsAt, witnessOf}
+use Rattle.walks.proofs.Steps.{first-here, first-next, first-end, suits-at}
+use Rattle.walks.specs.ModelWalks.{suitsAt, witnessOf}
 use Rattle.exchange.specs.Levels.{firstFrom}
 use native.Mathlib.Nat.{sub-zero}
 use mathlib.Core.Bool.{Bool}
 use mathlib.Core.Path.{_≡_, sym, ap₂, _∙_}
 use Prim.Native.Nat.{ℕ, _≤_, _-_}
-use Rattle.circuits.proofs.witness.Statement.{statement}
-use Rattle.circuits.proofs.witness.Tie as tie
+use Rattle.walks.proofs.witness.Statement.{statement}
+use Rattle.walks.proofs.witness.Tie as tie
 
 abbrev Inv-loop : tie.InvT-loop
 Inv-loop rows former partitions mates arcs all z u v w p₀ p = (p ≤ partitions)
@@ -29,17 +29,11 @@ loop-holds c = let a = c .before .before .before .before .before .args in (
       (sym (c .weight .ensures .0)) (sym (sub-zero (a .partitions))),
 )
 
-mul-suits : tie.Need-mul-suits Inv-loop μ-loop
-mul-suits c = omega arith
+cell-requires : tie.Need-cell-requires Inv-loop μ-loop
+cell-requires c κs = search needs
 
-shared-slice-read-suits : tie.Need-shared-slice-read-suits Inv-loop μ-loop
-shared-slice-read-suits c = omega arith
-
-mul-suits-2 : tie.Need-mul-suits-2 Inv-loop μ-loop
-mul-suits-2 c = omega arith
-
-shared-slice-read-suits-2 : tie.Need-shared-slice-read-suits-2 Inv-loop μ-loop
-shared-slice-read-suits-2 c = omega arith
+cell-requires-2 : tie.Need-cell-requires-2 Inv-loop μ-loop
+cell-requires-2 c κs = search needs
 
 suits-requires : tie.Need-suits-requires Inv-loop μ-loop
 suits-requires c κs = search needs
@@ -48,7 +42,12 @@ returns : tie.Need-returns Inv-loop μ-loop
 returns c = let k = c .before .before .before .before .before in
     let a = c .before .before .before .before .before .before .before .before .before .before .before .args in
     let test : ℕ → Bool = suitsAt (a .rows .now) (a .former .now) (a .mates .now) (a .all) (a .z) (k .before .weight .result) (a .u) (a .v) in
-    let e = first-here test (a .partitions) (k .loop .p) (omega arith) (sym (c .before .suits .ensures) ∙ c .if1 .taken) in
+    let h = c .before in
+    let s =
+    suits-at (a .rows .now) (a .former .now) (a .mates .now) (a .all) (a .z) (k .before .weight .result) (a .u) (a .v) (k .loop .p)
+    (h .before .before .cell .result) (h .before .cell2 .result) (h .suits .result) (h .suits .ensures) (h .before .before .cell .ensures)
+    (h .before .cell2 .ensures) in
+    let e = first-here test (a .partitions) (k .loop .p) (omega arith) (sym s ∙ c .if1 .taken) in
     (sym (k .loop .inv .1 ∙ e), omega arith)
 
 add-p : tie.Need-add-p Inv-loop μ-loop
@@ -61,7 +60,12 @@ loop-again : tie.Need-loop-again Inv-loop μ-loop
 loop-again c = let k = c .before .before .before .before .before in
     let a = c .before .before .before .before .before .before .before .before .before .before .before .args in
     let test : ℕ → Bool = suitsAt (a .rows .now) (a .former .now) (a .mates .now) (a .all) (a .z) (k .before .weight .result) (a .u) (a .v) in
-    let e = first-next test (a .partitions) (k .loop .p) (omega arith) (sym (c .before .suits .ensures) ∙ c .if1 .left) in
+    let h = c .before in
+    let s =
+    suits-at (a .rows .now) (a .former .now) (a .mates .now) (a .all) (a .z) (k .before .weight .result) (a .u) (a .v) (k .loop .p)
+    (h .before .before .cell .result) (h .before .cell2 .result) (h .suits .result) (h .suits .ensures) (h .before .before .cell .ensures)
+    (h .before .cell2 .ensures) in
+    let e = first-next test (a .partitions) (k .loop .p) (omega arith) (sym s ∙ c .if1 .left) in
     (omega arith, k .loop .inv .1 ∙ e)
 
 returns-2 : tie.Need-returns-2 Inv-loop μ-loop
@@ -78,10 +82,8 @@ witness-spec =
     μ-loop
     weight-requires
     loop-holds
-    mul-suits
-    shared-slice-read-suits
-    mul-suits-2
-    shared-slice-read-suits-2
+    cell-requires
+    cell-requires-2
     suits-requires
     returns
     add-p

@@ -1,21 +1,21 @@
--- `circuits::later` meets its contract. No arc that the loop passed can be crossed with i. Assumes nothing.
+-- `walks::later` meets its contract. No arc that the loop passed can be crossed with i. Assumes nothing.
 use borrow.Author.Needs.{needs}
 use native.Mathlib.Omega.{arith}
-use Rattle.circuits.proofs.Steps.{first-here, first-next, first-end}
-use Rattle.circuits.specs.ModelCircuits.{okOf, walkIn}
+use Rattle.walks.proofs.Steps.{first-here, first-next, first-end}
+use Rattle.walks.specs.ModelWalks.{okOf, walkIn}
 use Rattle.exchange.specs.Uncross.{crosses, partner}
 use Rattle.exchange.specs.Levels.{firstFrom}
 use lib.ListN.{getD}
 use native.Mathlib.Numerals.{add-one}
 use mathlib.Core.Bool.{Bool}
 use mathlib.Core.Path.{_≡_, sym, ap, _∙_}
-use Prim.Native.Nat.{ℕ, _≤_, _<_, _-_}
-use Rattle.circuits.proofs.later.Statement.{statement}
-use Rattle.circuits.proofs.later.Tie as tie
+use Prim.Native.Nat.{ℕ, _-_}
+use Rattle.walks.proofs.later.Statement.{statement}
+use Rattle.walks.proofs.later.Tie as tie
 
 abbrev Inv-loop : tie.InvT-loop
-Inv-loop y q m i rows partitions mates all z j₀ j = (j ≤ m) × (i < j)
-    × (partner partitions (okOf rows mates all z) (walkIn m y q) i ≡ firstFrom (crosses partitions (okOf rows mates all z) (λ t. getD y t 0) (λ t. getD q t 0) i) (m - j) j)
+Inv-loop y q m i rows partitions mates all z j₀ j =
+    partner partitions (okOf rows mates all z) (walkIn m y q) i ≡ firstFrom (crosses partitions (okOf rows mates all z) (λ t. getD y t 0) (λ t. getD q t 0) i) (m - j) j
 
 abbrev μ-loop : tie.MeasureT-loop
 μ-loop y q m i rows partitions mates all z j₀ j = m - j
@@ -28,7 +28,7 @@ unfolding partner
 loop-holds c = let a = c .before .before .before .before .args in
     let test : ℕ → Bool =
     crosses (a .partitions) (okOf (a .rows .now) (a .mates .now) (a .all) (a .z)) (λ t. getD (a .y .now) t 0) (λ t. getD (a .q .now) t 0) (a .i) in
-    (omega arith, omega arith, ap (λ (k : ℕ). firstFrom test (a .m - k) k) (sym (add-one (a .i))))
+    ap (λ (k : ℕ). firstFrom test (a .m - k) k) (sym (add-one (a .i)))
 
 crossed-requires : tie.Need-crossed-requires Inv-loop μ-loop
 crossed-requires c κs = search needs
@@ -38,7 +38,7 @@ returns c = let k = c .before .before .before in
     let a = c .before .before .before .before .before .before .before .before .args in
     let test : ℕ → Bool =
     crosses (a .partitions) (okOf (a .rows .now) (a .mates .now) (a .all) (a .z)) (λ t. getD (a .y .now) t 0) (λ t. getD (a .q .now) t 0) (a .i) in
-    sym (k .loop .inv .2 ∙ first-here test (a .m) (k .loop .j) (omega arith) (sym (c .before .crossed .ensures) ∙ c .if1 .taken))
+    sym (k .loop .inv ∙ first-here test (a .m) (k .loop .j) (omega arith) (sym (c .before .crossed .ensures) ∙ c .if1 .taken))
 
 add-j-2 : tie.Need-add-j-2 Inv-loop μ-loop
 add-j-2 c = omega arith
@@ -50,18 +50,15 @@ loop-again : tie.Need-loop-again Inv-loop μ-loop
 loop-again c = let k = c .before .before .before in
     let a = c .before .before .before .before .before .before .before .before .args in
     let test : ℕ → Bool =
-    crosses (a .partitions) (okOf (a .rows .now) (a .mates .now) (a .all) (a .z)) (λ t. getD (a .y .now) t 0) (λ t. getD (a .q .now) t 0) (a .i) in (
-      omega arith,
-      omega arith,
-      k .loop .inv .2 ∙ first-next test (a .m) (k .loop .j) (omega arith) (sym (c .before .crossed .ensures) ∙ c .if1 .left),
-    )
+    crosses (a .partitions) (okOf (a .rows .now) (a .mates .now) (a .all) (a .z)) (λ t. getD (a .y .now) t 0) (λ t. getD (a .q .now) t 0) (a .i) in
+    k .loop .inv ∙ first-next test (a .m) (k .loop .j) (omega arith) (sym (c .before .crossed .ensures) ∙ c .if1 .left)
 
 returns-2 : tie.Need-returns-2 Inv-loop μ-loop
 returns-2 c = let k = c .before in
     let a = c .before .before .before .before .before .before .args in
     let test : ℕ → Bool =
     crosses (a .partitions) (okOf (a .rows .now) (a .mates .now) (a .all) (a .z)) (λ t. getD (a .y .now) t 0) (λ t. getD (a .q .now) t 0) (a .i) in
-    sym (k .loop .inv .2 ∙ first-end test (a .m) (k .loop .j) (omega arith))
+    sym (k .loop .inv ∙ first-end test (a .m) (k .loop .j) (omega arith))
 
 pub later-spec : {M : Type 1} → statement M
 later-spec =

@@ -1,0 +1,221 @@
+// What is read off a closed walk of the exchange graph: the partition in which an arc is an exchange, the first pair of arcs that can be crossed, and
+// whether the part between two arcs gains. A row is a set of nodes below 32; a walk is two slices, its nodes and the partitions of its arcs.
+ghost use mathlib.Core.Path.{_≡_};
+ghost use Prim.Native.Nat.{ℕ, suc, _+_, _-_, _≤_, _<_, _^_};
+ghost use lib.ListN.{getD};
+ghost use Rattle.sets.specs.Bits.{bit};
+ghost use Rattle.exchange.specs.Circuit.{cost};
+ghost use Rattle.exchange.specs.Uncross.{crosses, partner, first};
+ghost use Rattle.cycles.specs.ModelGraph.{weightOf};
+ghost use Rattle.walks.specs.ModelWalks.{bitsOf, okOf, suitsOf, witnessOf, walkIn, innerGains};
+
+// Digit i of s.
+fn digit(s: u32, i: u32) -> u32
+    ensures { λ r. ⌜ (r ≡ bit s i) × (r ≤ 1) ⌝ }
+{
+    if sets::member(s, i) { 1 } else { 0 }
+}
+
+// The weight of the arc from u to v, more by 1.
+fn weight(arcs: &[u32], u: u32, v: u32) -> u32
+    ensures { λ r. ⌜ (r ≡ weightOf (now (arcs .entry)) u v) × (r ≤ 2) ⌝ }
+{
+    if sets::member(swaps::cell(arcs, u as usize), v) {
+        return 0;
+    }
+    if sets::member(swaps::cell(arcs, 32 + u as usize), v) {
+        return 1;
+    }
+    2
+}
+
+// Whether the exchange of u for v is one of the row, at the weight w, where the partition had the row old.
+fn suits(mates: &[u32], all: u32, z: u32, row: u32, old: u32, w: u32, u: u32, v: u32) -> bool
+    requires { ⌜ w ≤ 2 ⌝ }
+    ensures { λ r. ⌜ r ≡ suitsOf (now (mates .entry)) all z row old w u v ⌝ }
+{
+    if !sets::member(row, u) {
+        return false;
+    }
+    if sets::member(row, v) {
+        return false;
+    }
+    if 1 + digit(old, u) != w + digit(old, v) {
+        return false;
+    }
+    sets::member(swaps::targets(mates, all, z, row, u), v)
+}
+
+// The first partition with the exchange of u for v at the arc's weight.
+pub fn witness(
+    rows: &[u32],
+    former: &[u32],
+    partitions: usize,
+    mates: &[u32],
+    arcs: &[u32],
+    all: u32,
+    z: u32,
+    u: u32,
+    v: u32,
+) -> usize
+    ensures { λ r. ⌜ (r ≡ witnessOf (now (rows .entry)) (now (former .entry)) partitions (now (mates .entry)) (now (arcs .entry)) all z u v) × (r ≤ partitions) ⌝ }
+{
+    let w = weight(arcs, u, v);
+    let mut p = 0;
+    while p < partitions {
+        if suits(
+            mates,
+            all,
+            z,
+            swaps::cell(rows, p),
+            swaps::cell(former, p),
+            w,
+            u,
+            v,
+        ) {
+            return p;
+        }
+        p += 1;
+    }
+    p
+}
+
+// Whether node a of the row of partition p may give way to node b.
+fn allows(rows: &[u32], mates: &[u32], all: u32, z: u32, p: usize, a: u32, b: u32) -> bool
+    ensures { λ r. ⌜ r ≡ okOf (now (rows .entry)) (now (mates .entry)) all z p a b ⌝ }
+{
+    sets::member(swaps::targets(mates, all, z, swaps::cell(rows, p), a), b)
+}
+
+// Whether the arcs i and j of the walk can be crossed.
+fn crossed(
+    y: &[u32],
+    q: &[u32],
+    i: usize,
+    j: usize,
+    rows: &[u32],
+    partitions: usize,
+    mates: &[u32],
+    all: u32,
+    z: u32,
+) -> bool
+    requires { ⌜ (i < 2 ^ 32) × (j < 2 ^ 32) ⌝ }
+    ensures { λ r. ⌜ r
+        ≡ crosses partitions (okOf (now (rows .entry)) (now (mates .entry)) all z) (λ t. getD (now (y .entry)) t 0) (λ t. getD (now (q .entry)) t 0) i j ⌝ }
+{
+    let e = swaps::cell(q, i);
+    let p = e as usize;
+    if partitions <= p {
+        return false;
+    }
+    if e != swaps::cell(q, j) {
+        return false;
+    }
+    if !allows(
+        rows,
+        mates,
+        all,
+        z,
+        p,
+        swaps::cell(y, j + 1),
+        swaps::cell(y, i),
+    ) {
+        return false;
+    }
+    allows(
+        rows,
+        mates,
+        all,
+        z,
+        p,
+        swaps::cell(y, i + 1),
+        swaps::cell(y, j),
+    )
+}
+
+// The first arc after i that can be crossed with it.
+pub fn later(
+    y: &[u32],
+    q: &[u32],
+    m: u32,
+    i: u32,
+    rows: &[u32],
+    partitions: usize,
+    mates: &[u32],
+    all: u32,
+    z: u32,
+) -> usize
+    ensures { λ r. ⌜ r ≡ partner partitions (okOf (now (rows .entry)) (now (mates .entry)) all z) (walkIn m (now (y .entry)) (now (q .entry))) i ⌝ }
+{
+    let mut j = i as usize + 1;
+    while j < m as usize {
+        if crossed(y, q, i as usize, j, rows, partitions, mates, all, z) {
+            return j;
+        }
+        j += 1;
+    }
+    j
+}
+
+// The first arc that can be crossed with a later one.
+pub fn earlier(
+    y: &[u32],
+    q: &[u32],
+    m: u32,
+    rows: &[u32],
+    partitions: usize,
+    mates: &[u32],
+    all: u32,
+    z: u32,
+) -> u32
+    ensures { λ r. ⌜ r ≡ first partitions (okOf (now (rows .entry)) (now (mates .entry)) all z) (walkIn m (now (y .entry)) (now (q .entry))) ⌝ }
+{
+    let mut i = 0;
+    while i < m {
+        if later(y, q, m, i, rows, partitions, mates, all, z) < m as usize {
+            return i;
+        }
+        i += 1;
+    }
+    i
+}
+
+// What the arc from a to b at q costs: an exchange loses a former node or wins one; a step over the store costs 1.
+fn arc_cost(former: &[u32], partitions: usize, q: u32, a: u32, b: u32) -> usize
+    ensures { λ r. ⌜ (r ≡ cost partitions 1 (bitsOf (now (former .entry))) q a b) × (r ≤ 2) ⌝ }
+{
+    if (q as usize) < partitions {
+        let old = swaps::cell(former, q as usize);
+        return (1 + digit(old, a) - digit(old, b)) as usize;
+    }
+    1
+}
+
+// Whether the inner part of the walk, at the arcs i and j, gains: the arcs between them, and the one that closes it.
+pub fn gains(y: &[u32], q: &[u32], i: u32, j: u32, former: &[u32], partitions: usize) -> bool
+    ensures { λ r. ⌜ r ≡ innerGains partitions (bitsOf (now (former .entry))) (walkIn (j + 1) (now (y .entry)) (now (q .entry))) i j ⌝ }
+{
+    if j <= i {
+        return false;
+    }
+    let end = j as usize;
+    let mut t = i as usize + 1;
+    let mut sum = arc_cost(
+        former,
+        partitions,
+        swaps::cell(q, end),
+        swaps::cell(y, t),
+        swaps::cell(y, end),
+    );
+    while t < end {
+        sum += arc_cost(
+            former,
+            partitions,
+            swaps::cell(q, t),
+            swaps::cell(y, t + 1),
+            swaps::cell(y, t),
+        );
+        t += 1;
+    }
+    sum < (j - i) as usize
+}
