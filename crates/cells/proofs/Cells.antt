@@ -1,10 +1,10 @@
 -- The laws of tabulated and overwritten lists.
 -- Assumes nothing.
-use Prim.Native.Nat.{ℕ, zero, suc, _+_, _-_, _*_, _≤_, _<_}
+use Prim.Native.Nat.{ℕ, zero, suc, _+_, _-_, _≤_, _<_}
 use mathlib.Core.Path.{_≡_, refl, sym, ap, ap₂, _∙_, subst}
 use mathlib.Core.List.{List, [], _∷_, _++_, map, append-assoc}
 use mathlib.Core.Logic.{⊎-elim}
-use native.Mathlib.Nat.{add-zero, sub-zero}
+use native.Mathlib.Nat.{add-zero, zero-add, sub-zero}
 use native.Mathlib.Numerals.{add-one}
 use native.Mathlib.Omega.{arith}
 use lib.ListN.{length, take, drop, getD, set, length-append, length-set, length-map, List·getD-append}
@@ -69,6 +69,18 @@ module _ {A : Type 0} where
   pub put-more : (b : ℕ) (f : ℕ → A) (n : ℕ) (l : List A) → set (put b f n l) (b + n) (f n) ≡ put b f (n + 1) l
   unfolding put
   put-more b f n l = ap (λ (k : ℕ). put b f k l) (sym (add-one n))
+
+  -- A turn of a loop that writes the first cells.
+  pub put-next : (f : ℕ → A) (i : ℕ) (x : A) (l₀ l : List A) → l ≡ put 0 f i l₀ → x ≡ f i → set l i x ≡ put 0 f (i + 1) l₀
+  put-next f i x l₀ l e q =
+      ap₂ (λ (r : List A) (v : A). set r i v) e q ∙ (ap (λ (k : ℕ). set (put 0 f i l₀) k (f i)) (sym (zero-add i)) ∙ put-more 0 f i l₀)
+
+  -- Equal cells, written, give equal lists.
+  pub put-cong : (b : ℕ) (f g : ℕ → A) (n : ℕ) (l : List A) → ((i : ℕ) → i < n → f i ≡ g i) → put b f n l ≡ put b g n l
+  unfolding put
+  put-cong b f g zero l h = refl
+  put-cong b f g (suc n) l h =
+      ap₂ (λ (r : List A) (x : A). set r (b + n) x) (put-cong b f g n l (λ i k. h i (omega arith))) (h n (omega arith))
 
   -- A cell outside what was written keeps its value.
   pub getD-put-out : (b : ℕ) (f : ℕ → A) (n : ℕ) (l : List A) (i : ℕ) (d : A) → ((j : ℕ) → j < n → i ≡ b + j → ⊥) → getD (put b f n l) i d ≡ getD l i d

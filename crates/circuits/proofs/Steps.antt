@@ -24,10 +24,6 @@ use Rattle.circuits.specs.ModelCircuits.{bitsOf, okOf, witnessOf, witnes
 
 -- ---- cells
 
--- One cell more from the beginning.
-pub put-first : (f : ℕ → ℕ) (n : ℕ) (l : List ℕ) → set (put 0 f n l) n (f n) ≡ put 0 f (n + 1) l
-put-first f n l = ap (λ (i : ℕ). set (put 0 f n l) i (f n)) (sym (zero-add n)) ∙ put-more 0 f n l
-
 -- The cell of a list written from the beginning.
 pub getD-first : (f : ℕ → ℕ) (n : ℕ) (l : List ℕ) (i : ℕ) → i < n → n ≤ length l → getD (put 0 f n l) i 0 ≡ f i
 getD-first f n l i a b = ap (λ (k : ℕ). getD (put 0 f n l) k 0) (sym (zero-add i)) ∙ getD-put-in 0 f n l i 0 a (omega arith)

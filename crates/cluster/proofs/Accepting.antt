@@ -1,7 +1,7 @@
--- A cluster has no fault exactly where it is accepted.
+-- A cluster has no fault exactly where it is accepted; it has then as many nodes as its count says.
 -- Assumes nothing.
-use Prim.Native.Nat.{ℕ, _≤_, _<_}
-use mathlib.Core.Path.{_≡_, refl, sym, ap, _∙_}
+use Prim.Native.Nat.{ℕ, _≤_}
+use mathlib.Core.Path.{_≡_, refl, ap, _∙_}
 use mathlib.Core.Bool.{Bool, true, false, _||_, _&&_}
 use mathlib.Core.List.{List, [], _∷_}
 use native.Mathlib.Omega.{arith}
@@ -86,3 +86,16 @@ no-fault c few a =
       rising-no-zero 0 (idsOf (t .nodes)) (a .ids),
       a .ids,
     )
+
+-- The count of a cluster without fault is within the slots.
+pub few-nodes : (c : Cluster) → faultOf c ≡ 0 → c .count ≤ 32
+unfolding faultOf
+few-nodes c e = go (ltb 32 (c .count)) refl e
+  where
+    go : (b : Bool) → ltb 32 (c .count) ≡ b → _≡_ {A = ℕ} (pick b 6 (pick (outOfRange (topology c)) 4 (pick (rising (idsOf (topology c .nodes))) 0 5))) 0 → c .count ≤ 32
+    go true q h = absurd (omega arith)
+    go false q h = ltb-false 32 (c .count) q
+
+-- The nodes in use are as many as the count says, where it is within the slots.
+pub nodes-count : (c : Cluster) → length (c .nodes) ≡ 32 → c .count ≤ 32 → length (topology c .nodes) ≡ c .count
+nodes-count c l h = omega (arith, length-take (c .count) (c .nodes))

@@ -1,14 +1,14 @@
 -- The laws of columns.
 -- Assumes nothing.
 use Prim.Native.Nat.{ℕ, zero, suc, _+_, _≤_, _<_}
-use mathlib.Core.Path.{_≡_, refl, sym, ap, ap₂, _∙_}
-use mathlib.Core.List.{List, [], _∷_}
+use mathlib.Core.Path.{_≡_, refl, sym, ap, _∙_}
+use mathlib.Core.List.{List}
 use native.Mathlib.Nat.{zero-add}
 use native.Mathlib.Omega.{arith}
-use lib.ListN.{length, getD, set, replicate, length-replicate}
+use lib.ListN.{length, set, replicate}
 use lib.Seq.{ext-getD}
 use Rattle.cells.specs.Cells.{put}
-use Rattle.cells.proofs.Cells.{length-put, put-none, put-more, getD-put-in, getD-put-out}
+use Rattle.cells.proofs.Cells.{length-put, put-none, put-next, put-cong, getD-put-in, getD-put-out}
 use Rattle.cluster.specs.Columns.{cell, blanks, column}
 
 -- A blank cell is 0.
@@ -27,14 +27,10 @@ pub column-none : (f : ℕ → ℕ) → blanks ≡ column f 0
 unfolding column
 column-none f = put-none 0 f blanks
 
--- One number more.
-pub column-more : (f : ℕ → ℕ) (n : ℕ) → set (column f n) n (f n) ≡ column f (n + 1)
-unfolding column
-column-more f n = ap (λ (i : ℕ). set (put 0 f n blanks) i (f n)) (sym (zero-add n)) ∙ put-more 0 f n blanks
-
 -- A turn of a loop that writes a column.
 pub column-next : (f : ℕ → ℕ) (l : List ℕ) (n v : ℕ) → l ≡ column f n → v ≡ f n → set l n v ≡ column f (n + 1)
-column-next f l n v e d = ap₂ (λ (k : List ℕ) (x : ℕ). set k n x) e d ∙ column-more f n
+unfolding column
+column-next f l n v e d = put-next f n v blanks l e d
 
 -- The end of a loop that writes a column.
 pub column-end : (f : ℕ → ℕ) (l : List ℕ) (b n : ℕ) → l ≡ column f b → b ≡ n → l ≡ column f n
@@ -53,12 +49,8 @@ cell-column-out f n b h = getD-put-out 0 f n blanks b 0 (λ j l e. omega arith) 
 
 -- Equal numbers give equal columns.
 pub column-cong : (f g : ℕ → ℕ) (n : ℕ) → ((b : ℕ) → b < n → f b ≡ g b) → column f n ≡ column g n
-unfolding column put
-column-cong f g n h = go n h
-  where
-    go : (k : ℕ) → ((b : ℕ) → b < k → f b ≡ g b) → put 0 f k blanks ≡ put 0 g k blanks
-    go zero e = refl
-    go (suc k) e = ap₂ (λ (l : List ℕ) (v : ℕ). set l (0 + k) v) (go k (λ b m. e b (omega arith))) (e k (omega arith))
+unfolding column
+column-cong f g n h = put-cong 0 f g n blanks h
 
 -- An array is the column of its own cells.
 pub column-cells : (f : ℕ → ℕ) (l : List ℕ) → length l ≡ 32 → ((b : ℕ) → b < 32 → cell l b ≡ f b) → l ≡ column f 32

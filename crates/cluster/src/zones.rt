@@ -1,4 +1,4 @@
-// The zones of the nodes in use, each named by its first node.
+// The nodes in use: how many there are, and their zones, each named by its first node.
 ghost use mathlib.Core.Path.{_≡_};
 ghost use Prim.Native.Nat.{_<_, _≤_};
 ghost use lib.ListN.{length};
@@ -8,7 +8,7 @@ ghost use Rattle.cluster.specs.Columns.{zoneCells};
 use super::Cluster;
 
 // How many nodes are in use, of a cluster of any count.
-fn used(c: Cluster) -> usize
+pub fn used(c: Cluster) -> usize
     ensures { λ r. ⌜ (r ≡ length (topology c .nodes)) × (r ≤ 32) × (r ≤ c .count) ⌝ }
 {
     if c.count < Cluster::NODES {

@@ -1,11 +1,11 @@
 -- From one level down to the end of the search or to the next level: the ways that grow, the first node that closes a cycle, and the walk back
 -- around that cycle.
 -- Assumes nothing.
-use Prim.Native.Nat.{ℕ, zero, suc, _+_, _-_, _*_, _≤_, _<_, min, max}
-use mathlib.Core.Path.{_≡_, refl, sym, ap, ap₂, _∙_, subst}
+use Prim.Native.Nat.{ℕ, zero, suc, _+_, _-_, _*_, _≤_, _<_}
+use mathlib.Core.Path.{_≡_, refl, sym, ap, _∙_, subst}
 use mathlib.Core.Bool.{Bool, true, false, cond, _&&_, false≢true}
 use mathlib.Core.List.{List}
-use mathlib.Core.Logic.{_⊎_, inl, inr, ⊎-elim}
+use mathlib.Core.Logic.{⊎-elim}
 use native.Mathlib.Nat.{zero-add, sub-zero}
 use native.Mathlib.Numerals.{add-one}
 use native.Mathlib.Omega.{arith}
@@ -14,15 +14,15 @@ use lib.ListN.{length, getD, set, take, drop}
 use lib.Seq.{getD-take, getD-drop}
 use borrow.Author.Tests.{lt-ltb, le-ltb}
 use Rattle.sums.specs.Sum.{is}
-use Rattle.sums.proofs.Sum.{lt-or-ge, is-eq, is-le}
+use Rattle.sums.proofs.Sum.{lt-or-ge, is-eq}
 use Rattle.cells.specs.Cells.{put}
-use Rattle.cells.proofs.Cells.{getD-put-in}
-use Rattle.sets.specs.Bits.{bit, memberOf, withOf, withoutOf, leastOf}
+use Rattle.cells.proofs.Cells.{getD-put-in, put-cong}
+use Rattle.sets.specs.Bits.{bit, memberOf, withOf, leastOf}
 use Rattle.sets.proofs.Laws.{bit-le, bit-zero, bit-true, bit-false, bit-with, bit-without, least-some, least-at}
 use Rattle.exchange.specs.Levels as levels
 use Rattle.exchange.specs.Levels.{Graph, Outcome, Potential, Cycle, fell, back, way, closes, firstFrom, search-from, outcome, cycleLength}
 use Rattle.exchange.proofs.Levels.{from-node, true-or-false}
-use Rattle.exchange.proofs.Search.{Open, open-next, Closing, closing, first-is-none, first-some, first-none, first-cases, way-next, way-stays, way-self, way-le, back-next, back-fell, back-node}
+use Rattle.exchange.proofs.Search.{open-next, Closing, closing, first-is-none, first-some, first-none, first-cases, way-next, way-stays, way-self, way-le, back-next, back-fell, back-node}
 use Rattle.cycles.specs.ModelFound.{endLength, endWalk}
 use Rattle.cycles.specs.Turns.{before, closer, trail, trailLength}
 use Rattle.cycles.proofs.Parts.{before-fallen, before-stayed}
@@ -37,12 +37,6 @@ first-cong t s (suc n) i h = rw (h i (omega arith) (omega arith), first-cong t s
 -- Where an index passes, the first is below the bound.
 first-lt : (t : ℕ → Bool) (n i : ℕ) → i < n → t i ≡ true → firstFrom t n 0 < n
 first-lt t n i l e = ⊎-elim (λ h. omega (arith, h .1)) (λ h. absurd (false≢true (sym (h .1 i (omega arith) (omega arith)) ∙ e))) (first-cases t n 0)
-
--- Cells that are written go by the values written.
-put-cong : (f g : ℕ → ℕ) (n : ℕ) (l : List ℕ) → ((i : ℕ) → i < n → f i ≡ g i) → put 0 f n l ≡ put 0 g n l
-unfolding put
-put-cong f g zero l h = refl
-put-cong f g (suc n) l h = ap₂ (λ (m : List ℕ) (x : ℕ). set m (0 + n) x) (put-cong f g n l (λ i m. h i (omega arith))) (h n (omega arith))
 
 -- One level down from level k, with all that the cells hold: the state before, the next level, and the row of the nodes that the fallen came from.
 pub record Turning (G : Graph) (k set mask : ℕ) (next table dist next₀ ways table₀ row : List ℕ) : Type 0 where
@@ -220,7 +214,7 @@ module _ {G : Graph} {k set mask : ℕ} {next table dist next₀ ways table₀ r
     unfolding endWalk
     trail-walk walk =
         rw (add-one k, length-is)
-        (put-cong (trail table (suc k) v) (back G (suc k) v) (cycleLength G (suc k) v + 1) walk (λ i l. trail-back i (omega (arith, ends .length-le))))
+        (put-cong 0 (trail table (suc k) v) (back G (suc k) v) (cycleLength G (suc k) v + 1) walk (λ i l. trail-back i (omega (arith, ends .length-le))))
 
     -- Its length is the cycle's.
     pub trail-length : trailLength table (k + 1) v ≡ endLength G (Cycle (suc k) v)

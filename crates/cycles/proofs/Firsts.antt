@@ -1,15 +1,10 @@
--- A search for the first index that passes a test, one index after the other, and cells that are filled in one after the other.
+-- A search for the first index that passes a test, one index after the other.
 -- Assumes nothing.
-use Prim.Native.Nat.{ℕ, zero, suc, _+_, _-_, _*_, _≤_, _<_}
-use mathlib.Core.Path.{_≡_, refl, sym, ap, _∙_, subst}
+use Prim.Native.Nat.{ℕ, suc, _+_, _-_, _≤_, _<_}
+use mathlib.Core.Path.{_≡_, sym, ap, _∙_}
 use mathlib.Core.Bool.{Bool, true, false, cond}
-use mathlib.Core.List.{List}
-use native.Mathlib.Nat.{zero-add}
 use native.Mathlib.Numerals.{add-one}
 use native.Mathlib.Omega.{arith}
-use lib.ListN.{set}
-use Rattle.cells.specs.Cells.{put}
-use Rattle.cells.proofs.Cells.{put-more}
 use Rattle.exchange.specs.Levels.{firstFrom}
 
 module _ (t : ℕ → Bool) (n i : ℕ) where
@@ -29,7 +24,3 @@ module _ (t : ℕ → Bool) (n i : ℕ) where
   pub first-end : n ≤ i → firstFrom t (n - i) i ≡ i
   unfolding firstFrom
   first-end l = let e : n - i ≡ 0 = omega arith in ap (λ (k : ℕ). firstFrom t k i) e
-
--- One cell more.
-pub put-next : (f : ℕ → ℕ) (i x : ℕ) (l₀ l : List ℕ) → l ≡ put 0 f i l₀ → x ≡ f i → set l i x ≡ put 0 f (i + 1) l₀
-put-next f i x l₀ l e q = rw (e, q) (ap (λ (k : ℕ). set (put 0 f i l₀) k (f i)) (sym (zero-add i)) ∙ put-more 0 f i l₀)

@@ -1,7 +1,7 @@
 -- The ways that grow node by node, and the trace back step by step.
 -- Assumes nothing.
-use Prim.Native.Nat.{ℕ, zero, suc, _+_, _-_, _*_, _≤_, _<_}
-use mathlib.Core.Path.{_≡_, refl, sym, ap, ap₂, _∙_, subst}
+use Prim.Native.Nat.{ℕ, _+_, _-_, _*_, _≤_, _<_}
+use mathlib.Core.Path.{_≡_, refl, sym, ap, _∙_}
 use mathlib.Core.Bool.{Bool, true, false, cond}
 use mathlib.Core.List.{List}
 use native.Mathlib.Nat.{sub-zero}
@@ -11,10 +11,11 @@ use lib.Dec.{eqb}
 use lib.ListN.{getD, set}
 use borrow.Author.Tests.{eq-eqb, ne-eqb}
 use Rattle.cells.specs.Cells.{put}
-use Rattle.sets.specs.Bits.{memberOf, withOf, withoutOf}
+use Rattle.cells.proofs.Cells.{put-next}
+use Rattle.sets.specs.Bits.{memberOf, withoutOf}
 use Rattle.exchange.specs.Levels.{firstFrom}
 use Rattle.cycles.specs.Turns.{before, closer, trail, trailLength}
-use Rattle.cycles.proofs.Firsts.{first-hit, first-miss, first-end, put-next}
+use Rattle.cycles.proofs.Firsts.{first-hit, first-miss, first-end}
 
 -- ---- ways
 

@@ -8,7 +8,7 @@ use mathlib.Core.Logic.{⊎-elim}
 use native.Mathlib.Omega.{arith}
 use lib.Dec.{ltb, eqb}
 use lib.ListN.{length}
-use borrow.Author.Tests.{lt-ltb, le-ltb, ltb-true, eq-eqb, ne-eqb, eqb-true, eqb-false}
+use borrow.Author.Tests.{lt-ltb, le-ltb, eq-eqb, ne-eqb, eqb-true, eqb-false}
 use Rattle.sums.specs.Sum.{pick}
 use Rattle.sums.proofs.Sum.{lt-or-ge, eq-or-ne}
 use Rattle.cluster.specs.Limits.{layoutCells}
@@ -17,8 +17,8 @@ use Rattle.cluster.specs.TermsCells.{rowsIn}
 use Rattle.cluster.specs.Faults.{faultOf}
 use Rattle.cluster.specs.declared.Cluster.{Cluster}
 use Rattle.layouts.specs.declared.check.Checked.{Checked}
-use Rattle.layouts.specs.TermsCheck.{fault, passed, orElse, firstFrom, clusterFault, rowsFault, nodesFault, checkOf}
-use Rattle.layouts.proofs.Sound.{few-nodes}
+use Rattle.layouts.specs.TermsCheck.{fault, passed, firstFrom, clusterFault, rowsFault, nodesFault, checkOf}
+use Rattle.cluster.proofs.Accepting.{few-nodes}
 
 -- ---- a first fault
 

@@ -3,20 +3,21 @@
 use Prim.Native.Nat.{ℕ, zero, suc, _+_, _*_, _≤_, _<_}
 use mathlib.Core.Path.{_≡_, refl, sym, ap, ap₂, _∙_}
 use mathlib.Core.Bool.{Bool}
-use mathlib.Core.List.{List, [], _∷_}
+use mathlib.Core.List.{List, []}
 use mathlib.Core.Logic.{⊎-elim}
 use native.Mathlib.Nat.{one-mul, zero-mul}
 use native.Mathlib.Numerals.{add-one}
 use native.Mathlib.Omega.{arith}
 use lib.Dec.{ltb, eqb}
-use lib.ListN.{length, take, getD, set, length-take, List·getD-eq-default}
+use lib.ListN.{length, getD, List·getD-eq-default}
 use borrow.Author.Tests.{lt-ltb, le-ltb, eq-eqb, ne-eqb}
 use Rattle.sums.specs.Sum.{sumTo, one-if, is, pick}
 use Rattle.sums.proofs.Sum.{lt-or-ge, is-eq, is-ne, sum-cong}
 use Rattle.cells.specs.Cells.{tab, put}
+use Rattle.cells.proofs.Cells.{put-cong}
 use Rattle.cluster.specs.Limits.{figureCells}
-use Rattle.cluster.specs.Terms.{Topology, topology, partitions, noNode, nodeAt, mem, copiesIn, Layout}
-use Rattle.cluster.specs.TermsCells.{rowAt, idsIn, rowsIn}
+use Rattle.cluster.specs.Terms.{Topology, topology, partitions, noNode, nodeAt, copiesIn}
+use Rattle.cluster.specs.TermsCells.{rowAt, rowsIn}
 use Rattle.cluster.specs.declared.Cluster.{Cluster}
 use Rattle.cluster.specs.declared.Node.{Node}
 use Rattle.cluster.proofs.Slots.{node-slot}
@@ -36,16 +37,6 @@ sum-next b f = ap (λ (n : ℕ). sumTo n f) (add-one b)
 -- A turn of a walk that adds up.
 pub add-turn : (total more b : ℕ) (f : ℕ → ℕ) → total ≡ sumTo b f → more ≡ f b → total + more ≡ sumTo (b + 1) f
 add-turn total more b f e d = ap₂ _+_ e d ∙ sym (sum-next b f)
-
--- The nodes in use are as many as the count says, where it is within the slots.
-pub nodes-count : (c : Cluster) → length (c .nodes) ≡ 32 → c .count ≤ 32 → length (topology c .nodes) ≡ c .count
-nodes-count c l h = omega (arith, length-take (c .count) (c .nodes))
-
--- Equal numbers, written, give equal lists.
-pub put-cong : (b : ℕ) (f g : ℕ → ℕ) (n : ℕ) (l : List ℕ) → ((i : ℕ) → i < n → f i ≡ g i) → put b f n l ≡ put b g n l
-unfolding put
-put-cong b f g zero l h = refl
-put-cong b f g (suc n) l h = ap₂ (λ (r : List ℕ) (v : ℕ). set r (b + n) v) (put-cong b f g n l (λ i k. h i (omega arith))) (h n (omega arith))
 
 -- ---- the copies in a zone
 

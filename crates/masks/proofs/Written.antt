@@ -1,7 +1,7 @@
 -- The cells of a layout, written row by row.
 -- Assumes nothing.
 use Prim.Native.Nat.{ℕ, zero, suc, _+_, _*_, _/_, _%_, _≤_, _<_}
-use mathlib.Core.Path.{_≡_, refl, sym, ap, ap₂, _∙_}
+use mathlib.Core.Path.{_≡_, sym, ap, ap₂, _∙_}
 use mathlib.Core.List.{List, [], _++_}
 use mathlib.Core.Bool.{Bool}
 use mathlib.Core.Logic.{⊎-elim}
@@ -16,7 +16,7 @@ use Rattle.sums.specs.Sum.{pick}
 use Rattle.sums.proofs.Sum.{lt-or-ge}
 use Rattle.sets.specs.Bits.{bit}
 use Rattle.cells.specs.Cells.{tab, put}
-use Rattle.cells.proofs.Cells.{length-tab, getD-tab, tab-more}
+use Rattle.cells.proofs.Cells.{length-tab, getD-tab, tab-more, put-cong}
 use Rattle.cluster.specs.Limits.{rowCells}
 use Rattle.cluster.specs.Terms.{row}
 use Rattle.cluster.specs.Tie.{idsWhere}
@@ -25,13 +25,6 @@ use Rattle.masks.specs.Model.{rowsWhere}
 use Rattle.masks.proofs.Where.{where-empty}
 
 -- ---- lists
-
--- Equal numbers, written over equal cells.
-put-cong : (b : ℕ) (f g : ℕ → ℕ) (n : ℕ) (l : List ℕ) → ((j : ℕ) → j < n → f j ≡ g j) → put b f n l ≡ put b g n l
-unfolding put
-put-cong b f g zero l h = refl
-put-cong b f g (suc n) l h =
-    ap₂ (λ (r : List ℕ) (v : ℕ). set r (b + n) v) (put-cong b f g n l (λ j k. h j (omega arith))) (h n (omega arith))
 
 -- Writing the next m cells.
 tab-put : (f : ℕ → ℕ) (n m : ℕ) (l : List ℕ) → n + m ≤ length l → put n (λ j. f (n + j)) m (tab f n ++ drop n l) ≡ tab f (n + m) ++ drop (n + m) l

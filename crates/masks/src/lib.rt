@@ -13,24 +13,14 @@ ghost use Rattle.cluster.specs.Tie.{idsWhere};
 ghost use Rattle.masks.specs.Model.{named, rowMask, masksRead, cellsWritten, idsTotal, rowsFormed};
 use cluster::Cluster;
 use cluster::rows;
-
-// How many nodes are in use, of a cluster of any count.
-fn used(c: Cluster) -> usize
-    ensures { λ r. ⌜ (r ≡ length (topology c .nodes)) × (r ≤ 32) × (r ≤ c .count) ⌝ }
-{
-    if c.count < Cluster::NODES {
-        c.count
-    } else {
-        Cluster::NODES
-    }
-}
+use cluster::zones;
 
 // The nodes that the ids of the row that starts at cell `from` name: one walk over the nodes and the ids.
 fn walk_row(c: Cluster, cells: &[u32], from: usize) -> u32
     requires { ⌜ from + rowCells ≤ length (now cells) ⌝ }
     ensures { λ r. ⌜ r ≡ named (topology c .nodes) (idsIn (take rowCells (drop from (now (cells .entry))))) ⌝ }
 {
-    let n = used(c);
+    let n = zones::used(c);
     let to = from + Cluster::ROW;
     let mut mask = 0;
     let mut b = 0;
@@ -135,7 +125,7 @@ fn write_row(c: Cluster, mask: u32, cells: &mut [u32], from: usize)
     requires { ⌜ from + rowCells ≤ length (now cells) ⌝ }
     ensures { λ _. ⌜ now (cells .exit) ≡ put from (λ j. getD (idsWhere (topology c .nodes) (bit mask)) j 0) rowCells (now (cells .entry)) ⌝ }
 {
-    let n = used(c);
+    let n = zones::used(c);
     let mut rest = mask;
     let mut j = 0;
     while j < Cluster::ROW {

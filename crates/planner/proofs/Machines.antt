@@ -31,12 +31,12 @@ use Rattle.cluster.specs.Limits.{bufferRows}
 use Rattle.cluster.specs.Terms.{Topology, partitions, nodeAt, mem, Layout, row, ValidAt, IsFormer, distance}
 use Rattle.cluster.specs.Faults.{Accepted}
 use Rattle.cluster.specs.Tie.{zoneIndex, capAt, incidence, layoutOf, formerPairs}
+use Rattle.cluster.specs.Columns.{cell, zoneCells}
 use Rattle.cluster.proofs.TieZones.{zone-below}
 use Rattle.cluster.proofs.TieDistance.{distance-law, incidence-le}
 use Rattle.cluster.proofs.TieLayouts.{within-of-valid, valid-of-within, distance-bits}
-use Rattle.sizing.specs.Columns.{cell}
-use Rattle.sizing.specs.Model.{nodesOf, zoneCells, mateCells, capCells, Fits32, sizeOf, beginning, dealtRows}
-use Rattle.sizing.proofs.Columns.{cell-column, length-column}
+use Rattle.cluster.proofs.Columns.{cell-column, length-column}
+use Rattle.sizing.specs.Model.{nodesOf, mateCells, capCells, Fits32, sizeOf, beginning, dealtRows}
 use Rattle.sizing.proofs.Sizes.{beginning-within, size-is}
 use Rattle.sizing.proofs.Reading.{mates-hold, deal-length, deal-cell, deal-bit}
 use Rattle.swaps.specs.Mates.{Mates}

@@ -1,31 +1,29 @@
 -- What settling a plan rests on, over plain lists and numbers: the run is the one of the definition, what is subtracted is there, and the
 -- answer and the cells are those of the definition.
 -- Assumes nothing.
-use Prim.Native.Nat.{ℕ, _+_, _-_, _*_, _^_, _≤_, _<_}
-use mathlib.Core.Path.{_≡_, refl, sym, ap, _∙_, subst}
-use mathlib.Core.Bool.{Bool, true, false}
+use Prim.Native.Nat.{ℕ, _+_, _-_, _*_, _≤_, _<_}
+use mathlib.Core.Path.{_≡_, sym, ap, _∙_, subst}
+use mathlib.Core.Bool.{Bool, true}
 use mathlib.Core.List.{List, _++_}
 use native.Mathlib.Omega.{arith}
-use native.Mathlib.Nat.{mul-le-mul, mul-comm}
-use lib.Dec.{ltb}
-use lib.ListN.{length, getD, drop, replicate, length-replicate, length-take}
-use borrow.Author.Tests.{ltb-false, le-ltb, le-leb}
-use Rattle.sums.specs.Sum.{sumTo, pick}
-use Rattle.sets.specs.Bits.{maskOf, bit}
+use native.Mathlib.Nat.{mul-le-mul}
+use lib.ListN.{length, drop, replicate, length-replicate}
+use borrow.Author.Tests.{le-ltb, le-leb}
+use Rattle.sets.specs.Bits.{maskOf}
 use Rattle.sets.proofs.Laws.{mask-cong}
-use Rattle.cells.specs.Cells.{tab}
 use Rattle.cells.proofs.Cells.{tab-cong}
-use Rattle.cluster.specs.Terms.{Topology, topology, partitions, Layout, row, idsOf, rising, IsFormer}
+use Rattle.cluster.specs.Terms.{Topology, topology, partitions, Layout, IsFormer}
 use Rattle.cluster.specs.TermsCells.{rowsIn, cellsOf, rowAt, idsIn}
-use Rattle.cluster.specs.Faults.{faultOf, outOfRange, Accepted}
+use Rattle.cluster.specs.Faults.{faultOf, Accepted}
 use Rattle.cluster.specs.Tie.{bitsOf, incidence, formerPairs}
 use Rattle.cluster.specs.declared.Cluster.{Cluster}
+use Rattle.cluster.specs.Columns.{zoneCells}
 use Rattle.cluster.proofs.Accepting.{accepted}
 use Rattle.cluster.proofs.CellLayouts.{row-rowsIn}
 use Rattle.cluster.proofs.TieDistance.{former-few}
 use Rattle.masks.specs.Model.{masksRead, rowMask, cellsWritten, idsTotal, rowsFormed}
 use Rattle.masks.proofs.Laws.{mask-bits, formed-each, formed-former, ids-pairs, written-layout}
-use Rattle.sizing.specs.Model.{nodesOf, zoneCells, mateCells, capCells, Fits32, sizeOf, dealtRows, dealtIn}
+use Rattle.sizing.specs.Model.{nodesOf, mateCells, capCells, Fits32, sizeOf, dealtRows, dealtIn}
 use Rattle.sizing.proofs.Reading.{deal-in}
 use Rattle.improve.specs.Run.{Ran}
 use Rattle.improve.specs.ModelImprove.{ranIn, agreementIn, sharedIn}
@@ -36,15 +34,6 @@ use Rattle.planner.proofs.Machines.{Good, few-partitions, fm-long, far-
 use Rattle.planner.proofs.Demands.{good-state}
 
 -- ---- the numbers of a cluster without fault
-
--- It has no more nodes than there are slots.
-pub few-nodes : (c : Cluster) → faultOf c ≡ 0 → c .count ≤ 32
-unfolding faultOf
-few-nodes c e = go (ltb 32 (c .count)) refl e
-  where
-    go : (b : Bool) → ltb 32 (c .count) ≡ b → _≡_ {A = ℕ} (pick b 6 (pick (outOfRange (topology c)) 4 (pick (rising (idsOf (topology c .nodes))) 0 5))) 0 → c .count ≤ 32
-    go true q h = absurd (omega arith)
-    go false q h = ltb-false 32 (c .count) q
 
 -- Copies of all partitions.
 pub copies-few : (r p : ℕ) → r ≤ 8 → p ≤ 256 → r * p ≤ 2048

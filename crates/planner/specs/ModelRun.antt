@@ -10,7 +10,8 @@ use Rattle.cells.specs.Cells.{tab}
 use Rattle.cluster.specs.Limits.{bufferRows}
 use Rattle.cluster.specs.Terms.{Topology, partitions, Layout}
 use Rattle.cluster.specs.Tie.{incidence, layoutOf, formerPairs}
-use Rattle.sizing.specs.Model.{nodesOf, zoneCells, mateCells, capCells, sizeOf, dealtRows}
+use Rattle.cluster.specs.Columns.{zoneCells}
+use Rattle.sizing.specs.Model.{nodesOf, mateCells, capCells, sizeOf, dealtRows}
 use Rattle.improve.specs.Run.{Ran}
 use Rattle.improve.specs.ModelImprove.{improvesIn, nextIn, ranIn, agreementIn}
 use Rattle.planner.specs.Demand.{Answer}

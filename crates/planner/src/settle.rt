@@ -2,7 +2,7 @@
 ghost use mathlib.Core.Path.{_≡_};
 ghost use mathlib.Core.Bool.{true};
 ghost use mathlib.Core.List.{_++_};
-ghost use Prim.Native.Nat.{_+_, _-_, _*_, _≤_, _^_};
+ghost use Prim.Native.Nat.{_+_, _-_, _*_, _≤_};
 ghost use lib.ListN.{length, drop, replicate};
 ghost use Rattle.cluster.specs.Terms.{topology, partitions};
 ghost use Rattle.cluster.specs.TermsCells.{cellsOf};
@@ -15,6 +15,7 @@ ghost use Rattle.planner.specs.TermsPlan.{answerOf, answered};
 use super::Planned;
 use super::refuse;
 use cluster::Cluster;
+use cluster::zones;
 use improve::Ended;
 
 // The run from the beginning dealt at the size. `before` holds the former rows as masks.
@@ -34,7 +35,7 @@ pub(crate) fn improved(
     let partitions = refuse::partitions(c.bits);
     let count = c.count;
     sizing::deal(c, size, rows);
-    let zones = sizing::zones(c);
+    let zones = zones::zones(c);
     let mates = sizing::mates(zones, count);
     let caps = sizing::caps(c, size);
     improve::run(

@@ -12,7 +12,7 @@ use lib.Seq.{getD-set-same, getD-set-other}
 use Rattle.sums.specs.Sum.{sumTo, is}
 use Rattle.sums.proofs.Sum.{eq-or-ne, is-eq, is-ne, sum-le, sum-const}
 use Rattle.dealing.specs.Deal.{inZone}
-use Rattle.sizing.specs.Columns.{cell}
+use Rattle.cluster.specs.Columns.{cell}
 
 -- One term more.
 pub sum-next : (f : ℕ → ℕ) (n s v : ℕ) → s ≡ sumTo n f → v ≡ f n → s + v ≡ sumTo (n + 1) f

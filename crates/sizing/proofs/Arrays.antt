@@ -13,9 +13,9 @@ use Rattle.cluster.specs.Faults.{Accepted}
 use Rattle.cluster.specs.Tie.{zoneIndex, capAt}
 use Rattle.cluster.proofs.TieZones.{zone-below}
 use Rattle.dealing.specs.Deal.{fits}
-use Rattle.sizing.specs.Columns.{cell, column, AtMost}
-use Rattle.sizing.specs.Model.{nodesOf, zoneCells, capCells}
-use Rattle.sizing.proofs.Columns.{cell-column, length-column}
+use Rattle.cluster.specs.Columns.{cell, column, zoneCells}
+use Rattle.sizing.specs.Model.{AtMost, nodesOf, capCells}
+use Rattle.cluster.proofs.Columns.{cell-column, length-column}
 use Rattle.sizing.proofs.Agree.{SameBelow, fits-agree}
 
 -- The cells of an array that is a column.

@@ -12,10 +12,10 @@ use Rattle.cluster.specs.Terms.{Topology, partitions}
 use Rattle.cluster.specs.Tie.{zoneIndex, capAt}
 use Rattle.dealing.specs.Deal.{given, start, among, dealt}
 use Rattle.dealing.proofs.Given.{given-le}
-use Rattle.sizing.specs.Columns.{cell, column, AtMost}
+use Rattle.cluster.specs.Columns.{cell, column, zoneCells}
 use Rattle.sizing.specs.Line.{reaches}
-use Rattle.sizing.specs.Model.{nodesOf, zoneCells, capCells, beginning, dealtRows}
-use Rattle.sizing.proofs.Columns.{put-cong}
+use Rattle.sizing.specs.Model.{AtMost, nodesOf, capCells, beginning, dealtRows}
+use Rattle.cells.proofs.Cells.{put-cong}
 use Rattle.sizing.proofs.Agree.{SameBelow, start-agree, dealt-agree}
 use Rattle.sizing.proofs.Arrays.{cells-agree, zones-hold, caps-hold}
 
@@ -46,11 +46,11 @@ pub arrays-deal : (t : Topology) (s n P : ℕ) (zones caps copies starts l r : L
     → r ≡ put 0 (λ p. maskOf (λ b. reaches P (cell starts b) (cell copies b) p) n) P l → r ≡ dealtRows t s l
 unfolding dealtRows beginning
 arrays-deal t s n P zones caps copies starts l r few e q z k c w d =
-    d ∙ (put-cong (λ p. maskOf (λ b. reaches P (cell starts b) (cell copies b) p) n) (λ p. maskOf (dealt P n R (cell zones) (cell caps) p) n) P l
+    d ∙ (put-cong 0 (λ p. maskOf (λ b. reaches P (cell starts b) (cell copies b) p) n) (λ p. maskOf (dealt P n R (cell zones) (cell caps) p) n) P l
     (λ p m. mask-cong (λ b. reaches P (cell starts b) (cell copies b) p) (dealt P n R (cell zones) (cell caps) p) n
     (cells-deal P n R (cell zones) (cell caps) (omega arith) copies starts c w p))
     ∙ (ap₂ (λ (x y : ℕ). put 0 (λ p. maskOf (dealt x y R (cell zones) (cell caps) p) y) x l) q e
-    ∙ put-cong (λ p. maskOf (dealt (partitions t) (nodesOf t) R (cell zones) (cell caps) p) (nodesOf t)) (λ p. maskOf (beginning t s p) (nodesOf t))
+    ∙ put-cong 0 (λ p. maskOf (dealt (partitions t) (nodesOf t) R (cell zones) (cell caps) p) (nodesOf t)) (λ p. maskOf (beginning t s p) (nodesOf t))
     (partitions t) l
     (λ p m. mask-cong (dealt (partitions t) (nodesOf t) R (cell zones) (cell caps) p) (beginning t s p) (nodesOf t)
     (dealt-agree (nodesOf t) (cell zones) (zoneIndex t) (zones-hold t few zones z) (partitions t) R (cell caps) (capAt t s) (caps-hold t few s caps k) p))))

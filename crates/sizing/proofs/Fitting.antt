@@ -10,8 +10,8 @@ use borrow.Author.Tests.{le-leb, lt-leb}
 use Rattle.sums.specs.Sum.{sumTo}
 use Rattle.sums.proofs.Sum.{sum-cong}
 use Rattle.dealing.specs.Deal.{inZone, fits}
-use Rattle.sizing.specs.Columns.{cell, column}
-use Rattle.sizing.proofs.Columns.{cell-column}
+use Rattle.cluster.specs.Columns.{cell, column}
+use Rattle.cluster.proofs.Columns.{cell-column}
 
 module _ (P n R Z : ℕ) (zone cap : ℕ → ℕ) (few : n ≤ 32) (caps : (b : ℕ) → b < n → cap b ≤ P) where
   total-caps : (s : ℕ) → s ≡ sumTo n (λ b. min P (cap b)) → s ≡ sumTo n cap

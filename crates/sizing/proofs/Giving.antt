@@ -8,8 +8,9 @@ use Rattle.sums.specs.Sum.{sumTo}
 use Rattle.sums.proofs.Sum.{sum-cong}
 use Rattle.dealing.specs.Deal.{pour, zoned, first, more, given}
 use Rattle.dealing.proofs.Given.{first-le}
-use Rattle.sizing.specs.Columns.{cell, column, AtMost}
-use Rattle.sizing.proofs.Columns.{column-cong}
+use Rattle.cluster.specs.Columns.{cell, column}
+use Rattle.sizing.specs.Model.{AtMost}
+use Rattle.cluster.proofs.Columns.{column-cong}
 use Rattle.sizing.proofs.Agree.{SameBelow, pour-agree}
 use Rattle.sizing.proofs.Arrays.{cells-agree}
 

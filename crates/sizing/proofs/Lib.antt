@@ -1,5 +1,3 @@
-pub mod Columns
-pub mod Slots
 pub mod Adding
 pub mod Fitting
 pub mod Agree

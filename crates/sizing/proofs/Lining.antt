@@ -12,7 +12,8 @@ use borrow.Author.Tests.{lt-ltb, le-ltb}
 use Rattle.sums.specs.Sum.{sumTo, one-if}
 use Rattle.sums.proofs.Sum.{sum-cong, lt-or-ge}
 use Rattle.dealing.specs.Deal.{inZone, light, heavy, zoneStart, start}
-use Rattle.sizing.specs.Columns.{cell, column, AtMost}
+use Rattle.cluster.specs.Columns.{cell, column}
+use Rattle.sizing.specs.Model.{AtMost}
 use Rattle.sizing.specs.Line.{lightOf, heavyOf, zoneBegins, reaches}
 use Rattle.sizing.proofs.Adding.{sum-bound, zone-bound}
 use Rattle.sizing.proofs.Agree.{SameBelow}

@@ -17,8 +17,8 @@ use Rattle.cluster.specs.Terms.{Topology, topology, partitions}
 use Rattle.cluster.specs.Faults.{faultOf}
 use Rattle.cluster.specs.Tie.{zoneIndex}
 use Rattle.cluster.specs.declared.Cluster.{Cluster}
-use Rattle.sizing.specs.Columns.{cell, column}
-use Rattle.sizing.specs.Model.{nodesOf, zoneCells, mateCells, sizeOf, sizeIn, beginning, dealtRows, dealtIn}
+use Rattle.cluster.specs.Columns.{cell, column, zoneCells}
+use Rattle.sizing.specs.Model.{nodesOf, mateCells, sizeOf, sizeIn, beginning, dealtRows, dealtIn}
 use Rattle.sizing.proofs.Agree.{SameBelow}
 use Rattle.sizing.proofs.Arrays.{cells-agree, zones-hold}
 use Rattle.sizing.proofs.Sizes.{beginning-le}

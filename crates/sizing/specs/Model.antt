@@ -1,6 +1,6 @@
 -- What the functions of this crate answer, in the terms of a cluster's topology.
 -- Assumes nothing.
-use Prim.Native.Nat.{ℕ, _^_, _<_, min}
+use Prim.Native.Nat.{ℕ, _^_, _≤_, _<_, min}
 use mathlib.Core.List.{List}
 use mathlib.Core.Bool.{_&&_}
 use lib.Dec.{eqb, leb}
@@ -12,18 +12,18 @@ use Rattle.cluster.specs.Limits.{mostNodes}
 use Rattle.cluster.specs.Terms.{Topology, topology, partitions, nodeAt}
 use Rattle.cluster.specs.Faults.{faultOf}
 use Rattle.cluster.specs.Tie.{zoneIndex, capAt}
+use Rattle.cluster.specs.Columns.{cell, column}
 use Rattle.cluster.specs.declared.Cluster.{Cluster}
 use Rattle.dealing.specs.Deal.{dealt}
 use Rattle.dealing.specs.Size.{bestSize}
-use Rattle.sizing.specs.Columns.{cell, column}
+
+-- The first n cells are at most m.
+abbrev pub AtMost : ℕ → ℕ → List ℕ → Type 0
+AtMost m n l = (b : ℕ) → b < n → cell l b ≤ m
 
 -- How many nodes a topology has.
 abbrev pub nodesOf : Topology → ℕ
 nodesOf t = length (t .nodes)
-
--- The zone of each node in use, as the index of the first node of the same zone.
-unfoldable pub zoneCells : Topology → List ℕ
-zoneCells t = column (zoneIndex t) (nodesOf t)
 
 -- For each of the first n nodes, at most 32, the set of the nodes of its zone.
 unfoldable pub mateCells : List ℕ → ℕ → List ℕ

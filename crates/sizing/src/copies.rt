@@ -3,7 +3,8 @@ ghost use mathlib.Core.Path.{_≡_};
 ghost use Prim.Native.Nat.{_≤_, _<_, _-_, _+_};
 ghost use lib.ListN.{length};
 ghost use Rattle.dealing.specs.Deal.{pour, zoned, given};
-ghost use Rattle.sizing.specs.Columns.{cell, AtMost, column};
+ghost use Rattle.cluster.specs.Columns.{cell, column};
+ghost use Rattle.sizing.specs.Model.{AtMost};
 use super::totals;
 use super::totals::least;
 

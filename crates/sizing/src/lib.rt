@@ -7,27 +7,15 @@ ghost use Rattle.cluster.specs.Terms.{topology, partitions};
 ghost use Rattle.cluster.specs.Faults.{faultOf};
 ghost use Rattle.cluster.specs.Tie.{zoneIndex, capAt};
 ghost use Rattle.dealing.specs.Deal.{fits};
-ghost use Rattle.sizing.specs.Model.{zoneCells, mateCells, capCells, Fits32, sizeOf, sizeIn, dealtRows, dealtIn};
+ghost use Rattle.cluster.specs.Columns.{zoneCells};
+ghost use Rattle.sizing.specs.Model.{mateCells, capCells, Fits32, sizeOf, sizeIn, dealtRows, dealtIn};
 use cluster::Cluster;
+use cluster::zones;
 
 mod copies;
 mod line;
 mod nodes;
 mod totals;
-
-// The zone of each node in use, as the index of the first node of the same zone, then zeros.
-pub fn zones(c: Cluster) -> [u32; 32]
-    ensures { λ r. ⌜ r ≡ zoneCells (topology c) ⌝ }
-{
-    let n = nodes::used(c);
-    let mut zones = [0u32; 32];
-    let mut b = 0;
-    while b < n {
-        zones[b] = nodes::zone_index(c, b);
-        b += 1;
-    }
-    zones
-}
 
 // For each of the first n nodes, at most 32, the set of the nodes of its zone, then zeros.
 pub fn mates(zones: [u32; 32], n: usize) -> [u32; 32]
@@ -49,7 +37,7 @@ pub fn mates(zones: [u32; 32], n: usize) -> [u32; 32]
 pub fn caps(c: Cluster, size: u32) -> [u32; 32]
     ensures { λ r. ⌜ (r ≡ capCells (topology c) size) × Fits32 (topology c) ⌝ }
 {
-    let n = nodes::used(c);
+    let n = zones::used(c);
     let capacities = nodes::capacities(c);
     nodes::caps_at(&capacities, n, c.bits, size)
 }
@@ -60,7 +48,7 @@ fn passes(c: Cluster, zones: &[u32], size: u32) -> bool
     ensures { λ r. ⌜ r ≡ fits (partitions (topology c)) (length (topology c .nodes)) (c .replication) (c .redundancy) (zoneIndex (topology c))
         (capAt (topology c) size) ⌝ }
 {
-    let n = nodes::used(c);
+    let n = zones::used(c);
     let caps = caps(c, size);
     totals::fit(
         zones,
@@ -77,7 +65,7 @@ fn bisected(c: Cluster) -> u32
     requires { ⌜ faultOf c ≡ 0 ⌝ }
     ensures { λ r. ⌜ r ≡ sizeOf (topology c) ⌝ }
 {
-    let zones = zones(c);
+    let zones = zones::zones(c);
     let mut size = 0;
     let mut i: u32 = 32;
     while 0 < i {
@@ -102,9 +90,9 @@ fn begin(c: Cluster, size: u32, rows: &mut [u32])
     requires { ⌜ (faultOf c ≡ 0) × (partitions (topology c) ≤ length (now rows)) ⌝ }
     ensures { λ _. ⌜ now (rows .exit) ≡ dealtRows (topology c) size (now (rows .entry)) ⌝ }
 {
-    let n = nodes::used(c);
+    let n = zones::used(c);
     let most = nodes::partitions(c.bits);
-    let zones = zones(c);
+    let zones = zones::zones(c);
     let caps = caps(c, size);
     let copies = copies::given(&zones, &caps, n, most, c.replication);
     let starts = line::starts(&zones, &copies, n, most);

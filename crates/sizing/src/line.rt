@@ -6,7 +6,8 @@ ghost use Rattle.sums.specs.Sum.{sumTo};
 ghost use Rattle.sets.specs.Bits.{maskOf};
 ghost use Rattle.cells.specs.Cells.{put};
 ghost use Rattle.dealing.specs.Deal.{start};
-ghost use Rattle.sizing.specs.Columns.{cell, AtMost, column};
+ghost use Rattle.cluster.specs.Columns.{cell, column};
+ghost use Rattle.sizing.specs.Model.{AtMost};
 ghost use Rattle.sizing.specs.Line.{lightOf, heavyOf, zoneBegins, reaches};
 use super::totals;
 

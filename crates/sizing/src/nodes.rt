@@ -1,14 +1,14 @@
-// The nodes in use: how many there are, and what is read of each.
+// What is read of the nodes in use.
 ghost use mathlib.Core.Path.{_≡_};
-ghost use Prim.Native.Nat.{_<_, _≤_, _/_, _^_, min};
+ghost use Prim.Native.Nat.{_≤_, _/_, _^_, min};
 ghost use lib.ListN.{length};
 ghost use Rattle.sums.specs.Sum.{is};
 ghost use Rattle.sets.specs.Bits.{maskOf};
 ghost use Rattle.cluster.specs.Terms.{topology, nodeAt};
-ghost use Rattle.cluster.specs.Tie.{zoneIndex};
-ghost use Rattle.sizing.specs.Columns.{cell, column};
+ghost use Rattle.cluster.specs.Columns.{cell, column};
 use super::totals::least;
 use cluster::Cluster;
+use cluster::zones;
 
 // A number of nodes, cut to what a cluster has at most.
 pub fn cut(n: usize) -> usize
@@ -17,34 +17,11 @@ pub fn cut(n: usize) -> usize
     if n < 32 { n } else { 32 }
 }
 
-// How many nodes are in use, of a cluster of any count.
-pub fn used(c: Cluster) -> usize
-    ensures { λ r. ⌜ (r ≡ length (topology c .nodes)) × (r ≤ 32) × (r ≤ c .count) ⌝ }
-{
-    cut(c.count)
-}
-
-// The first node of the zone of node b.
-pub(crate) fn zone_index(c: Cluster, b: usize) -> u32
-    requires { ⌜ (b < c .count) × (b < 32) ⌝ }
-    ensures { λ r. ⌜ r ≡ zoneIndex (topology c) b ⌝ }
-{
-    let zone = c.nodes[b].zone;
-    let mut i = 0;
-    while i < b {
-        if c.nodes[i].zone == zone {
-            return i as u32;
-        }
-        i += 1;
-    }
-    b as u32
-}
-
 // The capacities of the nodes in use, then zeros.
 pub fn capacities(c: Cluster) -> [u32; 32]
     ensures { λ r. ⌜ r ≡ column (λ b. nodeAt (topology c) b .capacity) (length (topology c .nodes)) ⌝ }
 {
-    let n = used(c);
+    let n = zones::used(c);
     let mut capacities = [0u32; 32];
     let mut b = 0;
     while b < n {

@@ -6,7 +6,8 @@ ghost use lib.Dec.{leb};
 ghost use lib.ListN.{length};
 ghost use Rattle.sums.specs.Sum.{sumTo};
 ghost use Rattle.dealing.specs.Deal.{inZone, fits};
-ghost use Rattle.sizing.specs.Columns.{cell, AtMost, column};
+ghost use Rattle.cluster.specs.Columns.{cell, column};
+ghost use Rattle.sizing.specs.Model.{AtMost};
 
 // The lesser of two numbers.
 pub fn least(x: u32, y: u32) -> u32

@@ -1,4 +1,4 @@
--- The steps of the loops, over plain lists and numbers: scans for a first index, tests as the code runs them, and what the arcs of a part cost.
+-- The steps of the loops, over plain lists and numbers: tests as the code runs them, and what the arcs of a part cost.
 -- Assumes nothing.
 use Prim.Native.Nat.{ℕ, suc, _+_, _-_, _≤_, _<_}
 use mathlib.Core.Path.{_≡_, sym, ap, ap₂, _∙_}
@@ -13,29 +13,10 @@ use Rattle.sums.specs.Sum.{sumTo}
 use Rattle.sums.proofs.Sum.{sum-cong}
 use Rattle.sets.specs.Bits.{memberOf}
 use Rattle.swaps.specs.ModelSwaps.{targetsOf}
-use Rattle.exchange.specs.Levels.{firstFrom}
 use Rattle.exchange.specs.Circuit.{cost}
 use Rattle.exchange.specs.Uncross.{Walk, crosses, wrap, inner, walk-costs}
 use Rattle.exchange.proofs.Uncross.{wrap-low, wrap-end}
 use Rattle.walks.specs.ModelWalks.{okOf, suitsOf, suitsAt, walkIn, innerGains}
-
--- ---- a scan for the first index that passes a test
-
-module _ (t : ℕ → Bool) (n i : ℕ) where
-  -- It is here.
-  pub first-here : i < n → t i ≡ true → firstFrom t (n - i) i ≡ i
-  unfolding firstFrom
-  first-here l e = let d : n - i ≡ suc (n - (i + 1)) = omega arith in rw (d, e)
-
-  -- It is not here.
-  pub first-next : i < n → t i ≡ false → firstFrom t (n - i) i ≡ firstFrom t (n - (i + 1)) (i + 1)
-  unfolding firstFrom
-  first-next l e = let d : n - i ≡ suc (n - (i + 1)) = omega arith in rw (d, e, add-one i)
-
-  -- The scan is at its end.
-  pub first-end : n ≤ i → firstFrom t (n - i) i ≡ i
-  unfolding firstFrom
-  first-end l = let d : n - i ≡ 0 = omega arith in rw d
 
 -- ---- tests, as the code runs them on cells that it read
 

@@ -1,13 +1,11 @@
 -- `circuits::load` meets its contract. The loop has written the nodes and the witnesses of the arcs that it passed. Assumes nothing.
 use borrow.Author.Needs.{needs}
 use native.Mathlib.Omega.{arith}
-use Rattle.circuits.proofs.Steps.{put-first}
 use Rattle.circuits.specs.ModelCircuits.{witnessIn}
-use Rattle.cells.proofs.Cells.{put-none}
+use Rattle.cells.proofs.Cells.{put-none, put-next}
 use Rattle.cells.specs.Cells.{put}
-use lib.ListN.{length, getD, set}
-use mathlib.Core.List.{List}
-use mathlib.Core.Path.{_≡_, ap, ap₂, _∙_}
+use lib.ListN.{length, getD}
+use mathlib.Core.Path.{_≡_, refl, ap, _∙_}
 use Prim.Native.Nat.{ℕ, _≤_, _-_}
 use Rattle.circuits.proofs.load.Statement.{statement}
 use Rattle.circuits.proofs.load.Tie as tie
@@ -80,8 +78,8 @@ loop-again c = let k = c .before .before .before .before .before in
       omega arith,
       search needs,
       search needs,
-      ap (λ (l : List ℕ). set l (k .loop .t) (n (k .loop .t))) (k .loop .inv .3) ∙ put-first n (k .loop .t) (a .y .now),
-      ap₂ (λ (l : List ℕ) (v : ℕ). set l (k .loop .t) v) (k .loop .inv .4) (c .witness .ensures .0) ∙ put-first w (k .loop .t) (a .q .now),
+      put-next n (k .loop .t) (n (k .loop .t)) (a .y .now) (k .loop .y) (k .loop .inv .3) refl,
+      put-next w (k .loop .t) (c .witness .result) (a .q .now) (k .loop .q) (k .loop .inv .4) (c .witness .ensures .0),
     )
 
 mul-y-3 : tie.Need-mul-y-3 Inv-loop μ-loop
@@ -109,7 +107,7 @@ returns c = let k = c .before .before in
     let w : ℕ → ℕ =
     witnessIn (a .walk .now) (a .rows .now) (a .former .now) (a .partitions) (a .mates .now) (a .arcs .now) (a .all) (a .z) in
     let e : k .loop .t ≡ a .m = omega arith in (
-      ap (λ (l : List ℕ). set l (a .m) (n (a .m))) (k .loop .inv .3 ∙ ap (λ (t : ℕ). put 0 n t (a .y .now)) e) ∙ put-first n (a .m) (a .y .now),
+      put-next n (a .m) (n (a .m)) (a .y .now) (k .loop .y) (k .loop .inv .3 ∙ ap (λ (t : ℕ). put 0 n t (a .y .now)) e) refl,
       k .loop .inv .4 ∙ ap (λ (t : ℕ). put 0 w t (a .q .now)) e,
     )
 

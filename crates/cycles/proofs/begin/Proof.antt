@@ -1,13 +1,12 @@
 -- `cycles::begin` meets its contract. Assumes nothing.
-use Prim.Native.Nat.{ℕ, _≤_, _<_, _-_, _+_}
-use mathlib.Core.Path.{_≡_, refl, sym, ap, _∙_, subst}
+use Prim.Native.Nat.{ℕ, _≤_, _-_}
+use mathlib.Core.Path.{_≡_, ap, _∙_}
 use native.Mathlib.Omega.{arith}
 use borrow.Author.Needs.{needs}
-use lib.ListN.{length, getD, set, length-set}
+use lib.ListN.{length, length-set}
 use Rattle.cells.specs.Cells.{put}
-use Rattle.cells.proofs.Cells.{put-none}
-use Rattle.sets.specs.Bits.{withOf, memberOf}
-use Rattle.cycles.proofs.Firsts.{put-next}
+use Rattle.cells.proofs.Cells.{put-none, put-next}
+use Rattle.sets.specs.Bits.{withOf}
 use Rattle.cycles.proofs.begin.Statement.{statement}
 use Rattle.cycles.proofs.begin.Tie as tie
 

@@ -8,9 +8,9 @@ use mir.Val.{Fits}
 use mir.Syntax.{w32}
 use Rattle.cluster.specs.Terms.{topology, nodeAt}
 use Rattle.cluster.specs.Tie.{capAt}
-use Rattle.sizing.specs.Columns.{cell, column}
+use Rattle.cluster.specs.Columns.{cell, column}
 use Rattle.sizing.specs.Model.{nodesOf, capCells}
-use Rattle.sizing.proofs.Columns.{column-cong}
+use Rattle.cluster.proofs.Columns.{column-cong}
 use Rattle.sizing.proofs.Arrays.{cells-agree}
 use Rattle.sizing.proofs.caps.Statement.{statement}
 use Rattle.sizing.proofs.caps.Tie as tie

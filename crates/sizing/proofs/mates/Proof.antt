@@ -6,9 +6,9 @@ use Prim.Native.Nat.{ℕ, _-_, _≤_}
 use mathlib.Core.Path.{_≡_, ap, _∙_}
 use Rattle.sums.specs.Sum.{is}
 use Rattle.sets.specs.Bits.{maskOf}
-use Rattle.sizing.specs.Columns.{cell, column}
+use Rattle.cluster.specs.Columns.{cell, column}
 use Rattle.sizing.specs.Model.{mateCells}
-use Rattle.sizing.proofs.Columns.{column-none, column-next, column-end}
+use Rattle.cluster.proofs.Columns.{column-none, column-next, column-end}
 use Rattle.sizing.proofs.mates.Statement.{statement}
 use Rattle.sizing.proofs.mates.Tie as tie
 

@@ -1,7 +1,7 @@
 -- `walks::earlier` meets its contract. No arc that the loop passed can be crossed with a later one. Assumes nothing.
 use borrow.Author.Needs.{needs}
 use native.Mathlib.Omega.{arith}
-use Rattle.walks.proofs.Steps.{first-here, first-next, first-end}
+use Rattle.cycles.proofs.Firsts.{first-hit, first-miss, first-end}
 use Rattle.walks.specs.ModelWalks.{okOf, walkIn}
 use Rattle.exchange.specs.Uncross.{partner, first}
 use Rattle.exchange.specs.Levels.{firstFrom}
@@ -39,7 +39,7 @@ returns c = let k = c .before .before .before in
     λ n. ltb (partner (a .partitions) (okOf (a .rows .now) (a .mates .now) (a .all) (a .z)) (walkIn (a .m) (a .y .now) (a .q .now)) n) (a .m) in
     sym
     (k .loop .inv .1
-    ∙ first-here test (a .m) (k .loop .i) (omega arith) (ap (λ (n : ℕ). ltb n (a .m)) (sym (c .before .later .ensures)) ∙ lt-ltb _ _ (c .if1 .taken)))
+    ∙ first-hit test (a .m) (k .loop .i) (omega arith) (ap (λ (n : ℕ). ltb n (a .m)) (sym (c .before .later .ensures)) ∙ lt-ltb _ _ (c .if1 .taken)))
 
 add-i : tie.Need-add-i Inv-loop μ-loop
 add-i c = omega arith
@@ -54,7 +54,7 @@ loop-again c = let k = c .before .before .before in
     λ n. ltb (partner (a .partitions) (okOf (a .rows .now) (a .mates .now) (a .all) (a .z)) (walkIn (a .m) (a .y .now) (a .q .now)) n) (a .m) in (
       omega arith,
       k .loop .inv .1
-          ∙ first-next test (a .m) (k .loop .i) (omega arith) (ap (λ (n : ℕ). ltb n (a .m)) (sym (c .before .later .ensures)) ∙ le-ltb _ _ (c .if1 .left)),
+          ∙ first-miss test (a .m) (k .loop .i) (omega arith) (ap (λ (n : ℕ). ltb n (a .m)) (sym (c .before .later .ensures)) ∙ le-ltb _ _ (c .if1 .left)),
     )
 
 returns-2 : tie.Need-returns-2 Inv-loop μ-loop

@@ -1,7 +1,7 @@
 -- `walks::later` meets its contract. No arc that the loop passed can be crossed with i. Assumes nothing.
 use borrow.Author.Needs.{needs}
 use native.Mathlib.Omega.{arith}
-use Rattle.walks.proofs.Steps.{first-here, first-next, first-end}
+use Rattle.cycles.proofs.Firsts.{first-hit, first-miss, first-end}
 use Rattle.walks.specs.ModelWalks.{okOf, walkIn}
 use Rattle.exchange.specs.Uncross.{crosses, partner}
 use Rattle.exchange.specs.Levels.{firstFrom}
@@ -38,7 +38,7 @@ returns c = let k = c .before .before .before in
     let a = c .before .before .before .before .before .before .before .before .args in
     let test : ℕ → Bool =
     crosses (a .partitions) (okOf (a .rows .now) (a .mates .now) (a .all) (a .z)) (λ t. getD (a .y .now) t 0) (λ t. getD (a .q .now) t 0) (a .i) in
-    sym (k .loop .inv ∙ first-here test (a .m) (k .loop .j) (omega arith) (sym (c .before .crossed .ensures) ∙ c .if1 .taken))
+    sym (k .loop .inv ∙ first-hit test (a .m) (k .loop .j) (omega arith) (sym (c .before .crossed .ensures) ∙ c .if1 .taken))
 
 add-j-2 : tie.Need-add-j-2 Inv-loop μ-loop
 add-j-2 c = omega arith
@@ -51,7 +51,7 @@ loop-again c = let k = c .before .before .before in
     let a = c .before .before .before .before .before .before .before .before .args in
     let test : ℕ → Bool =
     crosses (a .partitions) (okOf (a .rows .now) (a .mates .now) (a .all) (a .z)) (λ t. getD (a .y .now) t 0) (λ t. getD (a .q .now) t 0) (a .i) in
-    k .loop .inv ∙ first-next test (a .m) (k .loop .j) (omega arith) (sym (c .before .crossed .ensures) ∙ c .if1 .left)
+    k .loop .inv ∙ first-miss test (a .m) (k .loop .j) (omega arith) (sym (c .before .crossed .ensures) ∙ c .if1 .left)
 
 returns-2 : tie.Need-returns-2 Inv-loop μ-loop
 returns-2 c = let k = c .before in

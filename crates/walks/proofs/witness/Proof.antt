@@ -1,7 +1,8 @@
 -- `walks::witness` meets its contract. No partition that the loop passed suits. Assumes nothing.
 use borrow.Author.Needs.{needs}
 use native.Mathlib.Omega.{arith}
-use Rattle.walks.proofs.Steps.{first-here, first-next, first-end, suits-at}
+use Rattle.cycles.proofs.Firsts.{first-hit, first-miss, first-end}
+use Rattle.walks.proofs.Steps.{suits-at}
 use Rattle.walks.specs.ModelWalks.{suitsAt, witnessOf}
 use Rattle.exchange.specs.Levels.{firstFrom}
 use native.Mathlib.Nat.{sub-zero}
@@ -47,7 +48,7 @@ returns c = let k = c .before .before .before .before .before in
     suits-at (a .rows .now) (a .former .now) (a .mates .now) (a .all) (a .z) (k .before .weight .result) (a .u) (a .v) (k .loop .p)
     (h .before .before .cell .result) (h .before .cell2 .result) (h .suits .result) (h .suits .ensures) (h .before .before .cell .ensures)
     (h .before .cell2 .ensures) in
-    let e = first-here test (a .partitions) (k .loop .p) (omega arith) (sym s ∙ c .if1 .taken) in
+    let e = first-hit test (a .partitions) (k .loop .p) (omega arith) (sym s ∙ c .if1 .taken) in
     (sym (k .loop .inv .1 ∙ e), omega arith)
 
 add-p : tie.Need-add-p Inv-loop μ-loop
@@ -65,7 +66,7 @@ loop-again c = let k = c .before .before .before .before .before in
     suits-at (a .rows .now) (a .former .now) (a .mates .now) (a .all) (a .z) (k .before .weight .result) (a .u) (a .v) (k .loop .p)
     (h .before .before .cell .result) (h .before .cell2 .result) (h .suits .result) (h .suits .ensures) (h .before .before .cell .ensures)
     (h .before .cell2 .ensures) in
-    let e = first-next test (a .partitions) (k .loop .p) (omega arith) (sym s ∙ c .if1 .left) in
+    let e = first-miss test (a .partitions) (k .loop .p) (omega arith) (sym s ∙ c .if1 .left) in
     (omega arith, k .loop .inv .1 ∙ e)
 
 returns-2 : tie.Need-returns-2 Inv-loop μ-loop

@@ -3,20 +3,19 @@
 use borrow.Author.Needs.{needs}
 use native.Mathlib.Omega.{arith}
 use Prim.Native.Nat.{ℕ, _≤_, _<_, _-_, _*_}
-use mathlib.Core.Path.{_≡_, refl, sym, ap, ap₂, _∙_, subst}
+use mathlib.Core.Path.{_≡_, sym, ap, ap₂, _∙_, subst}
 use mathlib.Core.List.{List}
 use native.Mathlib.Nat.{mul-le-mul-right}
-use lib.ListN.{length, getD, length-take}
+use lib.ListN.{length, getD}
 use Rattle.cells.proofs.Cells.{length-of-map}
 use Rattle.cluster.specs.Terms.{Topology, topology, partitions, noNode, nodeAt}
 use Rattle.cluster.specs.TermsCells.{rowsIn}
 use Rattle.cluster.specs.declared.Node.{Node}
 use Rattle.cluster.proofs.Slots.{node-slot}
-use Rattle.cluster.proofs.Accepting.{accepted}
+use Rattle.cluster.proofs.Accepting.{accepted, few-nodes, nodes-count}
 use Rattle.layouts.specs.declared.check.Checked.{Checked}
 use Rattle.layouts.specs.TermsCheck.{fault, firstFrom, nodeFault, nodesFault}
-use Rattle.layouts.specs.Scans.{copiesSoFar}
-use Rattle.layouts.proofs.Sound.{few-nodes, few-rows}
+use Rattle.layouts.proofs.Sound.{few-rows}
 use Rattle.layouts.proofs.CopyWalk.{so-far-few}
 use Rattle.layouts.proofs.FaultScan.{scan-fault, scan-on, scan-end, node-over, node-within}
 use Rattle.layouts.proofs.check.nodes_fault.Statement.{statement}
@@ -54,7 +53,7 @@ loop-holds : tie.Need-loop-holds Inv-loop μ-loop
 unfolding nodesFault
 loop-holds c = let s = c .before .before in
     let a = s .args in
-    let e : length (topology (a .t1) .nodes) ≡ a .t1 .count - 0 = omega (arith, long s, few-nodes (a .t1) (s .pre .0), length-take (a .t1 .count) (a .t1 .nodes)) in
+    let e : length (topology (a .t1) .nodes) ≡ a .t1 .count - 0 = omega (arith, nodes-count (a .t1) (long s) (few-nodes (a .t1) (s .pre .0))) in
     (search needs, few-nodes (a .t1) (s .pre .0), ap (λ (n : ℕ). firstFrom n 0 (at (topology (a .t1)) (a .cells .now) (a .size))) e)
 
 mul-node : tie.Need-mul-node Inv-loop μ-loop

@@ -10,7 +10,7 @@ use Rattle.cluster.specs.Terms.{topology}
 use Rattle.cluster.specs.Faults.{faultOf}
 use Rattle.layouts.specs.declared.check.Checked.{Checked}
 use Rattle.layouts.specs.declared.figures.Figured.{Figured}
-use Rattle.layouts.specs.TermsCheck.{fault, rowsFault, checkOf}
+use Rattle.layouts.specs.TermsCheck.{fault, rowsFault}
 use Rattle.layouts.specs.TermsFigures.{figuresFault}
 use Rattle.layouts.proofs.CheckOrder.{sound, all-pass}
 use Rattle.layouts.proofs.FigureWalk.{short-fault, check-fault, refused-answer, made-answer}

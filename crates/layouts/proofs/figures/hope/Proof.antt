@@ -2,11 +2,11 @@
 -- Assumes nothing.
 use borrow.Author.Needs.{needs}
 use native.Mathlib.Omega.{arith}
-use Prim.Native.Nat.{ℕ, _≤_, _*_, _/_}
-use mathlib.Core.Path.{_≡_, refl, sym, ap, ap₂, _∙_}
+use Prim.Native.Nat.{ℕ, _*_, _/_}
+use mathlib.Core.Path.{ap₂}
 use native.Mathlib.Nat.{mul-le-mul-right}
 use lib.Pow.{pow-pos}
-use Rattle.cluster.specs.Terms.{topology, partitions}
+use Rattle.cluster.specs.Terms.{partitions}
 use Rattle.cluster.proofs.Accepting.{accepted}
 use Rattle.layouts.specs.TermsFigures.{hopeOf}
 use Rattle.layouts.proofs.figures.hope.Statement.{statement}

@@ -2,16 +2,16 @@
 -- Assumes nothing.
 use borrow.Author.Needs.{needs}
 use native.Mathlib.Omega.{arith}
-use Prim.Native.Nat.{ℕ, _≤_}
-use mathlib.Core.Path.{_≡_, sym, ap, _∙_}
+use Prim.Native.Nat.{ℕ}
+use mathlib.Core.Path.{ap, _∙_}
 use mathlib.Core.List.{List}
 use lib.ListN.{length, getD}
 use Rattle.cells.specs.Cells.{put}
 use Rattle.cells.proofs.Cells.{length-put}
 use Rattle.cluster.specs.Terms.{topology, partitions}
-use Rattle.cluster.proofs.Accepting.{accepted}
+use Rattle.cluster.proofs.Accepting.{accepted, few-nodes}
 use Rattle.layouts.specs.Scans.{zoneSum}
-use Rattle.layouts.proofs.Sound.{few-nodes, few-rows}
+use Rattle.layouts.proofs.Sound.{few-rows}
 use Rattle.layouts.proofs.CopyWalk.{so-far-few}
 use Rattle.layouts.proofs.FigureWalk.{all-figures}
 use Rattle.layouts.proofs.figures.put_figures.Statement.{statement}

@@ -2,16 +2,16 @@
 -- Assumes nothing.
 use borrow.Author.Needs.{needs}
 use native.Mathlib.Omega.{arith}
-use Prim.Native.Nat.{ℕ, _≤_, _-_, _*_, _^_}
-use mathlib.Core.Path.{_≡_, refl, sym, ap, ap₂, _∙_}
+use Prim.Native.Nat.{ℕ, _≤_, _-_, _*_}
+use mathlib.Core.Path.{_≡_, refl, sym, ap, _∙_}
 use lib.ListN.{length, getD}
 use Rattle.sums.specs.Sum.{sumTo}
 use Rattle.cells.proofs.Cells.{length-of-map}
 use Rattle.cluster.specs.Terms.{topology, noNode, nodeAt}
 use Rattle.cluster.specs.declared.Node.{Node}
 use Rattle.cluster.proofs.Slots.{node-slot}
-use Rattle.layouts.proofs.Sound.{few-nodes}
-use Rattle.layouts.proofs.FigureWalk.{add-turn, nodes-count}
+use Rattle.cluster.proofs.Accepting.{few-nodes, nodes-count}
+use Rattle.layouts.proofs.FigureWalk.{add-turn}
 use Rattle.layouts.proofs.figures.total_capacity.Statement.{statement}
 use Rattle.layouts.proofs.figures.total_capacity.Tie as tie
 

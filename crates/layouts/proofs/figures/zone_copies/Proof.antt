@@ -3,13 +3,14 @@
 use borrow.Author.Needs.{needs}
 use native.Mathlib.Omega.{arith}
 use Prim.Native.Nat.{ℕ, _≤_, _-_, _*_}
-use mathlib.Core.Path.{_≡_, refl, sym, ap, ap₂, _∙_}
+use mathlib.Core.Path.{_≡_, refl, ap, _∙_}
 use mathlib.Core.Logic.{⊎-elim}
-use lib.ListN.{length, getD}
+use lib.ListN.{length}
 use Rattle.sums.specs.Sum.{sumTo}
 use Rattle.cells.proofs.Cells.{length-of-map}
-use Rattle.cluster.specs.Terms.{topology, noNode, nodeAt}
-use Rattle.layouts.proofs.FigureWalk.{zoneTerm, term-same, term-other, zone-unused, zone-used, add-turn, nodes-count}
+use Rattle.cluster.specs.Terms.{topology}
+use Rattle.cluster.proofs.Accepting.{nodes-count}
+use Rattle.layouts.proofs.FigureWalk.{zoneTerm, term-same, term-other, zone-unused, zone-used, add-turn}
 use Rattle.layouts.proofs.figures.zone_copies.Statement.{statement}
 use Rattle.layouts.proofs.figures.zone_copies.Tie as tie
 

@@ -3,13 +3,13 @@ use native.Mathlib.Omega.{arith}
 use mathlib.Core.Path.{_≡_, sym, ap, _∙_}
 use mathlib.Core.List.{List}
 use Prim.Native.Nat.{ℕ}
-use lib.ListN.{length, length-take}
+use lib.ListN.{length}
 use Rattle.cells.proofs.Cells.{length-of-map}
 use Rattle.cluster.specs.Terms.{topology}
-use Rattle.cluster.proofs.Accepting.{accepted}
+use Rattle.cluster.proofs.Accepting.{accepted, few-nodes, nodes-count}
 use Rattle.sizing.specs.Model.{nodesOf}
 use Rattle.improve.specs.Run.{Ran}
-use Rattle.planner.proofs.Settling.{few-nodes, run-is}
+use Rattle.planner.proofs.Settling.{run-is}
 use Rattle.planner.proofs.settle.improved.Statement.{statement}
 use Rattle.planner.proofs.settle.improved.Tie as tie
 use Rattle.planner.proofs.settle.improved.Reads as reads
@@ -19,14 +19,14 @@ use Rattle.planner.proofs.refuse.partitions.Reads as partitions-reads
 use Rattle.sizing.proofs.caps.Reads as caps-reads
 use Rattle.sizing.proofs.deal.Reads as deal-reads
 use Rattle.sizing.proofs.mates.Reads as mates-reads
-use Rattle.sizing.proofs.zones.Reads as zones-reads
+use Rattle.cluster.proofs.zones.zones.Reads as zones-reads
 
 long : (c : tie.Start) → length (c .args .c .nodes) ≡ 32
 long c = search length-of-map
 
 -- The count is the number of nodes in use.
 used : (c : tie.Start) → c .args .c .count ≡ nodesOf (topology (c .args .c))
-used c = omega (arith, long c, few-nodes (c .args .c) (c .pre .0), length-take (c .args .c .count) (c .args .c .nodes))
+used c = sym (nodes-count (c .args .c) (long c) (few-nodes (c .args .c) (c .pre .0)))
 
 partitions-requires : tie.Need-partitions-requires
 partitions-requires c κs = accepted _ (c .before .before .pre .0) .bits

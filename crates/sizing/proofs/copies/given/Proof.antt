@@ -2,9 +2,8 @@
 -- Assumes nothing.
 use borrow.Author.Needs.{needs}
 use native.Mathlib.Omega.{arith}
-use mathlib.Core.Path.{_∙_}
 use native.Mathlib.Nat.{mul-le-mul}
-use Rattle.sizing.specs.Columns.{cell}
+use Rattle.cluster.specs.Columns.{cell}
 use Rattle.sizing.proofs.Giving.{first-most, second-given}
 use Rattle.sizing.proofs.copies.given.Statement.{statement}
 use Rattle.sizing.proofs.copies.given.Tie as tie

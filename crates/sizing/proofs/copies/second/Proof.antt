@@ -6,8 +6,8 @@ use Prim.Native.Nat.{ℕ, _+_, _-_, _≤_}
 use mathlib.Core.Path.{_≡_, ap}
 use Rattle.sums.specs.Sum.{sumTo}
 use Rattle.dealing.specs.Deal.{pour}
-use Rattle.sizing.specs.Columns.{cell, column}
-use Rattle.sizing.proofs.Columns.{column-none, column-next, column-end}
+use Rattle.cluster.specs.Columns.{cell, column}
+use Rattle.cluster.proofs.Columns.{column-none, column-next, column-end}
 use Rattle.sizing.proofs.Pouring.{pour-here, pour-left}
 use Rattle.sizing.proofs.copies.second.Statement.{statement}
 use Rattle.sizing.proofs.copies.second.Tie as tie

@@ -8,9 +8,9 @@ use lib.ListN.{length}
 use Rattle.sets.specs.Bits.{maskOf}
 use Rattle.cells.specs.Cells.{put}
 use Rattle.cells.proofs.Cells.{put-none}
-use Rattle.sizing.specs.Columns.{cell}
+use Rattle.cluster.specs.Columns.{cell}
 use Rattle.sizing.specs.Line.{reaches}
-use Rattle.sizing.proofs.Columns.{put-next}
+use Rattle.cells.proofs.Cells.{put-next}
 use Rattle.sizing.proofs.line.deal.Statement.{statement}
 use Rattle.sizing.proofs.line.deal.Tie as tie
 
@@ -49,7 +49,7 @@ loop-again c =
       search needs,
       search needs,
       search needs,
-      put-next (λ q. maskOf (λ b. reaches (a .partitions) (cell (a .starts .now) b) (cell (a .copies .now) b) q) (a .n)) (a .rows .now) (k .loop .rows) (k .loop .p) (c .row .result) (k .loop .inv .4) (c .row .ensures),
+      put-next (λ q. maskOf (λ b. reaches (a .partitions) (cell (a .starts .now) b) (cell (a .copies .now) b) q) (a .n)) (k .loop .p) (c .row .result) (a .rows .now) (k .loop .rows) (k .loop .inv .4) (c .row .ensures),
     )
 
 same-length : tie.Need-same-length Inv-loop μ-loop

@@ -6,7 +6,7 @@ use Prim.Native.Nat.{ℕ, _*_, _-_, _≤_}
 use mathlib.Core.Path.{_≡_, refl, ap, _∙_}
 use mathlib.Core.Logic.{⊎-elim}
 use Rattle.sums.specs.Sum.{sumTo}
-use Rattle.sizing.specs.Columns.{cell}
+use Rattle.cluster.specs.Columns.{cell}
 use Rattle.sizing.specs.Line.{lightOf}
 use Rattle.sizing.proofs.Adding.{sum-next}
 use Rattle.sizing.proofs.Lining.{light-some, light-none}

@@ -5,8 +5,8 @@ use native.Mathlib.Omega.{arith}
 use Prim.Native.Nat.{ℕ, _-_, _%_, _≤_}
 use mathlib.Core.Path.{_≡_, ap}
 use Rattle.dealing.specs.Deal.{start}
-use Rattle.sizing.specs.Columns.{cell, column}
-use Rattle.sizing.proofs.Columns.{column-none, column-next, column-end}
+use Rattle.cluster.specs.Columns.{cell, column}
+use Rattle.cluster.proofs.Columns.{column-none, column-next, column-end}
 use Rattle.sizing.proofs.Adding.{zone-bound}
 use Rattle.sizing.proofs.Lining.{begins-bound, totals-most, start-cells}
 use Rattle.sizing.proofs.line.starts.Statement.{statement}

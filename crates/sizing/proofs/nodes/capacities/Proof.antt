@@ -6,9 +6,9 @@ use Prim.Native.Nat.{_-_, _≤_}
 use mathlib.Core.Path.{_≡_, sym, ap}
 use Rattle.cluster.specs.Terms.{topology, nodeAt}
 use Rattle.cluster.specs.declared.Node.{Node}
-use Rattle.sizing.specs.Columns.{column}
-use Rattle.sizing.proofs.Columns.{column-none, column-next, column-end}
-use Rattle.sizing.proofs.Slots.{node-slot}
+use Rattle.cluster.specs.Columns.{column}
+use Rattle.cluster.proofs.Columns.{column-none, column-next, column-end}
+use Rattle.cluster.proofs.Slots.{node-slot}
 use Rattle.sizing.proofs.nodes.capacities.Statement.{statement}
 use Rattle.sizing.proofs.nodes.capacities.Tie as tie
 

@@ -8,7 +8,7 @@ use mathlib.Core.Logic.{⊎-elim}
 use Rattle.sums.specs.Sum.{is}
 use Rattle.sums.proofs.Sum.{is-eq, is-ne}
 use Rattle.sets.specs.Bits.{maskOf}
-use Rattle.sizing.specs.Columns.{cell}
+use Rattle.cluster.specs.Columns.{cell}
 use Rattle.sizing.proofs.Masks.{mask-here, mask-not-here}
 use Rattle.sizing.proofs.nodes.of_zone.Statement.{statement}
 use Rattle.sizing.proofs.nodes.of_zone.Tie as tie

@@ -7,7 +7,7 @@ use mathlib.Core.Path.{_≡_, refl, ap, _∙_}
 use mathlib.Core.Logic.{⊎-elim}
 use Rattle.sums.specs.Sum.{sumTo}
 use Rattle.dealing.specs.Deal.{inZone}
-use Rattle.sizing.specs.Columns.{cell}
+use Rattle.cluster.specs.Columns.{cell}
 use Rattle.sizing.proofs.Adding.{zone-here, zone-not-here}
 use Rattle.sizing.proofs.totals.in_zone.Statement.{statement}
 use Rattle.sizing.proofs.totals.in_zone.Tie as tie

@@ -7,8 +7,8 @@ use mathlib.Core.Path.{_≡_, ap, _∙_}
 use lib.ListN.{length}
 use Rattle.sums.specs.Sum.{sumTo}
 use Rattle.dealing.specs.Deal.{inZone}
-use Rattle.sizing.specs.Columns.{cell}
-use Rattle.sizing.proofs.Columns.{cell-blank, column-cells}
+use Rattle.cluster.specs.Columns.{cell}
+use Rattle.cluster.proofs.Columns.{cell-blank, column-cells}
 use Rattle.sizing.proofs.Adding.{zone-bound, zones-next}
 use Rattle.sizing.proofs.totals.zone_totals.Statement.{statement}
 use Rattle.sizing.proofs.totals.zone_totals.Tie as tie
