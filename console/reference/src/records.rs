@@ -17,7 +17,11 @@ impl<'a> Fields<'a> {
     }
 
     /// The next field's tag, body and first byte; `legal` judges tag and length.
-    fn next(&mut self, tags: &[u8], legal: impl Fn(u8, usize) -> bool) -> Result<(u8, &'a [u8], usize), Refused> {
+    fn next(
+        &mut self,
+        tags: &[u8],
+        legal: impl Fn(u8, usize) -> bool,
+    ) -> Result<(u8, &'a [u8], usize), Refused> {
         let at = self.at;
         let rest = &self.bytes[at..];
         if rest.len() < 3 {
@@ -62,7 +66,7 @@ fn fixed(tag: u8, len: usize) -> bool {
 
 fn rows(tag: u8, len: usize) -> bool {
     if tag == 5 || tag == 10 {
-        len >= 6 && len <= 34 && (len - 2) % 4 == 0
+        (6..=34).contains(&len) && len % 4 == 2
     } else {
         fixed(tag, len)
     }
@@ -85,18 +89,27 @@ pub fn read_cluster(bytes: &[u8]) -> Result<(Cluster, Layout), Refused> {
     let bits = first(1, 8, &mut f)? as u32;
     let replication = first(2, 8, &mut f)? as usize;
     let redundancy = first(3, replication as u64, &mut f)? as usize;
-    let mut c = Cluster { bits, replication, redundancy, nodes: Vec::new() };
+    let mut c = Cluster {
+        bits,
+        replication,
+        redundancy,
+        nodes: Vec::new(),
+    };
     let mut former: Layout = vec![Vec::new(); c.partitions()];
     let mut last_row: Option<u64> = None;
     while !f.done() {
         let tags: &[u8] = if last_row.is_some() { &[5] } else { &[4, 5] };
         let (tag, body, at) = f.next(tags, rows)?;
         if tag == 4 {
-            let node = Node { id: number(&body[..4]) as u32, zone: number(&body[4..6]) as u16, capacity: number(&body[6..]) as u32 };
+            let node = Node {
+                id: number(&body[..4]) as u32,
+                zone: number(&body[4..6]) as u16,
+                capacity: number(&body[6..]) as u32,
+            };
             if node.id == 0 {
                 return Err((4, at));
             }
-            if c.nodes.last().map_or(false, |n| n.id >= node.id) {
+            if c.nodes.last().is_some_and(|n| n.id >= node.id) {
                 return Err((5, at));
             }
             if c.nodes.len() == 32 {
@@ -108,7 +121,7 @@ pub fn read_cluster(bytes: &[u8]) -> Result<(Cluster, Layout), Refused> {
             if p >= c.partitions() as u64 || row.contains(&0) {
                 return Err((4, at));
             }
-            if last_row.map_or(false, |q| q >= p) || !rising(&row) {
+            if last_row.is_some_and(|q| q >= p) || !rising(&row) {
                 return Err((5, at));
             }
             last_row = Some(p);
