@@ -7,15 +7,15 @@ fn main() {
     let here = std::env::var_os("CARGO_MANIFEST_DIR").expect("cargo sets it");
     let folder = PathBuf::from(here).join("../target/staticlib");
     let library = folder.join("libconsole.a");
-    println!("cargo:rerun-if-changed={}", library.display());
-    println!("cargo:rerun-if-changed=build.rs");
+    println!("cargo::rerun-if-changed={}", library.display());
+    println!("cargo::rerun-if-changed=build.rs");
     if !library.is_file() {
-        eprintln!(
-            "{} is missing: run `rt staticlib console` in the project's folder first",
+        println!(
+            "cargo::error={} is missing: run `rt staticlib console` in the project's folder first",
             library.display()
         );
         exit(1);
     }
-    println!("cargo:rustc-link-search=native={}", folder.display());
-    println!("cargo:rustc-link-lib=static=console");
+    println!("cargo::rustc-link-search=native={}", folder.display());
+    println!("cargo::rustc-link-lib=static=console");
 }
