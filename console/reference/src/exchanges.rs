@@ -7,8 +7,6 @@ pub struct Planned {
     pub size: u32,
     pub finished: bool,
     pub improvements: u32,
-    /// How often a cycle was split because its exchanges could not all be made at once.
-    pub splits: u32,
     pub rows: Vec<u32>,
 }
 
@@ -298,12 +296,14 @@ impl Setting {
         Some(Circuit { nodes, partitions })
     }
 
-    /// One improvement; the number of splits that it took, or nothing where there was none.
-    fn improve(&self, rows: &mut [u32]) -> Option<u32> {
-        let mut circuit = self.circuit(rows)?;
-        let splits = self.uncross(rows, &mut circuit);
+    /// One improvement; whether there was one.
+    fn improve(&self, rows: &mut [u32]) -> bool {
+        let Some(mut circuit) = self.circuit(rows) else {
+            return false;
+        };
+        self.uncross(rows, &mut circuit);
         self.turn(rows, &circuit);
-        Some(splits)
+        true
     }
 }
 
@@ -358,42 +358,50 @@ fn begin(c: &Cluster, former: &Layout) -> Option<(Setting, u32, Vec<u32>)> {
 /// The plan of a cluster; nothing where no layout is valid at size 1.
 pub fn plan(c: &Cluster, former: &Layout, allowance: u32) -> Option<Planned> {
     let (setting, size, mut rows) = begin(c, former)?;
-    let (mut improvements, mut splits) = (0, 0);
-    let mut finished = false;
-    while !finished && improvements < allowance {
-        match setting.improve(&mut rows) {
-            Some(n) => {
-                improvements += 1;
-                splits += n;
-            }
-            None => finished = true,
-        }
+    let mut improvements = 0;
+    while improvements < allowance && setting.improve(&mut rows) {
+        improvements += 1;
     }
-    let finished = finished || setting.cycle(&setting.graph(&rows)).is_none();
+    let finished = improvements < allowance || setting.cycle(&setting.graph(&rows)).is_none();
     Some(Planned {
         size,
         finished,
         improvements,
-        splits,
         rows,
     })
 }
 
-/// How many cycles of a whole run would have left an invalid row, had they been turned as found.
-pub fn splits_needed(c: &Cluster, former: &Layout) -> u32 {
+/// How the cycles of a whole run were split.
+#[derive(Clone, Copy, Debug, Default, PartialEq, Eq)]
+pub struct Splits {
+    /// Cycles found.
+    pub cycles: u32,
+    /// Those that were split.
+    pub split: u32,
+    /// Those that would have left an invalid row, had they been turned as found.
+    pub needed: u32,
+    /// The most splits of one cycle.
+    pub most: u32,
+}
+
+/// The splits of the run that finishes.
+pub fn splits(c: &Cluster, former: &Layout) -> Splits {
+    let mut counted = Splits::default();
     let Some((setting, _, mut rows)) = begin(c, former) else {
-        return 0;
+        return counted;
     };
-    let mut needed = 0;
     while let Some(mut circuit) = setting.circuit(&rows) {
         let mut as_found = rows.clone();
         setting.turn(&mut as_found, &circuit);
-        let spoilt = |row: &u32| setting.cover(*row) < setting.redundancy;
-        needed += as_found.iter().any(spoilt) as u32;
-        setting.uncross(&rows, &mut circuit);
+        let is_invalid = |row: &u32| setting.cover(*row) < setting.redundancy;
+        let splits = setting.uncross(&rows, &mut circuit);
         setting.turn(&mut rows, &circuit);
+        counted.cycles += 1;
+        counted.split += (splits > 0) as u32;
+        counted.needed += as_found.iter().any(is_invalid) as u32;
+        counted.most = counted.most.max(splits);
     }
-    needed
+    counted
 }
 
 /// The rows of masks as rows of ids.
