@@ -21,8 +21,9 @@ pub fn megabytes(word: &str) -> Result<u32, String> {
         return Err(format!("{word} is not a whole number of megabytes"));
     }
     let digits = format!("{whole}{fraction:0<places$}");
-    if digits.bytes().any(|digit| !digit.is_ascii_digit()) || number.is_empty() {
-        return Err(format!("'{word}' is not a capacity: the number is not one"));
+    let has_one = number.contains(|c: char| c.is_ascii_digit());
+    if !has_one || digits.contains('.') {
+        return Err(format!("'{word}' is not a capacity: its number is none"));
     }
     digits.parse().map_err(|_| {
         format!("{word} is more than a box can have: at most 4,294,967,295 megabytes, about 4,294T")
