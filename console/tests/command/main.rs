@@ -135,7 +135,7 @@ fn zones_are_checked_by_name() {
     let folder = Folder::new("zones");
     folder.write("home.txt", THREE);
     assert_eq!(folder.console("plan home.txt --out last").status, 0);
-    folder.write("one.txt", &THREE.replace("home", "shop"));
+    folder.write("one.txt", THREE.replace("home", "shop"));
     let done = folder.console("check one.txt last");
     let told = "refused 11, not valid: partition 0 lies in 1 zone (shop), 2 are wanted\n";
     assert_eq!((done.status, done.err.as_str()), (1, told));
@@ -283,7 +283,7 @@ fn a_damaged_layout_is_refused_and_nothing_is_written() {
 #[test]
 fn a_former_layout_of_other_partitions_is_refused() {
     let folder = planned_home("bits");
-    folder.write("next.txt", &HOME_NEXT.replace("zones 2", "zones 2\nbits 7"));
+    folder.write("next.txt", HOME_NEXT.replace("zones 2", "zones 2\nbits 7"));
     let done = folder.console("plan next.txt --former last --out next");
     let told = "last was planned with bits 8, next.txt has bits 7: they cannot change\n";
     assert_eq!((done.status, done.err.as_str()), (2, told));

@@ -2,7 +2,7 @@
 
 use crate::clusters::{self, MEDIUM, SMALL};
 use crate::lent;
-use crate::soak_factor;
+use crate::{soak_factor, soak_seed};
 use dezghuri::ffi;
 use reference::cells::{cells_of, check, figures, hope, CELLS};
 use reference::random::Random;
@@ -78,13 +78,13 @@ fn try_cells(seed: u64, cases: u64) {
 
 #[test]
 fn check_and_figures_answer_as_laid_down() {
-    try_cells(31, 3000);
+    try_cells(31, 8000);
 }
 
 #[test]
 #[ignore = "make soak"]
 fn soak_cells() {
-    try_cells(32, 3000 * soak_factor());
+    try_cells(soak_seed(32), 8000 * soak_factor());
 }
 
 #[test]

@@ -91,9 +91,9 @@ pub fn former(c: &Cluster, r: &mut Random) -> Layout {
 pub fn moved(c: &Cluster, layout: &Layout, percent: u64, r: &mut Random) -> Layout {
     let mut moved = layout.clone();
     for row in &mut moved {
-        for place in 0..row.len() {
+        for id in row.iter_mut() {
             if r.chance(percent) {
-                row[place] = c.nodes[r.below(c.nodes.len() as u64) as usize].id;
+                *id = c.nodes[r.below(c.nodes.len() as u64) as usize].id;
             }
         }
         row.sort_unstable();

@@ -3,7 +3,7 @@
 
 use crate::clusters::{self, Kind, MEDIUM, SMALL};
 use crate::lent::{self, Planned};
-use crate::soak_factor;
+use crate::{soak_factor, soak_seed};
 use reference::cells::cells_of;
 use reference::random::Random;
 use reference::records::cluster_record;
@@ -164,22 +164,22 @@ fn by_report(c: &Cluster, former: &Layout) -> Option<Option<Known>> {
 
 #[test]
 fn small_clusters_against_all_their_layouts() {
-    try_clusters(11, 6000, SMALL, listed);
+    try_clusters(11, 20_000, SMALL, listed);
 }
 
 #[test]
 fn larger_clusters_against_the_reports_method() {
-    try_clusters(12, 300, MEDIUM, by_report);
+    try_clusters(12, 800, MEDIUM, by_report);
 }
 
 #[test]
 #[ignore = "make soak"]
 fn soak_small_clusters() {
-    try_clusters(13, 6000 * soak_factor(), SMALL, listed);
+    try_clusters(soak_seed(13), 20_000 * soak_factor(), SMALL, listed);
 }
 
 #[test]
 #[ignore = "make soak"]
 fn soak_larger_clusters() {
-    try_clusters(14, 300 * soak_factor(), MEDIUM, by_report);
+    try_clusters(soak_seed(14), 800 * soak_factor(), MEDIUM, by_report);
 }

@@ -14,8 +14,17 @@ mod worst;
 
 /// How many times as many cases a soak tries.
 fn soak_factor() -> u64 {
-    match std::env::var("SOAK") {
-        Ok(factor) => factor.parse().expect("SOAK is a number"),
-        Err(_) => 100,
+    from_environment("SOAK", 100)
+}
+
+/// A seed of a soak; with another SEED it tries other cases.
+fn soak_seed(seed: u64) -> u64 {
+    seed + 1000 * from_environment("SEED", 0)
+}
+
+fn from_environment(name: &str, usual: u64) -> u64 {
+    match std::env::var(name) {
+        Ok(value) => value.parse().expect("a number"),
+        Err(_) => usual,
     }
 }

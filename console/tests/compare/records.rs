@@ -3,7 +3,7 @@
 
 use crate::clusters::{self, SMALL};
 use crate::lent;
-use crate::soak_factor;
+use crate::{soak_factor, soak_seed};
 use dezghuri::ffi;
 use reference::cells::{cells_of, layout_of, write_fault, CELLS};
 use reference::random::Random;
@@ -363,23 +363,23 @@ fn short_buffers_are_refused_before_the_record_is_looked_at() {
 
 #[test]
 fn readings_agree_with_an_independent_parser() {
-    try_readings(23, 8000);
+    try_readings(23, 20_000);
 }
 
 #[test]
 fn layouts_are_written_and_read_back() {
-    try_round_trips(24, 1500);
+    try_round_trips(24, 3000);
 }
 
 #[test]
 fn writing_refuses_as_laid_down() {
-    try_writing(25, 3000);
+    try_writing(25, 8000);
 }
 
 #[test]
 #[ignore = "make soak"]
 fn soak_records() {
-    try_readings(26, 8000 * soak_factor());
-    try_round_trips(27, 1500 * soak_factor());
-    try_writing(28, 3000 * soak_factor());
+    try_readings(soak_seed(26), 20_000 * soak_factor());
+    try_round_trips(soak_seed(27), 3000 * soak_factor());
+    try_writing(soak_seed(28), 8000 * soak_factor());
 }
