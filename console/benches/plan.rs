@@ -2,8 +2,8 @@
 //!
 //! All three plan the same clusters in turn in one run, and have to come to the same distance. The
 //! proved planner is timed through its C function, so that reading the record is in its time; the
-//! other two start from a cluster that is read already. A time is the median of several calls, and a
-//! line the median of several clusters of its kind.
+//! other two start from a cluster that is read already. A time is the median of several calls, and
+//! a line the median of several clusters of its kind.
 
 use dezghuri::ffi;
 use reference::random::Random;
@@ -176,7 +176,8 @@ fn far_away(r: &mut Random) -> Case {
     random_case(8, 32, 8, r)
 }
 
-/// A cluster in a quarter as many houses as it has boxes, three at least, and former rows drawn by lot.
+/// A cluster in a quarter as many houses as it has boxes, three at least, and former rows drawn by
+/// lot.
 fn random_case(bits: u32, number: u32, copies: usize, r: &mut Random) -> Case {
     let zones = (number / 4).max(3);
     let c = cluster(bits, copies, copies.min(2), nodes(number, zones, r));

@@ -13,7 +13,8 @@
  *     that each pointer is sound: not null (not even with length 0), aligned for its type, with as many
  *     elements behind it as its length says, writable where it is not const; and that no two slices of one
  *     call overlap.
- *   - The functions keep no state and allocate nothing; several threads may call them at once.
+ *   - The functions keep no state, allocate nothing and take less than 64 KiB of stack; several threads may
+ *     call them at once.
  *
  * docs/FORMATS.md lays down the records and the meaning of each refusal.
  */

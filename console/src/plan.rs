@@ -109,8 +109,8 @@ impl Plan {
     ///
     /// # Errors
     ///
-    /// [`Refusal::Range`](crate::Refusal::Range) or [`Refusal::Row`](crate::Refusal::Row) for a plan
-    /// that was put together by hand and is none.
+    /// [`Refusal::Range`](crate::Refusal::Range) or [`Refusal::Row`](crate::Refusal::Row) for a
+    /// plan that was put together by hand and is none.
     pub fn to_record(&self) -> Result<Vec<u8>, Refused> {
         let numbers = ffi::Numbers {
             bits: self.bits.into(),

@@ -1,6 +1,7 @@
 //! The method of the proved planner, written plainly and unverified: dealing, then exchange graphs,
 //! levels, cycles and splits. It is what the proved planner's speed is held to.
 
+use crate::dealing::{caps_at, deal, size, zones};
 use crate::{Cluster, Layout};
 
 pub struct Planned {
@@ -54,72 +55,6 @@ fn members(mut s: u32) -> impl Iterator<Item = usize> {
         s &= s - 1;
         Some(b)
     })
-}
-
-fn caps_at(c: &Cluster, size: u32) -> Vec<u32> {
-    c.nodes
-        .iter()
-        .map(|n| (n.capacity / size).min(c.partitions() as u32))
-        .collect()
-}
-
-fn zones(c: &Cluster) -> Vec<usize> {
-    c.nodes
-        .iter()
-        .map(|n| c.nodes.iter().position(|m| m.zone == n.zone).unwrap())
-        .collect()
-}
-
-/// Whether the caps admit a layout: enough copies, and enough pairs of partition and zone.
-fn fits(c: &Cluster, zone: &[usize], size: u32) -> bool {
-    let p = c.partitions() as u32;
-    let caps = caps_at(c, size);
-    let mut by_zone = [0u32; 32];
-    for (b, cap) in caps.iter().enumerate() {
-        by_zone[zone[b]] += cap;
-    }
-    caps.iter().sum::<u32>() >= c.replication as u32 * p
-        && by_zone.iter().map(|z| p.min(*z)).sum::<u32>() >= c.redundancy as u32 * p
-}
-
-fn size(c: &Cluster, zone: &[usize]) -> u32 {
-    (0..32).rev().fold(0u32, |s, i| {
-        if fits(c, zone, s | 1 << i) {
-            s | 1 << i
-        } else {
-            s
-        }
-    })
-}
-
-/// The dealt layout: copies per node in two passes, then copy number i goes to partition i mod P.
-fn deal(c: &Cluster, zone: &[usize], caps: &[u32]) -> Vec<u32> {
-    let p = c.partitions() as u32;
-    let mut left = c.replication as u32 * p;
-    let mut by_zone = [0u32; 32];
-    let mut given = vec![0u32; caps.len()];
-    for b in 0..caps.len() {
-        given[b] = caps[b].min(p - by_zone[zone[b]].min(p)).min(left);
-        by_zone[zone[b]] += given[b];
-        left -= given[b];
-    }
-    for b in 0..caps.len() {
-        let more = (caps[b] - given[b]).min(left);
-        given[b] += more;
-        by_zone[zone[b]] += more;
-        left -= more;
-    }
-    let mut line: Vec<usize> = (0..caps.len()).collect();
-    line.sort_by_key(|&b| (by_zone[zone[b]] >= p, zone[b], b));
-    let mut rows = vec![0u32; p as usize];
-    let mut at = 0;
-    for b in line {
-        for _ in 0..given[b] {
-            rows[at % p as usize] |= 1 << b;
-            at += 1;
-        }
-    }
-    rows
 }
 
 impl Setting {

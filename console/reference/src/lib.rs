@@ -3,6 +3,7 @@
 //! the method of exchanges, a parser, and what the papers say of lent cells.
 
 pub mod cells;
+mod dealing;
 pub mod exchanges;
 pub mod listing;
 pub mod random;

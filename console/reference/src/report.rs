@@ -131,8 +131,8 @@ impl Network {
     }
 
     /// The cycles that so many rounds of Bellman and Ford show, each round working from the
-    /// distances of the round before: after i rounds all shortest walks of at most i arcs are known,
-    /// as the report counts them.
+    /// distances of the round before: after i rounds all shortest walks of at most i arcs are
+    /// known, as the report counts them.
     fn cycles_after(&self, rounds: usize) -> Vec<Vec<usize>> {
         let n = self.out.len();
         let mut dist = vec![0i32; n];

@@ -58,12 +58,12 @@ fn a_cycle_is_split_where_its_exchanges_would_spoil_a_row() {
 /// A chain through 30 of 32 nodes, each step of which takes six arcs in the report's graph.
 ///
 /// Zone A has fourteen small nodes a and a large one, zone B a large one and fifteen small nodes b,
-/// zone C one node in every row. The dealt beginning gives each small node one partition: the row of
-/// an a has the large node of B in it, the row of a b that of A, so that in either row a small node
-/// of the other zone would stand in a zone that is covered already. Every such row had one small node
-/// of the other zone more before, b0 had a0, a0 had b1, b1 had a1, and so on, and one row had b0
-/// where it now has the large node of A. Only by moving along the whole chain, up to the last b,
-/// which has room, does that row get b0 back.
+/// zone C one node in every row. The dealt beginning gives each small node one partition: the row
+/// of an a has the large node of B in it, the row of a b that of A, so that in either row a small
+/// node of the other zone would stand in a zone that is covered already. Every such row had one
+/// small node of the other zone more before: the row of b0 had a0, that of a0 had b1, that of b1 had
+/// a1, and so on; and one row had b0 where it now has the large node of A. Only by moving along the
+/// whole chain, up to the last b, which has room, does that row get b0 back.
 fn chain() -> (Cluster, Layout) {
     const SIZE: u32 = 100;
     let small = |n: usize, zone: u16| std::iter::repeat_n((zone, 1), n);

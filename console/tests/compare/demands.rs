@@ -1,5 +1,5 @@
-//! Demands 2 and 3 at allowances 0, 1, 2 and on: against a listing of all layouts where there are few,
-//! against the report's method where there are many.
+//! Demands 2 and 3 at allowances 0, 1, 2 and on: against a listing of all layouts where there are
+//! few, against the report's method where there are many.
 
 use crate::clusters::{self, Kind, MEDIUM, SMALL};
 use crate::lent::{self, Planned};
@@ -15,83 +15,85 @@ struct Known {
     least_distance: usize,
 }
 
-/// Checks all that is promised of the answers at all allowances.
-fn keeps_the_rules(c: &Cluster, former: &Layout, other: &Layout, known: &Known, r: &mut Random) {
-    let record = cluster_record(c, former);
-    let answer = |allowance: u16, r: &mut Random| {
-        let planned = lent::plan(&record, allowance, r).expect("a layout exists");
-        is_sound(c, former, &record, &planned, known, r);
-        planned
-    };
-    let mut now = answer(0, r);
-    begins_alike(c, former, other, &now, r);
-    let mut allowance = 0;
-    while !now.finished {
+/// A cluster with its former layout, and what is known of them.
+struct Case<'a> {
+    c: &'a Cluster,
+    former: &'a Layout,
+    record: Vec<u8>,
+    known: Known,
+}
+
+impl Case<'_> {
+    /// Checks all that is promised of the answers at all allowances.
+    fn keeps_the_rules(&self, other: &Layout, r: &mut Random) {
+        let mut now = self.answer(0, r);
+        self.begins_alike(other, &now, r);
+        let mut allowance = 0;
+        while !now.finished {
+            assert_eq!(
+                now.improvements,
+                allowance.into(),
+                "a stopped run has used all"
+            );
+            allowance += 1;
+            let next = self.answer(allowance, r);
+            let gain = now.distance - next.distance;
+            assert!(gain >= 2, "an improvement brings two at least");
+            assert!(
+                gain as usize <= 2 * self.c.nodes.len(),
+                "and two for each node at most"
+            );
+            now = next;
+        }
+        assert!(allowance <= 2048);
         assert_eq!(
             now.improvements,
             allowance.into(),
-            "a stopped run has used all"
+            "the smallest that finishes"
         );
-        assert!(
-            now.distance as usize > known.least_distance,
-            "nothing nearer is there"
-        );
-        allowance += 1;
-        let next = answer(allowance, r);
-        let gain = now.distance - next.distance;
-        assert!(gain >= 2, "an improvement brings two at least");
-        assert!(
-            gain as usize <= 2 * c.nodes.len(),
-            "and two for each node at most"
-        );
-        now = next;
+        let larger = r.between(2048, 65_535) as u16;
+        for more in [allowance + 1, allowance + 2, 2048, larger, 65_535] {
+            assert_eq!(
+                self.answer(more, r),
+                now,
+                "a larger allowance changes nothing"
+            );
+        }
+        if self.former.iter().all(Vec::is_empty) {
+            assert_eq!(allowance, 0);
+            assert_eq!(
+                now.distance as usize,
+                self.c.replication * self.c.partitions()
+            );
+        }
     }
-    assert!(allowance <= 2048);
-    assert_eq!(
-        now.improvements,
-        allowance.into(),
-        "the smallest that finishes"
-    );
-    assert_eq!(now.distance as usize, known.least_distance);
-    for more in [
-        allowance + 1,
-        allowance + 2,
-        2048,
-        r.between(2048, 65_535) as u16,
-        65_535,
-    ] {
-        assert_eq!(answer(more, r), now, "a larger allowance changes nothing");
-    }
-    if former.iter().all(Vec::is_empty) {
-        assert_eq!(allowance, 0);
-        assert_eq!(now.distance as usize, c.replication * c.partitions());
-    }
-}
 
-/// The layout is valid at the cluster's size and at no larger one, and has the distance named.
-fn is_sound(
-    c: &Cluster,
-    former: &Layout,
-    record: &[u8],
-    planned: &Planned,
-    known: &Known,
-    r: &mut Random,
-) {
-    assert_eq!(u64::from(planned.size), known.size);
-    assert!(is_valid(c, &planned.layout, known.size));
-    assert_eq!(planned.distance as usize, distance(&planned.layout, former));
-    let cells = cells_of(&planned.layout);
-    assert_eq!(lent::check(record, &cells, planned.size, r), (0, 0, 0));
-    if let Some(larger) = planned.size.checked_add(1) {
-        assert_eq!(lent::check(record, &cells, larger, r).0, 12);
+    /// Plans, and checks what holds at every allowance: the layout is valid at the cluster's size
+    /// and at no larger one, has the distance named, and is the nearest just when it is finished.
+    fn answer(&self, allowance: u16, r: &mut Random) -> Planned {
+        let planned = lent::plan(&self.record, allowance, r).expect("a layout exists");
+        let (size, far) = (u64::from(planned.size), planned.distance as usize);
+        assert_eq!(size, self.known.size);
+        assert!(is_valid(self.c, &planned.layout, size));
+        assert_eq!(far, distance(&planned.layout, self.former));
+        assert_eq!(far == self.known.least_distance, planned.finished);
+        let cells = cells_of(&planned.layout);
+        assert_eq!(
+            lent::check(&self.record, &cells, planned.size, r),
+            (0, 0, 0)
+        );
+        if let Some(larger) = planned.size.checked_add(1) {
+            assert_eq!(lent::check(&self.record, &cells, larger, r).0, 12);
+        }
+        planned
     }
-}
 
-/// At allowance 0 the distance is that of the beginning, which another former layout has too.
-fn begins_alike(c: &Cluster, former: &Layout, other: &Layout, first: &Planned, r: &mut Random) {
-    let beginning = lent::plan(&cluster_record(c, other), 0, r).expect("a layout exists");
-    let expected = distance(&beginning.layout, former);
-    assert_eq!(first.distance as usize, expected, "another beginning");
+    /// At allowance 0 the distance is that of the beginning, which another former layout has too.
+    fn begins_alike(&self, other: &Layout, first: &Planned, r: &mut Random) {
+        let beginning = lent::plan(&cluster_record(self.c, other), 0, r).expect("a layout exists");
+        let expected = distance(&beginning.layout, self.former);
+        assert_eq!(first.distance as usize, expected, "another beginning");
+    }
 }
 
 fn refuses_all(c: &Cluster, former: &Layout, r: &mut Random) {
@@ -137,7 +139,13 @@ fn try_clusters(
         match known {
             None => refuses_all(&c, &former, &mut r),
             Some(known) => {
-                keeps_the_rules(&c, &former, &other, &known, &mut r);
+                let case = Case {
+                    c: &c,
+                    former: &former,
+                    record: cluster_record(&c, &former),
+                    known,
+                };
+                case.keeps_the_rules(&other, &mut r);
                 planned += 1;
             }
         }

@@ -1,5 +1,5 @@
-//! Calls with lent buffers that are filled with a pattern and longer than they need to be: each call
-//! here checks that every cell comes back as laid down for the outcome.
+//! Calls with lent buffers that are filled with a pattern and longer than they need to be: each
+//! call here checks that every cell comes back as laid down for the outcome.
 
 use dezghuri::ffi;
 use reference::cells::{layout_of, CELLS};
@@ -70,19 +70,23 @@ pub fn plan(record: &[u8], allowance: u16, r: &mut Random) -> Result<Planned, (u
         assert_eq!(answer[2..ffi::PLAN_ANSWER], [0; 4], "numbers of a refusal");
         return Err((refusal, byte(&answer)));
     }
-    assert_eq!(byte(&answer), 0, "the byte of an accepted record");
+    Ok(planned(1 << record[3], &assignment, &answer))
+}
+
+/// The answer to an accepted record of so many partitions.
+fn planned(partitions: usize, assignment: &[u32], answer: &[u32]) -> Planned {
+    assert_eq!(byte(answer), 0, "the byte of an accepted record");
     assert!(answer[4] <= 1, "a verdict");
-    let partitions = 1 << record[3];
     assert!(assignment[8 * partitions..CELLS]
         .iter()
         .all(|cell| *cell == 0));
-    Ok(Planned {
+    Planned {
         size: answer[2],
         distance: answer[3],
         finished: answer[4] == 1,
         improvements: answer[5],
-        layout: layout_of(&assignment, partitions),
-    })
+        layout: layout_of(assignment, partitions),
+    }
 }
 
 /// Reads a cluster; refused, the refusal and the byte.

@@ -1,5 +1,5 @@
-//! The C functions compared with unverified programs, each written from the papers alone: a listing of
-//! all layouts, the report's method, a parser, and what the papers say of lent cells.
+//! The C functions compared with unverified programs, each written from the papers alone: a listing
+//! of all layouts, the report's method, a parser, and what the papers say of lent cells.
 //!
 //! Every run tries the same cases. `make soak` tries many more: the tests that are ignored here.
 

@@ -1,5 +1,5 @@
-//! Both readings against an independent parser, on records that are whole, cut, longer, changed in a
-//! few bits or bytes, put together from odd fields, or random; and what is written read back.
+//! Both readings against an independent parser, on records that are whole, cut, longer, changed in
+//! a few bits or bytes, put together from odd fields, or random; and what is written read back.
 
 use crate::clusters::{self, SMALL};
 use crate::lent;
@@ -240,6 +240,20 @@ fn try_round_trips(seed: u64, cases: u64) {
     }
 }
 
+/// Gives one of the numbers a value at the edge of some range.
+fn change_a_number(n: &mut Numbers, r: &mut Random) {
+    let edges = [0, 1, 2, 8, 9, 2048, 2049, 4096, 4097, u32::MAX];
+    let edge = edges[r.below(edges.len() as u64) as usize];
+    match r.below(6) {
+        0 => n.bits = edge,
+        1 => n.replication = edge,
+        2 => n.size = edge,
+        3 => n.distance = edge,
+        4 => n.verdict = edge,
+        _ => n.improvements = edge,
+    }
+}
+
 /// Writing refuses what it must, and nothing else.
 fn try_writing(seed: u64, cases: u64) {
     let mut r = Random::new(seed);
@@ -249,16 +263,7 @@ fn try_writing(seed: u64, cases: u64) {
         let length = 29 + layout.len() * (5 + 4 * numbers.replication as usize);
         let mut cells = cells_of(&layout);
         if r.chance(30) {
-            let near = [0, 1, 2, 8, 9, 2048, 2049, 4096, 4097, u32::MAX];
-            let odd = near[r.below(10) as usize];
-            *[
-                &mut numbers.bits,
-                &mut numbers.replication,
-                &mut numbers.size,
-                &mut numbers.distance,
-                &mut numbers.verdict,
-                &mut numbers.improvements,
-            ][r.below(6) as usize] = odd;
+            change_a_number(&mut numbers, &mut r);
         }
         if r.chance(30) {
             let at = r.below(CELLS as u64) as usize % (8 * layout.len() + 16).min(CELLS);

@@ -76,3 +76,22 @@ fn the_largest_clusters_end() {
         }
     }
 }
+
+/// The header promises both of every call; planning the largest cluster is the one that takes most.
+#[test]
+fn threads_with_little_stack_call_at_once() {
+    let (c, former) = (largest(4, 9, |b| 5000 + 97 * b), neighbours());
+    let record = cluster_record(&c, &former);
+    let expected = lent::plan(&record, 2048, &mut Random::new(1));
+    std::thread::scope(|scope| {
+        for seed in 0..4 {
+            let (record, expected) = (&record, &expected);
+            let planned =
+                move || assert_eq!(&lent::plan(record, 2048, &mut Random::new(seed)), expected);
+            let thread = std::thread::Builder::new().stack_size(64 * 1024);
+            thread
+                .spawn_scoped(scope, planned)
+                .expect("a thread starts");
+        }
+    });
+}

@@ -5,7 +5,7 @@ use crate::cluster_file::Described;
 use crate::explain;
 use crate::failure::Failure;
 use crate::files;
-use crate::overview::{transfers_in_words, Overview};
+use crate::overview::{first_transfers_in_words, transfers_in_words, Overview};
 use crate::table::{self, Column, Side};
 use crate::transfers::Transfers;
 use crate::units::{count, thousands};
@@ -48,30 +48,8 @@ fn plan(
     let plan = cluster
         .plan(allowance)
         .map_err(|refused| Failure::Refused(explain::no_plan(&described, refused)))?;
-    let kept = match out {
-        Some(out) => {
-            let record = plan.to_record().map_err(unforeseen)?;
-            files::write_whole(out, &record)?;
-            format!("Written to {}.\n", out.display())
-        }
-        None => "Not written: with --out NEXT it is kept, for the next plan.\n".into(),
-    };
-    let figures = cluster
-        .figures(&plan.layout, plan.size)
-        .map_err(unforeseen)?;
-    let overview = Overview {
-        described: &described,
-        plan: &plan,
-        figures: &figures,
-    };
+    let overview = Overview::new(&described, &plan).map_err(unforeseen)?;
     let transfers = Transfers::between(&cluster.nodes, &cluster.former, &plan.layout);
-    let moved = match former {
-        Some(_) => transfers_in_words(&transfers),
-        None => format!(
-            "Transfers: there was no layout before, all {} are new.\n",
-            count(transfers.all_received(), "copy", "copies")
-        ),
-    };
     let text = [
         heading(file, cluster),
         overview.boxes(Some(&transfers)),
@@ -79,11 +57,24 @@ fn plan(
         overview.zones(),
         "\n".into(),
         overview.size(),
-        moved,
+        match former {
+            Some(_) => transfers_in_words(&transfers),
+            None => first_transfers_in_words(&transfers),
+        },
         overview.verdict(),
-        kept,
+        keep(&plan, out)?,
     ];
     Ok(text.concat().into())
+}
+
+/// Writes the plan's layout record, if it is to be written; what to say of it.
+fn keep(plan: &Plan, out: Option<&Path>) -> Result<String, Failure> {
+    let Some(out) = out else {
+        return Ok("Not written: with --out NEXT it is kept, for the next plan.\n".into());
+    };
+    let record = plan.to_record().map_err(unforeseen)?;
+    files::write_whole(out, &record)?;
+    Ok(format!("Written to {}.\n", out.display()))
 }
 
 fn check(file: &Path, layout: &Path) -> Result<Vec<u8>, Failure> {
@@ -105,15 +96,8 @@ fn check(file: &Path, layout: &Path) -> Result<Vec<u8>, Failure> {
 fn show(file: &Path, layout: &Path) -> Result<Vec<u8>, Failure> {
     let described = describe(file, None)?;
     let plan = files::read_plan(layout)?;
-    let figures = described
-        .cluster
-        .figures(&plan.layout, plan.size)
+    let overview = Overview::new(&described, &plan)
         .map_err(|refused| Failure::Refused(explain::not_valid(&described, &plan, refused)))?;
-    let overview = Overview {
-        described: &described,
-        plan: &plan,
-        figures: &figures,
-    };
     let text = [
         heading(file, &described.cluster),
         overview.boxes(None),

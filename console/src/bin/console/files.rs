@@ -45,8 +45,8 @@ fn read_at_most(path: &Path, most: u64) -> Result<Vec<u8>, Failure> {
     Ok(bytes)
 }
 
-/// Puts the bytes into the file. Should anything fail, power included, what was there stays whole: they
-/// go into a new file beside it, which then takes its name.
+/// Puts the bytes into the file. Should anything fail, power included, what was there stays whole:
+/// they go into a new file beside it, which then takes its name.
 pub fn write_whole(path: &Path, bytes: &[u8]) -> Result<(), Failure> {
     replace(path, bytes)
         .map_err(|error| Failure::bad(format!("{}: not written: {error}", path.display())))

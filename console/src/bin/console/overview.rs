@@ -4,13 +4,13 @@ use crate::cluster_file::Described;
 use crate::table::{self, Column, Side};
 use crate::transfers::Transfers;
 use crate::units::{count, percent, thousands, Unit};
-use dezghuri::{Figures, Plan, Verdict};
+use dezghuri::{Figures, Plan, Refused, Verdict};
 
 /// A plan of a described cluster, with its copies counted.
 pub struct Overview<'a> {
-    pub described: &'a Described,
-    pub plan: &'a Plan,
-    pub figures: &'a Figures,
+    described: &'a Described,
+    plan: &'a Plan,
+    figures: Figures,
 }
 
 /// What a line of a table holds on its disks.
@@ -20,7 +20,17 @@ struct Held {
     copies: u64,
 }
 
-impl Overview<'_> {
+impl<'a> Overview<'a> {
+    /// Counts the copies; refused where the plan is not valid for the cluster.
+    pub fn new(described: &'a Described, plan: &'a Plan) -> Result<Overview<'a>, Refused> {
+        let figures = described.cluster.figures(&plan.layout, plan.size)?;
+        Ok(Overview {
+            described,
+            plan,
+            figures,
+        })
+    }
+
     /// The table of the boxes, with the transfers if there is a former layout.
     pub fn boxes(&self, transfers: Option<&Transfers>) -> String {
         let nodes = &self.described.cluster.nodes;
@@ -139,6 +149,14 @@ impl Overview<'_> {
             number("share", &|line| percent(used(line), line.capacity)),
         ]
     }
+}
+
+/// What the transfers come to where there was no layout before.
+pub fn first_transfers_in_words(transfers: &Transfers) -> String {
+    format!(
+        "Transfers: there was no layout before, all {} are new.\n",
+        count(transfers.all_received(), "copy", "copies")
+    )
 }
 
 /// What the transfers come to.

@@ -1,7 +1,7 @@
 //! Capacities as people write and read them.
 
-/// The megabytes of a capacity: a number of megabytes, or one that ends in M, G or T (or MB, GB, TB),
-/// by thousands, as disks are sold.
+/// The megabytes of a capacity: a number of megabytes, or one that ends in M, G or T (or MB, GB,
+/// TB), by thousands, as disks are sold.
 pub fn megabytes(word: &str) -> Result<u32, String> {
     let end = word.find(|c: char| !c.is_ascii_digit() && c != '.');
     let (number, unit) = word.split_at(end.unwrap_or(word.len()));
