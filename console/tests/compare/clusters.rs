@@ -1,7 +1,7 @@
 //! Random clusters and former layouts.
 
 use reference::random::Random;
-use reference::{Cluster, Layout, Node};
+use reference::{report, Cluster, Layout, Node};
 
 /// The bounds of a kind of cluster.
 #[derive(Clone, Copy)]
@@ -31,10 +31,15 @@ pub const MEDIUM: Kind = Kind {
 /// A cluster, at times with capacities of 0, with equal capacities, or with more zones wanted than
 /// there are.
 pub fn cluster(kind: Kind, r: &mut Random) -> Cluster {
-    let bits = r.between(0, kind.most_bits) as u32;
+    let bits = if r.chance(15) {
+        0
+    } else {
+        r.between(1, kind.most_bits)
+    } as u32;
     let replication = r.between(1, kind.most_replication) as usize;
     let redundancy = r.between(1, replication as u64) as usize;
-    let number = r.between(0, kind.most_nodes);
+    let few = if r.chance(80) { replication as u64 } else { 0 };
+    let number = r.between(few, kind.most_nodes);
     let zones = r.between(1, number.max(1));
     let equal = r.chance(20).then(|| r.between(1, kind.most_capacity));
     let mut id = 0;
@@ -76,7 +81,7 @@ fn zone(place: u64) -> u16 {
 /// A former layout: at times none, at times with rows that are longer than the replication; some of
 /// its nodes are gone.
 pub fn former(c: &Cluster, r: &mut Random) -> Layout {
-    let density = [0, 20, 40, 60, 90][r.below(5) as usize];
+    let density = if r.chance(8) { 0 } else { r.between(10, 90) };
     let gone = [0, 5, 30][r.below(3) as usize];
     let last = c.nodes.last().map_or(3, |node| node.id + 3);
     let holds = |id: u32, r: &mut Random| {
@@ -87,10 +92,31 @@ pub fn former(c: &Cluster, r: &mut Random) -> Layout {
     (0..c.partitions()).map(|_| row()).collect()
 }
 
-/// The layout before something changed: a plan's layout, some of whose copies have moved.
-pub fn moved(c: &Cluster, layout: &Layout, percent: u64, r: &mut Random) -> Layout {
-    let mut moved = layout.clone();
-    for row in &mut moved {
+/// A cluster with a former layout and another one. At times the former layout is nearly right, or
+/// was so before a node went and another one changed.
+pub fn case(kind: Kind, r: &mut Random) -> (Cluster, Layout, Layout) {
+    let mut c = cluster(kind, r);
+    let (mut former, other) = (self::former(&c, r), self::former(&c, r));
+    if r.chance(60) {
+        return (c, former, other);
+    }
+    if let Some(near) = report::plan(&c, &other) {
+        let percent = r.between(0, 30);
+        former = moved(&c, near.layout, percent, r);
+        if r.chance(50) {
+            let gone = r.below(c.nodes.len() as u64) as usize;
+            c.nodes.remove(gone);
+        }
+        if let Some(node) = c.nodes.first_mut() {
+            node.capacity = capacity(kind, r) as u32;
+        }
+    }
+    (c, former, other)
+}
+
+/// The layout after so many percent of its copies have moved to other nodes of the cluster.
+fn moved(c: &Cluster, mut layout: Layout, percent: u64, r: &mut Random) -> Layout {
+    for row in &mut layout {
         for id in row.iter_mut() {
             if r.chance(percent) {
                 *id = c.nodes[r.below(c.nodes.len() as u64) as usize].id;
@@ -99,5 +125,5 @@ pub fn moved(c: &Cluster, layout: &Layout, percent: u64, r: &mut Random) -> Layo
         row.sort_unstable();
         row.dedup();
     }
-    moved
+    layout
 }
