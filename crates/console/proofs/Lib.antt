@@ -1,0 +1,6 @@
+pub mod Answered
+pub mod CheckAnswers
+pub mod ClusterAnswers
+pub mod NodeCells
+pub mod RecordAnswers
+pub mod RowAnswers
