@@ -27,11 +27,11 @@ module _ (r : ReadCluster) (assignment : List ℕ) (size : ℕ) where
     unfolding figured figuresLeft
     figured-refused n = let t = ne-eqb (r .refusal) 0 n in (simp t, simp t)
 
-    pub figured-read : r .refusal ≡ 0
-        → (figuresOf (r .cluster) assignment size figures ≡ figured r assignment size figures)
-        × (figuresIn (r .cluster) assignment size figures ≡ figuresLeft r assignment size figures)
+    pub figured-read : r .refusal ≡ 0 → (f : Figured) (left : List ℕ) → f ≡ figuresOf (r .cluster) assignment size figures
+        → left ≡ figuresIn (r .cluster) assignment size figures
+        → (f ≡ figured r assignment size figures) × (left ≡ figuresLeft r assignment size figures)
     unfolding figured figuresLeft
-    figured-read e = let t = eq-eqb (r .refusal) 0 e in (simp t, simp t)
+    figured-read e f left e-f e-left = let t = eq-eqb (r .refusal) 0 e in (simp t e-f, simp t e-left)
 
 module _ (s assignment : List ℕ) (size : ℕ) (answer : List ℕ) where
   pub check-short : length answer < 3 → (8 ≡ checkRefusal s assignment size answer) × (answer ≡ checkAnswer s assignment size answer)

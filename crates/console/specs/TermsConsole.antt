@@ -5,9 +5,9 @@ use Prim.Native.Nat.{ℕ, _/_, _%_, _^_}
 use mathlib.Core.List.{List, [], _∷_, _++_}
 use lib.Dec.{ltb, eqb}
 use lib.ListN.{length, drop}
-use Rattle.sums.specs.Sum.{pick}
+use Rattle.sums.specs.Sum.{pick, one-if}
 use Rattle.cluster.specs.Limits.{rowCells}
-use Rattle.cluster.specs.TermsCells.{rowAt}
+use Rattle.cluster.specs.TermsCells.{rowAt, cellsOf}
 use Rattle.cluster.specs.declared.Node.{Node}
 use Rattle.cluster_record.specs.RecordClusterFaults.{readCluster}
 use Rattle.cluster_record.specs.RecordClusterAnswer.{answerOf, readAnswer, formerAfter}
@@ -20,6 +20,8 @@ use Rattle.layouts.specs.TermsFigures.{figuresOf, figuresIn}
 use Rattle.layouts.specs.TermsShow.{showCode}
 use Rattle.layouts.specs.declared.check.Checked.{Checked}
 use Rattle.layouts.specs.declared.figures.Figured.{Figured}
+use Rattle.planner.specs.TermsPlan.{refusedWith, plannedOf, assignmentAfter as assignmentPlanned, scratchAfter}
+use Rattle.planner.specs.declared.Planned.{Planned}
 
 -- ---- lent cells
 
@@ -111,6 +113,44 @@ unfoldable pub figuresAnswer : List ℕ → List ℕ → ℕ → List ℕ → Li
 figuresAnswer s assignment size figures answer =
     let f = figured (reading s) assignment size figures in
     answered 5 (halves (reading s .byte) ++ (f .place ∷ halves (f .hope))) answer
+
+-- ---- planning
+
+-- The former layout that a record carries, as cells; it is not looked at where the reading is refused.
+unfoldable pub formerIn : List ℕ → List ℕ
+formerIn s = cellsOf (readCluster s .former)
+
+-- The same of planning: r is the reading, `former` the cells of its former layout; of scratch only its length matters.
+unfoldable pub planned : ReadCluster → List ℕ → ℕ → ℕ → ℕ → Planned
+planned r former allowance assignment scratch =
+    pick (eqb (r .refusal) 0) (plannedOf (r .cluster) former allowance assignment scratch) (refusedWith (r .refusal))
+
+-- "assignment and scratch as planning lays down; kept when reading refuses"
+unfoldable pub plannedAssignment : ReadCluster → List ℕ → ℕ → List ℕ → ℕ → List ℕ
+plannedAssignment r former allowance assignment scratch =
+    pick (eqb (r .refusal) 0) (assignmentPlanned (r .cluster) former allowance assignment scratch) assignment
+
+unfoldable pub plannedScratch : ReadCluster → List ℕ → ℕ → List ℕ → List ℕ
+plannedScratch r former assignment scratch =
+    pick (eqb (r .refusal) 0) (scratchAfter (r .cluster) former assignment scratch) scratch
+
+unfoldable pub planRefusal : List ℕ → ℕ → List ℕ → List ℕ → List ℕ → ℕ
+planRefusal s allowance assignment scratch answer =
+    unlessShort 6 answer 8 (planned (reading s) (formerIn s) allowance (length assignment) (length scratch) .refusal)
+
+unfoldable pub planAssignment : List ℕ → ℕ → List ℕ → List ℕ → List ℕ → List ℕ
+planAssignment s allowance assignment scratch answer =
+    unlessShort 6 answer assignment (plannedAssignment (reading s) (formerIn s) allowance assignment (length scratch))
+
+unfoldable pub planScratch : List ℕ → List ℕ → List ℕ → List ℕ → List ℕ
+planScratch s assignment scratch answer =
+    unlessShort 6 answer scratch (plannedScratch (reading s) (formerIn s) (length assignment) scratch)
+
+-- "byte; size; distance; verdict; improvements"; the verdict is 1 for finished, else 0.
+unfoldable pub planAnswer : List ℕ → ℕ → List ℕ → List ℕ → List ℕ → List ℕ
+planAnswer s allowance assignment scratch answer =
+    let p = planned (reading s) (formerIn s) allowance (length assignment) (length scratch) in
+    answered 6 (halves (reading s .byte) ++ (p .size ∷ p .distance ∷ one-if (p .finished) ∷ p .improvements ∷ [])) answer
 
 -- ---- showing a row
 

@@ -6,4 +6,5 @@ pub mod cluster_in;
 pub mod figure;
 pub mod layout_in;
 pub mod layout_out;
+pub mod plan;
 pub mod row;

@@ -1,7 +1,6 @@
 -- `console::figure::figures_read` meets its contract.
 -- Assumes nothing.
 use borrow.Author.Needs.{needs}
-use mathlib.Core.Path.{_∙_}
 use Rattle.console.proofs.CheckAnswers.{figured-refused, figured-read}
 use Rattle.console.proofs.figure.figures_read.Statement.{statement}
 use Rattle.console.proofs.figure.figures_read.Tie as tie
@@ -22,8 +21,7 @@ returns-2 c =
     let k = c .before .before in
     let t = k .before .before .before in
     let a = t .before .before .before .before .args in
-    let w = figured-read (a .read) (a .assignment .now) (a .size) (a .figures .now) (t .if1 .left) in
-    (k .figures .ensures .0 ∙ w .0, k .figures .ensures .1 ∙ w .1)
+    figured-read (a .read) (a .assignment .now) (a .size) (a .figures .now) (t .if1 .left) (k .figures .result) (k .figures .last .1 .1 .1 .0) (k .figures .ensures .0) (k .figures .ensures .1)
 
 pub figures-read-spec : {M : Type 1} → statement M
 figures-read-spec = tie.close (tie.spec returns figures-requires same-length returns-2)
