@@ -10,7 +10,8 @@ use borrow.Author.Tests.{lt-ltb, le-ltb}
 use Rattle.cluster.specs.Terms.{Topology, noNode}
 use Rattle.cluster_record.specs.RecordClusterAnswer.{slotsOf, outcomeOf, answerOf, readAnswer, formerAfter}
 use Rattle.cluster_record.specs.declared.ReadCluster.{ReadCluster}
-use Rattle.console.specs.TermsConsole.{answered, nodeCells, clusterNumbers, readClusterRefusal, readClusterFormer, readClusterAnswer}
+use Rattle.cluster_record.proofs.Answers.{long-answer}
+use Rattle.console.specs.TermsConsole.{answered, reading, nodeCells, clusterNumbers, readClusterRefusal, readClusterFormer, readClusterAnswer}
 use Rattle.console.proofs.Answered.{answered-long}
 
 -- A cluster that is read has no more nodes than slots.
@@ -23,6 +24,11 @@ module _ (s former : List ℕ) (r : ReadCluster) (e-read : r ≡ readAnswer s fo
   unfolding readAnswer answerOf
   read-few =
       subst (λ (x : ReadCluster). length (x .cluster .nodes) ≡ 32 → x .cluster .count ≤ 32) (sym e-read) (slots-few (outcomeOf s former .cluster))
+
+  -- Cells that are long enough leave the reading to the record.
+  pub read-whole : 2048 ≤ length former → r ≡ reading s
+  unfolding reading
+  read-whole h = e-read ∙ long-answer s former h
 
 module _ (s former answer : List ℕ) where
   pub read-cluster-short : length answer < 102

@@ -13,10 +13,11 @@ use Rattle.cluster.specs.TermsCells.{cellsOf}
 use Rattle.cluster_record.specs.RecordClusterFaults.{readCluster}
 use Rattle.cluster_record.specs.RecordClusterAnswer.{answerOf, readAnswer, formerAfter}
 use Rattle.cluster_record.specs.declared.ReadCluster.{ReadCluster}
-use Rattle.cluster_record.proofs.Answers.{long-answer, accepted-former}
+use Rattle.cluster_record.proofs.Answers.{accepted-former}
 use Rattle.planner.specs.TermsPlan.{refusedWith, plannedOf, assignmentAfter, scratchAfter}
 use Rattle.planner.specs.declared.Planned.{Planned}
 use Rattle.console.specs.TermsConsole.{answered, reading, formerIn, planned, plannedAssignment, plannedScratch, planRefusal, planAssignment, planScratch, planAnswer}
+use Rattle.console.proofs.ClusterAnswers.{read-whole}
 
 -- ---- the plan of a reading
 
@@ -59,8 +60,7 @@ module _ (s : List ℕ) (allowance : ℕ) (assignment scratch answer : List ℕ)
 
   module _ (r : ReadCluster) (f : List ℕ) (e-read : r ≡ readAnswer s zeros) (e-former : f ≡ formerAfter s zeros) where
     is-reading : r ≡ reading s
-    unfolding reading
-    is-reading = e-read ∙ long-answer s zeros zeros-long
+    is-reading = read-whole s zeros r e-read zeros-long
 
     -- An accepted record's former layout is in the cells.
     is-former : reading s .refusal ≡ 0 → f ≡ formerIn s
