@@ -3,6 +3,9 @@ ghost use mathlib.Core.Path.{_≡_};
 ghost use Prim.Native.Nat.{_<_, _^_};
 ghost use lib.ListN.{length};
 ghost use Rattle.fields.specs.RecordField.{has, bytesOf, numberAt, written, ruleOf, legalAs, fieldAt, Within, refusalOf, placeOf};
+use reader::Reader;
+
+mod reader;
 
 // The legal lengths of a body: from the least to the greatest, in steps.
 pub struct Rule {
@@ -185,7 +188,7 @@ fn is_legal(exact: usize, tag: usize, len: usize) -> bool
 
 // The field at byte `at`, where the tags of the set `allowed` are allowed next; where `exact` is not 0, no other length is legal.
 // It looks in this order: three bytes of tag and length, the tag, the length, the body.
-pub fn field_at(s: &[u8], at: usize, allowed: u32, exact: usize) -> Field
+fn field_in(s: &[u8], at: usize, allowed: u32, exact: usize) -> Field
     ensures { λ r. ⌜ (r ≡ fieldAt (now (s .entry)) at allowed exact) × Within (length (now (s .entry))) at allowed exact r ⌝ }
 {
     if !reaches(s.len(), at, 3) {
@@ -220,6 +223,13 @@ pub fn field_at(s: &[u8], at: usize, allowed: u32, exact: usize) -> Field
         start,
         len,
     }
+}
+
+// The same by a reader that stands at byte `at`. Its parameters are plain, so that whoever calls it needs no proof by hand.
+pub fn field_at(s: &[u8], at: usize, allowed: u32, exact: usize) -> Field
+    ensures { λ r. ⌜ (r ≡ fieldAt (now (s .entry)) at allowed exact) × Within (length (now (s .entry))) at allowed exact r ⌝ }
+{
+    reader::next(Reader { src: s, at }, allowed, exact)
 }
 
 // The refusal of a field that cannot be taken whole; 0 for a whole field.

@@ -1,4 +1,7 @@
-pub mod Runs
 pub mod Rules
 pub mod Machines
 pub mod Demands
+pub mod Refusals
+pub mod Settling
+pub mod Planning
+pub mod Only

@@ -10,14 +10,14 @@ use native.Mathlib.Omega.{arith}
 use native.Mathlib.Nat.{mul-le-mul, mul-one, mul-zero, one-mul, zero-mul, pow-le-pow-right, zero-add}
 use lib.Dec.{eqb, leb}
 use lib.Pow.{pow-pos}
-use lib.ListN.{length, getD, drop, replicate, length-replicate, length-append}
+use lib.ListN.{length, getD, drop, replicate, length-replicate, length-append, length-drop, List·getD-append}
 use borrow.Author.Tests.{eq-eqb, ne-eqb, le-leb}
 use Rattle.sums.specs.Sum.{sumTo, one-if}
 use Rattle.sums.proofs.Sum.{lt-or-ge, eq-or-ne, sum-cong, sum-zero, sum-le, sum-const}
 use Rattle.sets.specs.Bits.{bit, maskOf, meetOf, belowOf, countOf}
 use Rattle.sets.proofs.Laws.{bit-le, bit-lt, bit-high, bit-mask-high, mask-lt, bit-maskOf, bit-meet, meet-lt, count-sum}
 use Rattle.cells.specs.Cells.{put, tab}
-use Rattle.cells.proofs.Cells.{length-put, getD-put-in, length-tab}
+use Rattle.cells.proofs.Cells.{length-put, getD-put-in, length-tab, getD-tab}
 use Rattle.exchange.specs.Row.{Valid, Within, Exchange, Agree, copies, weigh}
 use Rattle.exchange.specs.Levels.{Outcome, Potential, Cycle, outcome, back, cycleLength, IsCycle}
 use Rattle.exchange.specs.Circuit.{cost, Allowed, Better}
@@ -47,9 +47,10 @@ use Rattle.cycles.specs.ModelGraph.{graphOf, arcOf, weightOf}
 use Rattle.cycles.specs.ModelFound.{searchable, endLength, endWalk, foundLength, foundWalk}
 use Rattle.circuits.specs.ModelCircuits.{turnedOf, okOf, witnessOf}
 use Rattle.circuits.proofs.Improving.{ok-right, witness-graph, turned-length, held-cycle, turned-small, turned-better}
-use Rattle.planner.specs.Run.{Ran, after, run}
-use Rattle.planner.specs.ModelRun.{arcsIn, cycleIn, improvesIn, nextIn, agreementIn, bitsAt, matesOf, formerMasks, startRows, layoutRows, farRows, improvesAt, nextAt}
-use Rattle.planner.proofs.Runs.{true-or-false, not-both}
+use Rattle.improve.specs.Run.{Ran, after, run}
+use Rattle.improve.specs.ModelImprove.{arcsIn, cycleIn, improvesIn, nextIn, agreementIn}
+use Rattle.planner.specs.ModelRun.{bitsAt, matesOf, formerMasks, startRows, layoutRows, farRows, improvesAt, nextAt}
+use Rattle.improve.proofs.Runs.{true-or-false, not-both}
 use Rattle.planner.proofs.Rules.{Machine}
 
 -- ---- a cluster with a layout
@@ -74,7 +75,7 @@ module _ (t : Topology) (acc : Accepted t) where
   cap = capAt t (sizeOf t)
 
   -- At most 256 partitions.
-  few-partitions : P ≤ 256
+  pub few-partitions : P ≤ 256
   few-partitions = pow-le-pow-right {n = 2} (omega arith) (acc .bits)
 
   -- The sets of the nodes of each zone.
@@ -125,16 +126,24 @@ module _ (t : Topology) (acc : Accepted t) where
     abbrev fm : List ℕ
     fm = formerMasks t F
 
-    fm-long : length fm ≡ bufferRows
+    pub fm-long : length fm ≡ bufferRows
     unfolding formerMasks
-    fm-long = length-put 0 (λ p. maskOf (incidence t F p) N) P (replicate bufferRows 0) ∙ length-replicate {A = ℕ} bufferRows 0
+    fm-long =
+        omega (
+          arith,
+          length-append (tab (λ p. maskOf (incidence t F p) N) P) (drop P (replicate bufferRows 0)),
+          length-tab (λ p. maskOf (incidence t F p) N) P,
+          length-drop P (replicate {A = ℕ} bufferRows 0),
+          length-replicate {A = ℕ} bufferRows 0,
+          few-partitions,
+        )
 
     fm-cell : (p : ℕ) → p < P → getD fm p 0 ≡ maskOf (incidence t F p) N
     unfolding formerMasks
     fm-cell p l =
-        ap (λ (i : ℕ). getD (put 0 (λ p. maskOf (incidence t F p) N) P (replicate bufferRows 0)) i 0) (sym (zero-add p))
-        ∙ getD-put-in 0 (λ p. maskOf (incidence t F p) N) P (replicate bufferRows 0) p 0 l
-        (omega (arith, few-partitions, length-replicate {A = ℕ} bufferRows 0))
+        List·getD-append (tab (λ p. maskOf (incidence t F p) N) P) (drop P (replicate bufferRows 0)) 0 p
+        (omega (arith, length-tab (λ p. maskOf (incidence t F p) N) P))
+        ∙ getD-tab (λ p. maskOf (incidence t F p) N) P p 0 l
 
     fm-bit : (p : ℕ) → p < P → (b : ℕ) → b < N → bitsAt fm p b ≡ incidence t F p b
     fm-bit p l b k = ap (λ (x : ℕ). bit x b) (fm-cell p l) ∙ bit-maskOf (incidence t F p) N b k (incidence-le t F p b)

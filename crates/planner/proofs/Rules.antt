@@ -10,9 +10,9 @@ use native.Mathlib.Nat.{min-eq-left, min-eq-right}
 use lib.ListN.{length}
 use Rattle.sums.proofs.Sum.{lt-or-ge}
 use Rattle.cluster.specs.Terms.{Topology, partitions, Layout, row, ValidAt, IsSize, distance}
-use Rattle.planner.specs.Run.{Ran, after, run}
+use Rattle.improve.specs.Run.{Ran, after, run}
 use Rattle.planner.specs.Demand.{Answer, Finished, Stopped, Rules}
-use Rattle.planner.proofs.Runs.{not-both, true-or-false, Run, run-is, after-next, stopped-improves, finished-done, stopped-spent, finished-larger, finished-smallest, stopped-next}
+use Rattle.improve.proofs.Runs.{not-both, true-or-false, Run, run-is, after-next, stopped-improves, finished-done, stopped-spent, finished-larger, finished-smallest, stopped-next}
 
 module _ (t : Topology) (F : Layout) (s : ℕ) {A : Type 0} (improves : A → Bool) (next : A → A) (lay : A → Layout) (far : A → ℕ) (start : A) (Good : A → Type 0) where
   -- States that stand for layouts valid at the size s: an improvement brings the layout nearer, and where there is none, no layout is nearer.
@@ -46,17 +46,15 @@ module _ (t : Topology) (F : Layout) (s : ℕ) {A : Type 0} (improves : A → Bo
         subst (λ (x : A). Good x × (far x + 2 * suc n ≤ far start)) (sym (after-next improves next n start))
         (machine .stays _ (w .0) can, omega (arith, w .1, machine .falls _ (w .0) can))
 
-    state : ℕ → A
+    abbrev state : ℕ → A
     state a = run improves next a start .state
 
-    good : (a : ℕ) → Good (state a)
-    unfolding state
+    pub good : (a : ℕ) → Good (state a)
     good a =
         let x = run-is improves next a start in
         subst Good (sym (x .there)) (on-the-way (run improves next a start .steps) (x .before) .0)
 
     stopped : (a : ℕ) → run improves next a start .finished ≡ false → Stopped t answer a
-    unfolding state
     stopped a e =
         let can = stopped-improves improves next start a e in
         let to = stopped-next improves next start a e in
@@ -74,7 +72,6 @@ module _ (t : Topology) (F : Layout) (s : ℕ) {A : Type 0} (improves : A → Bo
         ap (λ (r : Ran A). record { layout = lay (r .state); size = s; distance = far (r .state); finished = r .finished; improvements = r .steps }) e
 
     finished : (a : ℕ) → run improves next a start .finished ≡ true → Finished t F answer a
-    unfolding state
     finished a e =
         let m = run improves next a start .steps in
         record {
@@ -86,7 +83,6 @@ module _ (t : Topology) (F : Layout) (s : ℕ) {A : Type 0} (improves : A → Bo
 
     -- 2,048 improvements always finish: each brings the layout two nearer, and it is at most twice as far from the nearest.
     enough : run improves next 2048 start .finished ≡ true
-    unfolding state
     enough =
         ⊎-elim (λ e. e)
         (λ e.
@@ -120,7 +116,6 @@ module _ (t : Topology) (F : Layout) (s : ℕ) {A : Type 0} (improves : A → Bo
         (true-or-false (run improves next a start .finished))
 
     exactly : (a : ℕ) → ((L : Layout) → ValidAt t L s → far (state a) ≤ distance t L F) → run improves next a start .finished ≡ true
-    unfolding state
     exactly a h =
         ⊎-elim (λ e. e)
         (λ e.
@@ -137,7 +132,7 @@ module _ (t : Topology) (F : Layout) (s : ℕ) {A : Type 0} (improves : A → Bo
 
     -- The rules hold of the answers of such a machine.
     pub rules : (beginning : Layout) → lay start ≡ beginning → Rules t beginning F answer
-    unfolding state run
+    unfolding run
     rules beginning e =
         record {
           size = λ a. machine .sized;

@@ -2,49 +2,18 @@
 -- allowance is spent. Nobody has to believe this file: the theorem of proofs/Demands.antt says in the paper's terms what it achieves.
 -- Assumes nothing.
 use Prim.Native.Nat.{ℕ, _+_, _-_, _*_}
-use mathlib.Core.Bool.{Bool, not, cond, _&&_}
-use mathlib.Core.List.{List}
-use lib.Dec.{eqb}
-use lib.ListN.{getD, replicate}
-use Rattle.sums.specs.Sum.{sumTo}
-use Rattle.sets.specs.Bits.{bit, maskOf, meetOf, belowOf, countOf}
-use Rattle.cells.specs.Cells.{put}
+use mathlib.Core.Bool.{Bool}
+use mathlib.Core.List.{List, _++_}
+use lib.ListN.{getD, drop, replicate}
+use Rattle.sets.specs.Bits.{bit, maskOf}
+use Rattle.cells.specs.Cells.{tab}
 use Rattle.cluster.specs.Limits.{bufferRows}
 use Rattle.cluster.specs.Terms.{Topology, partitions, Layout}
 use Rattle.cluster.specs.Tie.{incidence, layoutOf, formerPairs}
 use Rattle.sizing.specs.Model.{nodesOf, zoneCells, mateCells, capCells, sizeOf, dealtRows}
-use Rattle.graph.specs.ModelArcs.{arcsOf}
-use Rattle.cycles.specs.ModelFound.{foundLength, foundWalk}
-use Rattle.circuits.specs.ModelCircuits.{turnedOf}
-use Rattle.planner.specs.Run.{Ran, run}
+use Rattle.improve.specs.Run.{Ran}
+use Rattle.improve.specs.ModelImprove.{improvesIn, nextIn, ranIn, agreementIn}
 use Rattle.planner.specs.Demand.{Answer}
-
--- ---- one improvement, over lists of masks
-
-module _ (former : List ℕ) (P : ℕ) (mates caps : List ℕ) (n z : ℕ) where
-  -- The masks of the exchange graph of the rows.
-  unfoldable pub arcsIn : List ℕ → List ℕ
-  arcsIn rows = arcsOf rows former P mates caps (belowOf n) z (replicate 96 0)
-
-  -- The length of the cycle that is found in it, 0 where there is none.
-  unfoldable pub cycleIn : List ℕ → ℕ
-  cycleIn rows = foundLength (arcsIn rows) n (replicate 33 0)
-
-  -- Whether the rows can be improved.
-  unfoldable pub improvesIn : List ℕ → Bool
-  improvesIn rows = not (eqb (cycleIn rows) 0)
-
-  -- The rows after the exchanges of the cycle.
-  unfoldable pub nextIn : List ℕ → List ℕ
-  nextIn rows = turnedOf rows former P mates (arcsIn rows) (belowOf n) z (foundWalk (arcsIn rows) n (replicate 33 0)) (cycleIn rows)
-
-  -- The rows after an improvement, if there is one and it is allowed.
-  unfoldable pub steppedIn : Bool → List ℕ → List ℕ
-  steppedIn allowed rows = cond (improvesIn rows && allowed) (nextIn rows) rows
-
--- How many pairs the rows share with the former rows.
-unfoldable pub agreementIn : List ℕ → List ℕ → ℕ → ℕ
-agreementIn rows former P = sumTo P (λ p. countOf (meetOf (getD rows p 0) (getD former p 0)))
 
 -- ---- the plan of a topology
 
@@ -58,7 +27,7 @@ matesOf t = mateCells (zoneCells t) (nodesOf t)
 
 -- The former rows, cut to the nodes of the cluster.
 unfoldable pub formerMasks : Topology → Layout → List ℕ
-formerMasks t F = put 0 (λ p. maskOf (incidence t F p) (nodesOf t)) (partitions t) (replicate bufferRows 0)
+formerMasks t F = tab (λ p. maskOf (incidence t F p) (nodesOf t)) (partitions t) ++ drop (partitions t) (replicate bufferRows 0)
 
 -- The rows of the beginning.
 unfoldable pub startRows : Topology → List ℕ
@@ -79,9 +48,13 @@ improvesAt t F = improvesIn (formerMasks t F) (partitions t) (matesOf t) (capCel
 abbrev pub nextAt : Topology → Layout → List ℕ → List ℕ
 nextAt t F = nextIn (formerMasks t F) (partitions t) (matesOf t) (capCells t (sizeOf t)) (nodesOf t) (t .redundancy)
 
--- Where the run with an allowance ends.
-unfoldable pub ranOf : Topology → Layout → ℕ → Ran (List ℕ)
-ranOf t F a = run (improvesAt t F) (nextAt t F) a (startRows t)
+-- Where the run with an allowance ends, from the rows dealt at a size, `before` the former rows as masks.
+unfoldable pub ranFrom : Topology → ℕ → List ℕ → ℕ → Ran (List ℕ)
+ranFrom t s before a =
+    ranIn before (partitions t) (matesOf t) (capCells t s) (nodesOf t) (t .redundancy) a (dealtRows t s (replicate bufferRows 0))
+
+abbrev pub ranOf : Topology → Layout → ℕ → Ran (List ℕ)
+ranOf t F a = ranFrom t (sizeOf t) (formerMasks t F) a
 
 -- The answer of planning, of the nodes in use, the first P former rows and the allowance alone.
 unfoldable pub planOf : Topology → Layout → ℕ → Answer

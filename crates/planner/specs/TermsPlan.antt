@@ -1,28 +1,33 @@
 -- What planning refuses, answers and leaves in the lent buffers.
 -- Assumes nothing.
-use Prim.Native.Nat.{ℕ}
-use mathlib.Core.Bool.{Bool, true, false, not, _||_}
+use Prim.Native.Nat.{ℕ, zero, suc}
+use mathlib.Core.Path.{_≡_}
+use mathlib.Core.Bool.{Bool, true, false, _&&_, _||_}
 use mathlib.Core.List.{List, _++_}
 use lib.Dec.{ltb, eqb}
 use lib.ListN.{length, drop, replicate}
 use Rattle.sums.specs.Sum.{pick}
 use Rattle.cluster.specs.Limits.{layoutCells, scratchCells}
-use Rattle.cluster.specs.Terms.{Topology, topology, partitions, Layout}
-use Rattle.cluster.specs.TermsCells.{rowsIn, cellsOf}
+use Rattle.cluster.specs.Terms.{topology, partitions, Layout, ValidAt}
+use Rattle.cluster.specs.TermsCells.{rowAt, formed, rowsIn, cellsOf}
 use Rattle.cluster.specs.Faults.{faultOf}
 use Rattle.cluster.specs.declared.Cluster.{Cluster}
-use Rattle.masks.specs.Model.{rowsFormed}
 use Rattle.sizing.specs.Model.{sizeOf}
-use Rattle.planner.specs.Demand.{Answer}
+use Rattle.planner.specs.Demand.{Answer, Demand3}
 use Rattle.planner.specs.ModelRun.{planOf}
 use Rattle.planner.specs.declared.Planned.{Planned}
+
+-- Whether each of the first n rows is "rising ids followed by zeros".
+unfoldable pub formedRows : ℕ → List ℕ → Bool
+formedRows zero cells = true
+formedRows (suc n) cells = formedRows n cells && formed (rowAt cells n)
 
 -- "8: any buffer too short. 6: more than 32 boxes. 4: bits, replication, redundancy or an id out of range. 5: ids not rising, or one of the
 -- first P former rows not rising ids followed by zeros."
 unfoldable pub unusable : Cluster → List ℕ → ℕ → ℕ → ℕ
 unusable c former assignment scratch =
     pick (ltb (length former) layoutCells || ltb assignment layoutCells || ltb scratch scratchCells) 8
-    (pick (eqb (faultOf c) 0) (pick (rowsFormed former (partitions (topology c))) 0 5) (faultOf c))
+    (pick (eqb (faultOf c) 0) (pick (formedRows (partitions (topology c)) former) 0 5) (faultOf c))
 
 -- "9: no layout is valid at size 1", where nothing else is refused. That the size found is 0 exactly then is a theorem.
 unfoldable pub planRefusal : Cluster → List ℕ → ℕ → ℕ → ℕ
@@ -54,3 +59,11 @@ assignmentAfter c former a assignment scratch =
 unfoldable pub scratchAfter : Cluster → List ℕ → ℕ → List ℕ → List ℕ
 scratchAfter c former assignment scratch =
     pick (eqb (unusable c former assignment (length scratch)) 0) (replicate scratchCells 0 ++ drop scratchCells scratch) scratch
+
+-- What is owed to a call that finds no other fault, a and s the lengths of assignment and scratch.
+pub record Owed (c : Cluster) (former : List ℕ) (a s refusal : ℕ) : Type 0 where
+  -- "'No layout' (refusal 9) is answered to a planning call without other fault just when no valid layout of size 1 exists"
+  pub nine : unusable c former a s ≡ 0 → refusal ≡ 9 → (L : Layout) → ValidAt (topology c) L 1 → ⊥
+  pub none : unusable c former a s ≡ 0 → ((L : Layout) → ValidAt (topology c) L 1 → ⊥) → refusal ≡ 9
+  -- Demand 3, of the answers that this call and those with any other former layout and allowance give.
+  pub nearest : unusable c former a s ≡ 0 → (L : Layout) → ValidAt (topology c) L 1 → Demand3 (topology c) (planOf (topology c))

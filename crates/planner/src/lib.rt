@@ -1,8 +1,58 @@
 // Planning: the size, the beginning, the run of improvements, and the plan.
+ghost use mathlib.Core.Path.{_≡_};
+ghost use lib.ListN.{length};
+ghost use Rattle.planner.specs.TermsPlan.{plannedOf, assignmentAfter, scratchAfter, refusedWith, Owed};
+use cluster::Cluster;
+use cluster::refusal;
+
+mod prepare;
+mod refuse;
+mod settle;
+
+// What planning answers: the refusal, 0 for none, and the numbers of the plan, 0 where it is refused.
 pub struct Planned {
     pub refusal: u32,
     pub size: u32,
     pub distance: u32,
     pub finished: bool,
     pub improvements: u32,
+}
+
+// An answer that refuses.
+fn refused(number: u32) -> Planned
+    ensures { λ r. ⌜ r ≡ refusedWith number ⌝ }
+{
+    Planned {
+        refusal: number,
+        size: 0,
+        distance: 0,
+        finished: false,
+        improvements: 0,
+    }
+}
+
+// The plan of a cluster: the largest size, and a layout of that size that is nearest to the former one, or as near as the allowance of
+// improvements brings it. The assignment takes the layout, the scratch is zeroed.
+pub fn plan(
+    c: Cluster,
+    former: &[u32],
+    allowance: u16,
+    assignment: &mut [u32],
+    scratch: &mut [u32],
+) -> Planned
+    ensures { λ r. ⌜ (r ≡ plannedOf c (now (former .entry)) allowance (length (now (assignment .entry))) (length (now (scratch .entry))))
+        × (now (assignment .exit) ≡ assignmentAfter c (now (former .entry)) allowance (now (assignment .entry)) (length (now (scratch .entry))))
+        × (now (scratch .exit) ≡ scratchAfter c (now (former .entry)) (length (now (assignment .entry))) (now (scratch .entry)))
+        × Owed c (now (former .entry)) (length (now (assignment .entry))) (length (now (scratch .entry))) (r .refusal) ⌝ }
+{
+    let unusable = refuse::unusable(c, former, assignment.len(), scratch.len());
+    if unusable != 0 {
+        return refused(unusable);
+    }
+    prepare::clear(scratch);
+    let size = sizing::size(c);
+    if size == 0 {
+        return refused(refusal::NO_LAYOUT);
+    }
+    settle::settle(c, former, allowance as u32, size, assignment)
 }

@@ -7,7 +7,7 @@ use mathlib.Core.Logic.{_⊎_, inl, inr, ⊎-elim}
 use native.Mathlib.Omega.{arith}
 use native.Mathlib.Numerals.{one-add}
 use Rattle.sums.proofs.Sum.{lt-or-ge}
-use Rattle.planner.specs.Run.{Ran, later, after, run}
+use Rattle.improve.specs.Run.{Ran, later, after, run}
 
 -- A test is not both true and false.
 pub not-both : (b : Bool) → b ≡ true → b ≡ false → ⊥

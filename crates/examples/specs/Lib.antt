@@ -1,0 +1,2 @@
+pub mod TermsExamples
+pub mod ModelExamples

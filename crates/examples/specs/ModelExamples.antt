@@ -1,0 +1,125 @@
+-- A test of an example that computes: it lists every layout that could be valid, and looks at each. Nobody has to believe this file: that an
+-- example which passes holds is a theorem (proofs/Table.antt).
+-- Assumes nothing.
+use Prim.Native.Nat.{ℕ, zero, suc, _*_}
+use mathlib.Core.Bool.{Bool, true, false, not, _&&_, _||_}
+use mathlib.Core.List.{List, [], _∷_, _++_, map}
+use lib.Dec.{ltb, leb, eqb}
+use lib.ListN.{length}
+use Rattle.cluster.specs.Limits.{mostBits, mostCopies, mostNodes}
+use Rattle.cluster.specs.Terms.{Topology, partitions, idsOf, mem, rising, zonesOf, Layout, copiesIn, distance}
+use Rattle.cluster.specs.declared.Node.{Node}
+use Rattle.examples.specs.TermsExamples.{Rows, unnamed, named, Outcome, no-layout, planned, Example}
+
+-- ---- tests over a list
+
+-- A test holds of all of a list.
+unfoldable pub every : {A : Type 0} → (A → Bool) → List A → Bool
+every f [] = true
+every f (x ∷ xs) = f x && every f xs
+
+-- A test holds of one of a list.
+unfoldable pub some : {A : Type 0} → (A → Bool) → List A → Bool
+some f [] = false
+some f (x ∷ xs) = f x || some f xs
+
+-- The second test is asked only where the first holds.
+unfoldable pub implies : Bool → Bool → Bool
+implies true b = b
+implies false b = true
+
+-- ---- all candidates
+
+-- The rows of n ids out of a list, in its order.
+unfoldable pub choices : ℕ → List ℕ → List (List ℕ)
+choices zero ids = [] ∷ []
+choices (suc n) [] = []
+choices (suc n) (x ∷ xs) = map (λ (r : List ℕ). x ∷ r) (choices n xs) ++ choices (suc n) xs
+
+-- Each row of a list before each layout of another.
+unfoldable pub before : List (List ℕ) → List Layout → List Layout
+before [] rest = []
+before (r ∷ rs) rest = map (λ (L : Layout). r ∷ L) rest ++ before rs rest
+
+-- The layouts of n rows out of a list.
+unfoldable pub layoutsOf : ℕ → List (List ℕ) → List Layout
+layoutsOf zero rows = [] ∷ []
+layoutsOf (suc n) rows = before rows (layoutsOf n rows)
+
+-- The layouts that give each partition a row of R ids of the cluster.
+unfoldable pub candidates : Topology → List Layout
+candidates t = layoutsOf (partitions t) (choices (t .replication) (idsOf (t .nodes)))
+
+-- ---- the terms as tests
+
+-- ValidRow.
+unfoldable pub rowTest : Topology → List ℕ → Bool
+rowTest t r =
+    rising r
+    && (eqb (length r) (t .replication) && (every (λ (i : ℕ). mem i (idsOf (t .nodes))) r && leb (t .redundancy) (zonesOf (t .nodes) r)))
+
+-- What ValidAt asks of a node.
+unfoldable pub nodeTest : Layout → ℕ → Node → Bool
+nodeTest L s n = leb (copiesIn L (n .id) * s) (n .capacity)
+
+-- ValidAt.
+unfoldable pub validTest : Topology → Layout → ℕ → Bool
+validTest t L s = ltb 0 s && (eqb (length L) (partitions t) && (every (rowTest t) L && every (nodeTest L s) (t .nodes)))
+
+-- Accepted.
+unfoldable pub acceptedTest : Topology → Bool
+acceptedTest t =
+    leb (t .bits) mostBits
+    && (ltb 0 (t .replication)
+    && (leb (t .replication) mostCopies
+    && (ltb 0 (t .redundancy)
+    && (leb (t .redundancy) (t .replication) && (leb (length (t .nodes)) mostNodes && rising (idsOf (t .nodes)))))))
+
+-- What IsFormer asks of a row.
+unfoldable pub formerRowTest : List ℕ → Bool
+formerRowTest r = rising r && leb (length r) mostCopies
+
+-- IsFormer.
+unfoldable pub formerTest : Topology → Layout → Bool
+formerTest t F = eqb (length F) (partitions t) && every formerRowTest F
+
+-- Equality of rows, and of layouts.
+unfoldable pub sameRow : List ℕ → List ℕ → Bool
+sameRow [] [] = true
+sameRow [] (y ∷ ys) = false
+sameRow (x ∷ xs) [] = false
+sameRow (x ∷ xs) (y ∷ ys) = eqb x y && sameRow xs ys
+
+unfoldable pub sameLayout : Layout → Layout → Bool
+sameLayout [] [] = true
+sameLayout [] (q ∷ qs) = false
+sameLayout (r ∷ rs) [] = false
+sameLayout (r ∷ rs) (q ∷ qs) = sameRow r q && sameLayout rs qs
+
+-- HasRows.
+unfoldable pub rowsTest : Rows → Layout → Bool
+rowsTest unnamed L = true
+rowsTest (named M) L = sameLayout L M
+
+-- ---- the outcome
+
+-- A layout valid at the size, at the distance named.
+unfoldable pub nearest : Topology → Layout → ℕ → ℕ → Layout → Bool
+nearest t F s d L = validTest t L s && eqb (distance t L F) d
+
+-- A layout is not valid at a larger size; valid at the size it is no nearer than named; and nearest it has the rows named.
+unfoldable pub agrees : Topology → Layout → ℕ → ℕ → Rows → Layout → Bool
+agrees t F s d rows L =
+    not (validTest t L (suc s))
+    && (implies (validTest t L s) (leb d (distance t L F)) && implies (nearest t F s d L) (rowsTest rows L))
+
+-- Comes: one candidate is what the example says, and all agree with it.
+unfoldable pub outcomeTest : Topology → Layout → Outcome → Bool
+outcomeTest t F no-layout = every (λ (L : Layout). not (validTest t L 1)) (candidates t)
+outcomeTest t F (planned s d rows) = some (nearest t F s d) (candidates t) && every (agrees t F s d rows) (candidates t)
+
+-- An example passes.
+unfoldable pub passes : Example → Bool
+passes e =
+    acceptedTest (e .topology)
+    && (formerTest (e .topology) (e .former) && outcomeTest (e .topology) (e .former) (e .outcome))

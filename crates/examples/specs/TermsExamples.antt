@@ -1,0 +1,140 @@
+-- The starred examples of document 01's table, as one table with one proposition: "Those with a star are proved of the terms above, collected
+-- in one table with one proposition". They are stated of layouts, size and distance as crates/cluster/specs/Terms.antt defines them, for all
+-- layouts, and of no program. "Box" in the paper is a node here.
+-- Assumes nothing.
+use Prim.Native.Nat.{ℕ, _≤_}
+use mathlib.Core.Path.{_≡_}
+use mathlib.Core.List.{List, [], _∷_}
+use lib.ListN.{replicate}
+use Rattle.cluster.specs.Terms.{Topology, Layout, ValidAt, IsSize, IsFormer, distance}
+use Rattle.cluster.specs.Faults.{Accepted}
+use Rattle.cluster.specs.declared.Node.{Node}
+
+-- ---- what an example says
+
+-- Whether an example names the rows of the layout, and which they are.
+pub data Rows : Type 0 where
+  unnamed : Rows
+  named : Layout → Rows
+
+-- The column "outcome": 9, that no layout is valid at size 1; or the size, the distance, and the rows where they are named.
+pub data Outcome : Type 0 where
+  no-layout : Outcome
+  planned : ℕ → ℕ → Rows → Outcome
+
+-- A line of the table: "k, R, Z" and "boxes" are the topology, then "former" and "outcome".
+pub record Example : Type 0 where
+  pub topology : Topology
+  pub former : Layout
+  pub outcome : Outcome
+
+-- ---- what it means
+
+-- A layout has the rows that are named; where none are named, that says nothing.
+abbrev pub HasRows : Rows → Layout → Type 0
+HasRows unnamed L = Unit {0}
+HasRows (named M) L = L ≡ M
+
+-- Size s is the cluster's; d is the least distance of the layouts valid at it, and is reached; and each nearest layout has the rows named.
+pub record Planned (t : Topology) (F : Layout) (s d : ℕ) (rows : Rows) : Type 0 where
+  pub size : IsSize t s
+  pub reached : (L : Layout) × ValidAt t L s × (distance t L F ≡ d)
+  pub least : (L : Layout) → ValidAt t L s → d ≤ distance t L F
+  pub has-rows : (L : Layout) → ValidAt t L s → distance t L F ≡ d → HasRows rows L
+
+-- The outcome comes about. "9: no layout is valid at size 1."
+abbrev pub Comes : Topology → Layout → Outcome → Type 0
+Comes t F no-layout = (L : Layout) → ValidAt t L 1 → ⊥
+Comes t F (planned s d rows) = Planned t F s d rows
+
+-- An example holds: cluster and former layout are such as planning accepts, so that 6, 4 and 5 are no outcome, and the outcome is the one
+-- named.
+pub record Holds (e : Example) : Type 0 where
+  pub accepted : Accepted (e .topology)
+  pub is-former : IsFormer (e .topology) (e .former)
+  pub comes : Comes (e .topology) (e .former) (e .outcome)
+
+-- ---- the columns
+
+-- "Boxes as id/zone/capacity."
+abbrev pub node : ℕ → ℕ → ℕ → Node
+node i z c = record { id = i; zone = z; capacity = c }
+
+-- "k, R, Z", and the boxes.
+abbrev pub cluster : ℕ → ℕ → ℕ → List Node → Topology
+cluster k r z nodes = record { bits = k; replication = r; redundancy = z; nodes = nodes }
+
+-- Former "none", of so many partitions: "A partition without a row had no former copies."
+abbrev pub noCopies : ℕ → Layout
+noCopies partitions = replicate partitions []
+
+abbrev pub line : Topology → Layout → Outcome → Example
+line t F o = record { topology = t; former = F; outcome = o }
+
+-- ---- the lines. C and G name no distance: with no former copies it is "R times P".
+
+abbrev pub nodesA : List Node
+nodesA = node 1 1 100 ∷ node 2 1 70 ∷ node 3 2 50 ∷ []
+
+-- A: 1, 3, 2; 1/1/100 2/1/70 3/2/50; none; size 25, distance 6.
+abbrev pub A : Example
+A = line (cluster 1 3 2 nodesA) (noCopies 2) (planned 25 6 unnamed)
+
+-- B: 1, 3, 3; as A; none; 9.
+abbrev pub B : Example
+B = line (cluster 1 3 3 nodesA) (noCopies 2) no-layout
+
+-- C: 0, 1, 1; 1/1/5 2/1/9; none; size 9, row 2.
+abbrev pub C : Example
+C = line (cluster 0 1 1 (node 1 1 5 ∷ node 2 1 9 ∷ [])) (noCopies 1) (planned 9 1 (named ((2 ∷ []) ∷ [])))
+
+-- E: 1, 1, 1; 1/1/10 2/1/4; 0: 2, 1: 2; size 5, rows 1, 1, distance 4.
+abbrev pub E : Example
+E = line (cluster 1 1 1 (node 1 1 10 ∷ node 2 1 4 ∷ [])) ((2 ∷ []) ∷ (2 ∷ []) ∷ []) (planned 5 4 (named ((1 ∷ []) ∷ (1 ∷ []) ∷ [])))
+
+-- F: 1, 1, 1; 1/1/10 2/1/10; 0: 1, 1: 1; size 10, distance 2.
+abbrev pub F : Example
+F = line (cluster 1 1 1 (node 1 1 10 ∷ node 2 1 10 ∷ [])) ((1 ∷ []) ∷ (1 ∷ []) ∷ []) (planned 10 2 unnamed)
+
+-- G: 2, 1, 1; 1/1/c; none; an outcome for each c.
+abbrev pub G : ℕ → Outcome → Example
+G c o = line (cluster 2 1 1 (node 1 1 c ∷ [])) (noCopies 4) o
+
+-- H: 0, 1, 1; 1/1/10; 0: 9; size 10, distance 2.
+abbrev pub H : Example
+H = line (cluster 0 1 1 (node 1 1 10 ∷ [])) ((9 ∷ []) ∷ []) (planned 10 2 unnamed)
+
+-- I: 0, 1, 1; 1/1/5 2/1/5; 0: 1 2; size 5, distance 1.
+abbrev pub I : Example
+I = line (cluster 0 1 1 (node 1 1 5 ∷ node 2 1 5 ∷ [])) ((1 ∷ 2 ∷ []) ∷ []) (planned 5 1 unnamed)
+
+abbrev pub nodesK : List Node
+nodesK = node 1 1 9 ∷ node 2 1 9 ∷ node 3 1 9 ∷ node 4 2 1 ∷ []
+
+-- The row 1 2 3.
+abbrev pub row123 : List ℕ
+row123 = 1 ∷ 2 ∷ 3 ∷ []
+
+-- K: 0, 3, 2; 1/1/9 2/1/9 3/1/9 4/2/1; 0: 1 2 3; size 1, distance 2.
+abbrev pub K : Example
+K = line (cluster 0 3 2 nodesK) (row123 ∷ []) (planned 1 2 unnamed)
+
+-- L: 0, 3, 1; as K; as K; size 9, row 1 2 3, distance 0.
+abbrev pub L : Example
+L = line (cluster 0 3 1 nodesK) (row123 ∷ []) (planned 9 0 (named (row123 ∷ [])))
+
+-- ---- the table and its proposition
+
+-- The starred lines. G: "c = 3: 9; 4 and 7: size 1; 8: size 2".
+abbrev pub table : List Example
+table =
+    A ∷ B ∷ C ∷ E ∷ F ∷ G 3 no-layout ∷ G 4 (planned 1 4 unnamed) ∷ G 7 (planned 1 4 unnamed) ∷ G 8 (planned 2 4 unnamed) ∷ H ∷ I ∷ K ∷ L ∷ []
+
+-- Every example of a list holds.
+abbrev pub EveryHolds : List Example → Type 0
+EveryHolds [] = Unit {0}
+EveryHolds (e ∷ es) = Holds e × EveryHolds es
+
+-- The one proposition: every starred example holds.
+abbrev pub Table : Type 0
+Table = EveryHolds table

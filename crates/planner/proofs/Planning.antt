@@ -1,0 +1,122 @@
+-- The three ends of a planning call, over plain lists and numbers: refused, no layout, planned. Each gives the answer, the lent buffers and
+-- what is owed, as the contract has them.
+-- Assumes nothing.
+use Prim.Native.Nat.{ℕ, _≤_}
+use mathlib.Core.Path.{_≡_, refl, sym, ap, _∙_, subst}
+use mathlib.Core.Bool.{Bool, true, false}
+use mathlib.Core.List.{List, _++_}
+use native.Mathlib.Omega.{arith}
+use lib.Dec.{eqb}
+use lib.ListN.{length, drop, replicate}
+use borrow.Author.Tests.{eq-eqb, ne-eqb}
+use Rattle.sums.specs.Sum.{pick}
+use Rattle.cluster.specs.Terms.{topology, Layout, ValidAt}
+use Rattle.cluster.specs.TermsCells.{cellsOf}
+use Rattle.cluster.specs.Faults.{faultOf}
+use Rattle.cluster.specs.declared.Cluster.{Cluster}
+use Rattle.cluster.proofs.Accepting.{accepted}
+use Rattle.sizing.specs.Model.{Fits32, sizeOf, sizeIn}
+use Rattle.sizing.proofs.Reading.{size-in}
+use Rattle.planner.specs.TermsPlan.{unusable, planRefusal, answerOf, refusedWith, answered, plannedOf, assignmentAfter, scratchAfter, Owed}
+use Rattle.planner.specs.declared.Planned.{Planned}
+use Rattle.planner.proofs.Refusals.{usable-has}
+use Rattle.planner.proofs.Demands.{demand3, no-layout}
+
+module _ (c : Cluster) (former : List ℕ) (allowance : ℕ) (assignment scratch : List ℕ) where
+  abbrev a : ℕ
+  a = length assignment
+
+  abbrev s : ℕ
+  s = length scratch
+
+  -- What a call with this answer and these buffers at its end has to meet.
+  abbrev Ends : Planned → List ℕ → List ℕ → Type 0
+  Ends r cells rest =
+      (r ≡ plannedOf c former allowance a s) × (cells ≡ assignmentAfter c former allowance assignment s) × (rest ≡ scratchAfter c former a scratch)
+      × Owed c former a s (r .refusal)
+
+  -- The answer and the assignment with a refusal.
+  with-refusal : (n : ℕ) → planRefusal c former a s ≡ n → (n ≡ 0 → ⊥) → (refusedWith n ≡ plannedOf c former allowance a s) × (assignment ≡ assignmentAfter c former allowance assignment s)
+  unfolding plannedOf assignmentAfter
+  with-refusal n e some = (
+    sym (ap (λ (b : Bool). pick b (answered (answerOf c former allowance)) (refusedWith (planRefusal c former a s))) test ∙ ap refusedWith e),
+    sym (ap (λ (b : Bool). pick b (cellsOf (answerOf c former allowance .layout) ++ drop 2048 assignment) assignment) test),
+  )
+    where
+      test : eqb (planRefusal c former a s) 0 ≡ false
+      test = ne-eqb (planRefusal c former a s) 0 (λ z. some (sym e ∙ z))
+
+  -- Something but the lack of a layout is refused: the buffers are kept.
+  pub refused-ends : (u : ℕ) → u ≡ unusable c former a s → (u ≡ 0 → ⊥) → (r : Planned) → r ≡ refusedWith u → Ends r assignment scratch
+  unfolding planRefusal scratchAfter
+  refused-ends u e some r q = (
+    q ∙ (ap refusedWith e ∙ w .0),
+    w .1,
+    sym (ap (λ (b : Bool). pick b (replicate 16384 0 ++ drop 16384 scratch) scratch) test),
+    record { nine = λ z. absurd (not-zero z); none = λ z. absurd (not-zero z); nearest = λ z. absurd (not-zero z) },
+  )
+    where
+      not-zero : unusable c former a s ≡ 0 → ⊥
+      not-zero z = some (e ∙ z)
+
+      test : eqb (unusable c former a s) 0 ≡ false
+      test = ne-eqb (unusable c former a s) 0 not-zero
+
+      w : (refusedWith (unusable c former a s) ≡ plannedOf c former allowance a s) × (assignment ≡ assignmentAfter c former allowance assignment s)
+      w =
+          with-refusal (unusable c former a s)
+          (ap (λ (b : Bool). pick b (pick (eqb (sizeOf (topology c)) 0) 9 0) (unusable c former a s)) test) not-zero
+
+  module _ (u : unusable c former a s ≡ 0) where
+    faultless : faultOf c ≡ 0
+    faultless = usable-has c former a s u .faultless
+
+    none-or-nine : planRefusal c former a s ≡ pick (eqb (sizeOf (topology c)) 0) 9 0
+    unfolding planRefusal
+    none-or-nine = ap (λ (b : Bool). pick b (pick (eqb (sizeOf (topology c)) 0) 9 0) (unusable c former a s)) (eq-eqb (unusable c former a s) 0 u)
+
+    cleared : (rest : List ℕ) → rest ≡ replicate 16384 0 ++ drop 16384 scratch → rest ≡ scratchAfter c former a scratch
+    unfolding scratchAfter
+    cleared rest e = e ∙ sym (ap (λ (b : Bool). pick b (replicate 16384 0 ++ drop 16384 scratch) scratch) (eq-eqb (unusable c former a s) 0 u))
+
+    -- No layout is valid at size 1.
+    pub none-ends : (size : ℕ) → size ≡ sizeIn c → size ≡ 0 → (rest : List ℕ) → rest ≡ replicate 16384 0 ++ drop 16384 scratch
+        → (r : Planned) → r ≡ refusedWith 9 → Ends r assignment rest
+    none-ends size e z rest er r q =
+        let none : sizeOf (topology c) ≡ 0 = sym (size-in c faultless) ∙ (sym e ∙ z) in
+        let w =
+        with-refusal 9 (none-or-nine ∙ ap (λ (b : Bool). pick b 9 0) (eq-eqb (sizeOf (topology c)) 0 none)) (λ x. absurd (omega arith)) in
+        let empty = no-layout (topology c) (accepted c faultless) .0 none in (
+          q ∙ w .0,
+          w .1,
+          cleared rest er,
+          record {
+            nine = λ v x. empty;
+            none = λ v x. ap (λ (p : Planned). p .refusal) q;
+            nearest = λ v L x. absurd (empty L x);
+          },
+        )
+
+    -- The plan is made.
+    pub planned-ends : (size : ℕ) → size ≡ sizeIn c → (size ≡ 0 → ⊥) → (rest : List ℕ) → rest ≡ replicate 16384 0 ++ drop 16384 scratch
+        → (r : Planned) → r ≡ answered (answerOf c former allowance) → (cells : List ℕ)
+        → cells ≡ cellsOf (answerOf c former allowance .layout) ++ drop 2048 assignment → Fits32 (topology c) → Ends r cells rest
+    unfolding plannedOf assignmentAfter
+    planned-ends size e some rest er r q cells ec low =
+        let large : sizeOf (topology c) ≡ 0 → ⊥ = λ z. some (e ∙ (size-in c faultless ∙ z)) in
+        let no-refusal : planRefusal c former a s ≡ 0 = none-or-nine ∙ ap (λ (b : Bool). pick b 9 0) (ne-eqb (sizeOf (topology c)) 0 large) in
+        let test = eq-eqb (planRefusal c former a s) 0 no-refusal in
+        let zero : r .refusal ≡ 0 = ap (λ (p : Planned). p .refusal) q in (
+          q ∙ sym (ap (λ (b : Bool). pick b (answered (answerOf c former allowance)) (refusedWith (planRefusal c former a s))) test),
+          ec ∙ sym (ap (λ (b : Bool). pick b (cellsOf (answerOf c former allowance .layout) ++ drop 2048 assignment) assignment) test),
+          cleared rest er,
+          record {
+            nine = λ v x. absurd (omega (arith, zero, x));
+            none = λ v x. absurd (large (no-layout (topology c) (accepted c faultless) .1 x));
+            nearest = λ v L x. demand3 (topology c) (accepted c faultless) low L x;
+          },
+        )
+
+  -- What settling asks for.
+  pub settle-asks : unusable c former a s ≡ 0 → (size : ℕ) → size ≡ sizeIn c → size ≡ sizeOf (topology c)
+  settle-asks u size e = e ∙ size-in c (faultless u)

@@ -1,0 +1,167 @@
+-- What settling a plan rests on, over plain lists and numbers: the run is the one of the definition, what is subtracted is there, and the
+-- answer and the cells are those of the definition.
+-- Assumes nothing.
+use Prim.Native.Nat.{ℕ, _+_, _-_, _*_, _^_, _≤_, _<_}
+use mathlib.Core.Path.{_≡_, refl, sym, ap, _∙_, subst}
+use mathlib.Core.Bool.{Bool, true, false}
+use mathlib.Core.List.{List, _++_}
+use native.Mathlib.Omega.{arith}
+use native.Mathlib.Nat.{mul-le-mul, mul-comm}
+use lib.Dec.{ltb}
+use lib.ListN.{length, getD, drop, replicate, length-replicate, length-take}
+use borrow.Author.Tests.{ltb-false, le-ltb, le-leb}
+use Rattle.sums.specs.Sum.{sumTo, pick}
+use Rattle.sets.specs.Bits.{maskOf, bit}
+use Rattle.sets.proofs.Laws.{mask-cong}
+use Rattle.cells.specs.Cells.{tab}
+use Rattle.cells.proofs.Cells.{tab-cong}
+use Rattle.cluster.specs.Terms.{Topology, topology, partitions, Layout, row, idsOf, rising, IsFormer}
+use Rattle.cluster.specs.TermsCells.{rowsIn, cellsOf, rowAt, idsIn}
+use Rattle.cluster.specs.Faults.{faultOf, outOfRange, Accepted}
+use Rattle.cluster.specs.Tie.{bitsOf, incidence, formerPairs}
+use Rattle.cluster.specs.declared.Cluster.{Cluster}
+use Rattle.cluster.proofs.Accepting.{accepted}
+use Rattle.cluster.proofs.CellLayouts.{row-rowsIn}
+use Rattle.cluster.proofs.TieDistance.{former-few}
+use Rattle.masks.specs.Model.{masksRead, rowMask, cellsWritten, idsTotal, rowsFormed}
+use Rattle.masks.proofs.Laws.{mask-bits, formed-each, formed-former, ids-pairs, written-layout}
+use Rattle.sizing.specs.Model.{nodesOf, zoneCells, mateCells, capCells, Fits32, sizeOf, dealtRows, dealtIn}
+use Rattle.sizing.proofs.Reading.{deal-in}
+use Rattle.improve.specs.Run.{Ran}
+use Rattle.improve.specs.ModelImprove.{ranIn, agreementIn, sharedIn}
+use Rattle.planner.specs.ModelRun.{formerMasks, ranFrom, ranOf, layoutRows, farRows, planOf}
+use Rattle.planner.specs.TermsPlan.{answerOf, answered}
+use Rattle.planner.specs.declared.Planned.{Planned}
+use Rattle.planner.proofs.Machines.{Good, few-partitions, fm-long, far-fits}
+use Rattle.planner.proofs.Demands.{good-state}
+
+-- ---- the numbers of a cluster without fault
+
+-- It has no more nodes than there are slots.
+pub few-nodes : (c : Cluster) → faultOf c ≡ 0 → c .count ≤ 32
+unfolding faultOf
+few-nodes c e = go (ltb 32 (c .count)) refl e
+  where
+    go : (b : Bool) → ltb 32 (c .count) ≡ b → _≡_ {A = ℕ} (pick b 6 (pick (outOfRange (topology c)) 4 (pick (rising (idsOf (topology c .nodes))) 0 5))) 0 → c .count ≤ 32
+    go true q h = absurd (omega arith)
+    go false q h = ltb-false 32 (c .count) q
+
+-- Copies of all partitions.
+pub copies-few : (r p : ℕ) → r ≤ 8 → p ≤ 256 → r * p ≤ 2048
+copies-few r p a b = omega (arith, mul-le-mul a b)
+
+-- The pairs that code counts are those of the definition.
+pub shared-is : (rows before : List ℕ) (P x : ℕ) → P ≤ 256 → P ≤ length rows → P ≤ length before → x ≡ sharedIn rows before P → x ≡ agreementIn rows before P
+unfolding sharedIn
+shared-is rows before P x a b c e = e ∙ simp (le-ltb 256 P a, le-ltb (length rows) P b, le-ltb (length before) P c)
+
+-- ---- the run
+
+-- The run from the dealt rows, with the numbers and cells that code makes of the cluster.
+module _ (c : Cluster) (size P n : ℕ) (before rows zones mates caps dealt : List ℕ) (a : ℕ) (e : faultOf c ≡ 0) (eP : P ≡ partitions (topology c))
+    (en : n ≡ nodesOf (topology c)) (e-rows : rows ≡ replicate 256 0) (e-dealt : dealt ≡ dealtIn c size rows) (e-zones : zones ≡ zoneCells (topology c))
+    (e-mates : mates ≡ mateCells zones n) (e-caps : caps ≡ capCells (topology c) size)
+  where
+    the-dealt : dealt ≡ dealtRows (topology c) size (replicate 256 0)
+    the-dealt =
+        e-dealt
+        ∙ (ap (dealtIn c size) e-rows
+        ∙ deal-in c size (replicate 256 0) e (omega (arith, few-partitions (topology c) (accepted c e), length-replicate {A = ℕ} 256 0)))
+
+    pub run-is : ranIn before P mates caps n (c .redundancy) a dealt ≡ ranFrom (topology c) size before a
+    unfolding ranFrom
+    run-is = λ i. ranIn before (eP i) (the-mates i) (e-caps i) (en i) (c .redundancy) a (the-dealt i)
+      where
+        the-mates : mates ≡ mateCells (zoneCells (topology c)) (nodesOf (topology c))
+        the-mates = e-mates ∙ (λ i. mateCells (e-zones i) (en i))
+
+-- ---- the answer
+
+module _ (c : Cluster) (former : List ℕ) (a size P : ℕ) (before rows : List ℕ) (e : faultOf c ≡ 0)
+    (formed : rowsFormed former (partitions (topology c)) ≡ true) (es : size ≡ sizeOf (topology c)) (large : 1 ≤ size)
+    (eP : P ≡ partitions (topology c)) (eb : before ≡ masksRead (topology c .nodes) former P (replicate 256 0))
+    (er : rows ≡ ranFrom (topology c) size before a .state) (low : Fits32 (topology c))
+  where
+    abbrev t : Topology
+    t = topology c
+
+    abbrev F : Layout
+    F = rowsIn (partitions t) former
+
+    acc : Accepted t
+    acc = accepted c e
+
+    fo : IsFormer t F
+    fo = formed-former t former formed
+
+    has-size : 1 ≤ sizeOf t
+    has-size = omega (arith, es)
+
+    -- The masks read are those of the former layout.
+    mask-is : (p : ℕ) → p < partitions t → rowMask (t .nodes) former p ≡ maskOf (incidence t F p) (nodesOf t)
+    unfolding incidence
+    mask-is p l =
+        let w = formed-each former (partitions t) p formed l in
+        mask-bits (t .nodes) former p (acc .ids) (w .0) (w .1)
+        ∙ mask-cong (bitsOf (t .nodes) (idsIn (rowAt former p))) (incidence t F p) (nodesOf t)
+        (λ b k. ap (λ (r : List ℕ). bitsOf (t .nodes) r b) (sym (row-rowsIn (partitions t) former p l)))
+
+    before-is : before ≡ formerMasks t F
+    unfolding masksRead formerMasks
+    before-is =
+        eb
+        ∙ (ap (λ (n : ℕ). masksRead (t .nodes) former n (replicate 256 0)) eP
+        ∙ (simp (le-leb (partitions t) 256 (few-partitions t acc), length-replicate {A = ℕ} 256 0)
+        (ap (λ (l : List ℕ). l ++ drop (partitions t) (replicate 256 0))
+        (tab-cong (λ p. rowMask (t .nodes) former p) (λ p. maskOf (incidence t F p) (nodesOf t)) (partitions t) mask-is))))
+
+    ran-is : ranFrom t size before a ≡ ranOf t F a
+    ran-is = λ i. ranFrom t (es i) (before-is i) a
+
+    rows-are : rows ≡ ranOf t F a .state
+    rows-are = er ∙ ap (λ (r : Ran (List ℕ)). r .state) ran-is
+
+    good : Good t acc rows
+    good = subst (Good t acc) (sym rows-are) (good-state t acc low has-size F fo a)
+
+    ids-are : idsTotal former P ≡ formerPairs t F
+    ids-are = ap (idsTotal former) eP ∙ ids-pairs t former formed
+
+    agreement-is : agreementIn rows before P ≡ agreementIn rows (formerMasks t F) (partitions t)
+    agreement-is = λ i. agreementIn rows (before-is i) (eP i)
+
+    -- What measuring asks for is there.
+    pub measurable : (c .replication ≤ 8) × (P ≤ 256) × (P ≤ length before) × (P ≤ length rows) × (idsTotal former P ≤ 2048)
+        × (2 * agreementIn rows before P ≤ c .replication * P + idsTotal former P)
+    measurable = (
+      acc .replication .1,
+      omega (arith, eP, few-partitions t acc),
+      omega (arith, eP, few-partitions t acc, ap length before-is, fm-long t acc F),
+      omega (arith, eP, few-partitions t acc, good .long),
+      omega (arith, ids-are, former-few t F fo, few-partitions t acc),
+      omega (arith, ids-are, agreement-is, ap (λ (n : ℕ). c .replication * n) eP, far-fits t acc F fo rows good),
+    )
+
+    -- The answer is that of the definition.
+    pub answer-is : (d : ℕ) → d ≡ c .replication * P + idsTotal former P - 2 * agreementIn rows before P → (f : Bool) → f ≡ ranFrom t size before a .finished
+        → (s : ℕ) → s ≡ ranFrom t size before a .steps
+        → _≡_ {A = Planned} (record { refusal = 0; size = size; distance = d; finished = f; improvements = s }) (answered (answerOf c former a))
+    unfolding planOf farRows
+    answer-is d ed f ef s es′ =
+        λ i. record { refusal = 0; size = es i; distance = far i; finished = (ef ∙ ap (λ (r : Ran (List ℕ)). r .finished) ran-is) i; improvements = (es′ ∙ ap (λ (r : Ran (List ℕ)). r .steps) ran-is) i }
+      where
+        far : d ≡ farRows t F (ranOf t F a .state)
+        far =
+            ed
+            ∙ ((λ i. c .replication * eP i + ids-are i - 2 * agreement-is i)
+            ∙ ap (λ (l : List ℕ). c .replication * partitions t + formerPairs t F - 2 * agreementIn l (formerMasks t F) (partitions t)) rows-are)
+
+    -- The cells written are those of its layout.
+    pub cells-are : (cells : List ℕ) → 2048 ≤ length cells
+        → cellsWritten (t .nodes) rows P cells ≡ cellsOf (answerOf c former a .layout) ++ drop 2048 cells
+    unfolding planOf layoutRows
+    cells-are cells whole =
+        ap (λ (n : ℕ). cellsWritten (t .nodes) rows n cells) eP
+        ∙ (written-layout t rows cells (few-partitions t acc) (omega (arith, few-partitions t acc, good .long)) whole
+        (λ p l. omega (arith, good .within .rows p l .size, acc .replication .1))
+        ∙ ap (λ (l : List ℕ). cellsOf (layoutRows t l) ++ drop 2048 cells) rows-are)

@@ -1,0 +1,89 @@
+use borrow.Author.Needs.{needs}
+use native.Mathlib.Omega.{arith}
+use mathlib.Core.Path.{_≡_, sym, ap, _∙_}
+use mathlib.Core.List.{List}
+use Prim.Native.Nat.{ℕ}
+use lib.ListN.{length, length-take}
+use Rattle.cells.proofs.Cells.{length-of-map}
+use Rattle.cluster.specs.Terms.{topology}
+use Rattle.cluster.proofs.Accepting.{accepted}
+use Rattle.sizing.specs.Model.{nodesOf}
+use Rattle.improve.specs.Run.{Ran}
+use Rattle.planner.proofs.Settling.{few-nodes, run-is}
+use Rattle.planner.proofs.settle.improved.Statement.{statement}
+use Rattle.planner.proofs.settle.improved.Tie as tie
+use Rattle.planner.proofs.settle.improved.Reads as reads
+use Rattle.planner.proofs.settle.improved.Lts as lts
+use Rattle.improve.proofs.run.Reads as run-reads
+use Rattle.planner.proofs.refuse.partitions.Reads as partitions-reads
+use Rattle.sizing.proofs.caps.Reads as caps-reads
+use Rattle.sizing.proofs.deal.Reads as deal-reads
+use Rattle.sizing.proofs.mates.Reads as mates-reads
+use Rattle.sizing.proofs.zones.Reads as zones-reads
+
+long : (c : tie.Start) → length (c .args .c .nodes) ≡ 32
+long c = search length-of-map
+
+-- The count is the number of nodes in use.
+used : (c : tie.Start) → c .args .c .count ≡ nodesOf (topology (c .args .c))
+used c = omega (arith, long c, few-nodes (c .args .c) (c .pre .0), length-take (c .args .c .count) (c .args .c .nodes))
+
+partitions-requires : tie.Need-partitions-requires
+partitions-requires c κs = accepted _ (c .before .before .pre .0) .bits
+
+deal-requires : tie.Need-deal-requires
+deal-requires c κs = search needs
+
+zones-requires : tie.Need-zones-requires
+zones-requires c κs = search needs
+
+mates-requires : tie.Need-mates-requires
+mates-requires c κs = search needs
+
+caps-requires : tie.Need-caps-requires
+caps-requires c κs = search needs
+
+slice-aggregate-run : tie.Need-slice-aggregate-run
+slice-aggregate-run c = search needs
+
+slice-aggregate-run-2 : tie.Need-slice-aggregate-run-2
+slice-aggregate-run-2 c = search needs
+
+cast-run : tie.Need-cast-run
+cast-run c = let s = c .before .before .before .before .before .before .before .before .before .before .before .before .before in omega (arith, few-nodes (s .args .c) (s .pre .0))
+
+run-requires : tie.Need-run-requires
+run-requires c κs = search needs
+
+same-length : tie.Need-same-length
+same-length c = search needs
+
+returns : tie.Need-returns
+returns c =
+    let s = c .before .before .before .before .before .before .before .before .before .before .before .before .before .before .before .before in
+    let r = c .before .before .run .ensures in
+    let q =
+    run-is (s .args .c) (s .args .size) _ _ (s .args .before .now) (s .args .rows .now) _ _ _ _ (s .args .allowance) (s .pre .0)
+    (c .before .before .before .before .before .before .before .before .before .before .before .before .before .partitions .ensures .0) (used s) (s .pre .1) (c .before .before .before .before .before .before .before .before .before .before .before .deal .ensures) (c .before .before .before .before .before .before .before .before .zones .ensures)
+    (c .before .before .before .before .before .before .before .mates .ensures) (c .before .before .before .before .before .before .caps .ensures .0) in (
+      r .0 ∙ ap (λ (x : Ran (List ℕ)). x .state) q,
+      r .1 ∙ ap (λ (x : Ran (List ℕ)). x .finished) q,
+      r .2 ∙ ap (λ (x : Ran (List ℕ)). x .steps) q,
+      c .before .before .before .before .before .before .caps .ensures .1,
+    )
+
+pub improved-spec : {M : Type 1} → statement M
+improved-spec =
+    tie.close
+    (tie.spec
+    partitions-requires
+    deal-requires
+    zones-requires
+    mates-requires
+    caps-requires
+    slice-aggregate-run
+    slice-aggregate-run-2
+    cast-run
+    run-requires
+    same-length
+    returns)

@@ -1,0 +1,84 @@
+use borrow.Author.Needs.{needs}
+use native.Mathlib.Omega.{arith}
+use mathlib.Core.Path.{_≡_, sym, ap, _∙_}
+use Rattle.cluster.proofs.Accepting.{accepted}
+use Rattle.planner.proofs.Settling.{measurable, answer-is, cells-are}
+use Rattle.planner.proofs.settle.settle.Statement.{statement}
+use Rattle.planner.proofs.settle.settle.Tie as tie
+use Rattle.planner.proofs.settle.settle.Reads as reads
+use Rattle.planner.proofs.settle.settle.Lts as lts
+use Rattle.masks.proofs.read_masks.Reads as read-masks-reads
+use Rattle.masks.proofs.write_cells.Reads as write-cells-reads
+use Rattle.planner.proofs.refuse.partitions.Reads as partitions-reads
+use Rattle.planner.proofs.settle.improved.Reads as improved-reads
+use Rattle.planner.proofs.settle.measured.Reads as measured-reads
+
+partitions-requires : tie.Need-partitions-requires
+partitions-requires c κs = accepted _ (c .before .before .pre .0) .bits
+
+slice-aggregate-read-masks : tie.Need-slice-aggregate-read-masks
+slice-aggregate-read-masks c = search needs
+
+read-masks-requires : tie.Need-read-masks-requires
+read-masks-requires c κs = search needs
+
+slice-aggregate-improved : tie.Need-slice-aggregate-improved
+slice-aggregate-improved c = search needs
+
+slice-aggregate-improved-2 : tie.Need-slice-aggregate-improved-2
+slice-aggregate-improved-2 c = search needs
+
+improved-requires : tie.Need-improved-requires
+improved-requires c κs = search needs
+
+slice-aggregate-write-cells : tie.Need-slice-aggregate-write-cells
+slice-aggregate-write-cells c = search needs
+
+write-cells-requires : tie.Need-write-cells-requires
+write-cells-requires c κs = search needs
+
+slice-aggregate-measured : tie.Need-slice-aggregate-measured
+slice-aggregate-measured c = search needs
+
+slice-aggregate-measured-2 : tie.Need-slice-aggregate-measured-2
+slice-aggregate-measured-2 c = search needs
+
+measured-requires : tie.Need-measured-requires
+measured-requires c κs =
+    let s = c .before .before .before .before .before .before .before .before .before .before .before .before .before .before .before .before .before in
+    measurable (s .args .c) (s .args .former .now) (s .args .allowance) (s .args .size) _ _ _ (s .pre .0) (s .pre .2) (s .pre .3) (s .pre .4)
+    (c .before .before .before .before .before .before .before .before .before .before .before .before .before .before .partitions .ensures .0) (c .before .before .before .before .before .before .before .before .before .before .before .before .read-masks .ensures) (c .before .before .before .before .before .before .before .before .improved .ensures .0) (c .before .before .before .before .before .before .before .before .improved .ensures .3)
+
+same-length : tie.Need-same-length
+same-length c = search needs
+
+returns : tie.Need-returns
+returns c =
+    let s = c .before .before .before .before .before .before .before .before .before .before .before .before .before .before .before .before .before .before in
+    let i = c .before .before .before .before .before .before .before .before .before .improved in (
+      answer-is (s .args .c) (s .args .former .now) (s .args .allowance) (s .args .size) _ _ _ (s .pre .0) (s .pre .2) (s .pre .3) (s .pre .4)
+          (c .before .before .before .before .before .before .before .before .before .before .before .before .before .before .before .partitions .ensures .0) (c .before .before .before .before .before .before .before .before .before .before .before .before .before .read-masks .ensures) (c .before .before .before .before .before .before .before .before .before .improved .ensures .0) (c .before .before .before .before .before .before .before .before .before .improved .ensures .3)
+          (c .measured .result) (c .measured .ensures) (i .result .finished) (i .ensures .1) (i .result .improvements) (i .ensures .2),
+      c .before .before .before .before .before .write-cells .ensures
+          ∙ cells-are (s .args .c) (s .args .former .now) (s .args .allowance) (s .args .size) _ _ _ (s .pre .0) (s .pre .2) (s .pre .3) (s .pre .4)
+          (c .before .before .before .before .before .before .before .before .before .before .before .before .before .before .before .partitions .ensures .0) (c .before .before .before .before .before .before .before .before .before .before .before .before .before .read-masks .ensures) (c .before .before .before .before .before .before .before .before .before .improved .ensures .0) (c .before .before .before .before .before .before .before .before .before .improved .ensures .3) (s .args .assignment .now) (s .pre .1),
+      i .ensures .3,
+    )
+
+pub settle-spec : {M : Type 1} → statement M
+settle-spec =
+    tie.close
+    (tie.spec
+    partitions-requires
+    slice-aggregate-read-masks
+    read-masks-requires
+    slice-aggregate-improved
+    slice-aggregate-improved-2
+    improved-requires
+    slice-aggregate-write-cells
+    write-cells-requires
+    slice-aggregate-measured
+    slice-aggregate-measured-2
+    measured-requires
+    same-length
+    returns)

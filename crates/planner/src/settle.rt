@@ -1,0 +1,99 @@
+// The plan of a cluster that has a layout: the run from the dealt beginning, its cells, and how far it is from the former layout.
+ghost use mathlib.Core.Path.{_≡_};
+ghost use mathlib.Core.Bool.{true};
+ghost use mathlib.Core.List.{_++_};
+ghost use Prim.Native.Nat.{_+_, _-_, _*_, _≤_, _^_};
+ghost use lib.ListN.{length, drop, replicate};
+ghost use Rattle.cluster.specs.Terms.{topology, partitions};
+ghost use Rattle.cluster.specs.TermsCells.{cellsOf};
+ghost use Rattle.cluster.specs.Faults.{faultOf};
+ghost use Rattle.masks.specs.Model.{rowsFormed, idsTotal};
+ghost use Rattle.sizing.specs.Model.{Fits32, sizeOf};
+ghost use Rattle.improve.specs.ModelImprove.{agreementIn};
+ghost use Rattle.planner.specs.ModelRun.{ranFrom};
+ghost use Rattle.planner.specs.TermsPlan.{answerOf, answered};
+use super::Planned;
+use super::refuse;
+use cluster::Cluster;
+use improve::Ended;
+
+// The run from the beginning dealt at the size. `before` holds the former rows as masks.
+pub(crate) fn improved(
+    c: Cluster,
+    size: u32,
+    before: &[u32],
+    allowance: u32,
+    rows: &mut [u32],
+) -> Ended
+    requires { ⌜ (faultOf c ≡ 0) × (now rows ≡ replicate 256 0) ⌝ }
+    ensures { λ r. ⌜ (now (rows .exit) ≡ ranFrom (topology c) size (now (before .entry)) allowance .state)
+        × (r .finished ≡ ranFrom (topology c) size (now (before .entry)) allowance .finished)
+        × (r .improvements ≡ ranFrom (topology c) size (now (before .entry)) allowance .steps)
+        × Fits32 (topology c) ⌝ }
+{
+    let partitions = refuse::partitions(c.bits);
+    let count = c.count;
+    sizing::deal(c, size, rows);
+    let zones = sizing::zones(c);
+    let mates = sizing::mates(zones, count);
+    let caps = sizing::caps(c, size);
+    improve::run(
+        rows,
+        before,
+        partitions,
+        &mates,
+        &caps,
+        count as u32,
+        c.redundancy,
+        allowance,
+    )
+}
+
+// How far the layout of the rows is from the former one: the pairs of either, less those of both twice.
+pub(crate) fn measured(
+    replication: u32,
+    former: &[u32],
+    before: &[u32],
+    rows: &[u32],
+    partitions: usize,
+) -> u32
+    requires { ⌜ (replication ≤ 8) × (partitions ≤ 256) × (partitions ≤ length (now before)) × (partitions ≤ length (now rows))
+        × (idsTotal (now former) partitions ≤ 2048)
+        × (2 * agreementIn (now rows) (now before) partitions ≤ replication * partitions + idsTotal (now former) partitions) ⌝ }
+    ensures { λ r. ⌜ r ≡ replication * partitions + idsTotal (now (former .entry)) partitions
+        - 2 * agreementIn (now (rows .entry)) (now (before .entry)) partitions ⌝ }
+{
+    let pairs = masks::count_ids(former, partitions);
+    let shared = improve::agreement(rows, before, partitions);
+    replication * (partitions as u32) + pairs - 2 * shared
+}
+
+// The plan of a cluster that has a layout.
+pub(crate) fn settle(
+    c: Cluster,
+    former: &[u32],
+    allowance: u32,
+    size: u32,
+    assignment: &mut [u32],
+) -> Planned
+    requires { ⌜ (faultOf c ≡ 0) × (2048 ≤ length (now assignment)) × (rowsFormed (now former) (partitions (topology c)) ≡ true)
+        × (size ≡ sizeOf (topology c)) × (1 ≤ size) ⌝ }
+    ensures { λ r. ⌜ (r ≡ answered (answerOf c (now (former .entry)) allowance))
+        × (now (assignment .exit) ≡ cellsOf (answerOf c (now (former .entry)) allowance .layout) ++ drop 2048 (now (assignment .entry)))
+        × Fits32 (topology c) ⌝ }
+{
+    let partitions = refuse::partitions(c.bits);
+    let mut before = [0u32; 256];
+    masks::read_masks(c, former, partitions, &mut before);
+    let mut rows = [0u32; 256];
+    let ended = improved(c, size, &before, allowance, &mut rows);
+    masks::write_cells(c, &rows, partitions, assignment);
+    let distance = measured(c.replication, former, &before, &rows, partitions);
+    Planned {
+        refusal: 0,
+        size,
+        distance,
+        finished: ended.finished,
+        improvements: ended.improvements,
+    }
+}
