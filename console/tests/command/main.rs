@@ -331,6 +331,24 @@ fn only_a_file_is_replaced() {
 }
 
 #[test]
+fn the_description_is_never_replaced() {
+    let folder = planned_home("itself");
+    for line in [
+        "plan home.txt --out ./home.txt",
+        "record home.txt --out home.txt",
+    ] {
+        let done = folder.console(line);
+        assert_eq!(done.status, 2, "{}", done.err);
+        assert!(
+            done.err.contains("would replace the description"),
+            "{}",
+            done.err
+        );
+        assert_eq!(folder.read("home.txt"), HOME.as_bytes());
+    }
+}
+
+#[test]
 fn faulty_calls_end_with_status_2() {
     let folder = Folder::new("usage");
     let done = folder.console("plan --speed 7 home.txt");

@@ -43,6 +43,7 @@ fn plan(
     out: Option<&Path>,
     allowance: u16,
 ) -> Result<Vec<u8>, Failure> {
+    files::are_two(file, out)?;
     let described = describe(file, former)?;
     let cluster = &described.cluster;
     let plan = cluster
@@ -138,6 +139,7 @@ fn show_row(file: &Path, layout: &Path, partition: u8) -> Result<Vec<u8>, Failur
 }
 
 fn record(file: &Path, former: Option<&Path>, out: Option<&Path>) -> Result<Vec<u8>, Failure> {
+    files::are_two(file, out)?;
     let record = describe(file, former)?.cluster.to_record();
     match out {
         Some(out) => {

@@ -45,6 +45,18 @@ fn read_at_most(path: &Path, most: u64) -> Result<Vec<u8>, Failure> {
     Ok(bytes)
 }
 
+/// Refuses an output that would replace the description of the cluster.
+pub fn are_two(description: &Path, out: Option<&Path>) -> Result<(), Failure> {
+    let Some(out) = out else { return Ok(()) };
+    match (fs::canonicalize(description), fs::canonicalize(out)) {
+        (Ok(first), Ok(second)) if first == second => Err(Failure::Usage(format!(
+            "--out {} would replace the description of the cluster",
+            out.display()
+        ))),
+        _ => Ok(()),
+    }
+}
+
 /// Puts the bytes into the file. Should anything fail, power included, what was there stays whole:
 /// they go into a new file beside it, which then takes its name.
 pub fn write_whole(path: &Path, bytes: &[u8]) -> Result<(), Failure> {
