@@ -1,5 +1,7 @@
 //! The command `console`: plans for owners of a few boxes, from a plain text file.
 
+#![forbid(unsafe_code)]
+
 mod args;
 mod cluster_file;
 mod commands;
