@@ -1,13 +1,15 @@
 //! How fast the proved planner is, beside the same method and the report's method in plain Rust.
 //!
-//! All three plan the same clusters in turn in one run, and have to come to the same distance. The
-//! proved planner is timed through its C function, so that reading the record is in its time; the
-//! other two start from a cluster that is read already. A time is the median of several calls, and
-//! a line the median of several clusters of its kind.
+//! All plan the same clusters in turn in one run, each from the bytes of the cluster's record, and
+//! have to come to the same distance; the proved planner is called through its C function. The
+//! report's method is timed twice: as document 000 has it, with 4N + 1 rounds in every search for
+//! cycles, and stopping each search at the first round that shows a cycle or lowers nothing, which
+//! the report does not. A time is the median of several calls, and a line the median of several clusters of its
+//! kind.
 
 use dezghuri::ffi;
 use reference::random::Random;
-use reference::records::cluster_record;
+use reference::records::{cluster_record, read_cluster};
 use reference::{distance, exchanges, report, Cluster, Layout, Node};
 use std::time::Instant;
 
@@ -19,12 +21,13 @@ const CALLS: usize = 7;
 /// A cluster and the layout before.
 type Case = (Cluster, Layout);
 
-/// The three methods' times in milliseconds, and how many improvements the plan took.
+/// The times in milliseconds, and how many improvements the plan took.
 #[derive(Clone, Copy)]
 struct Times {
     proved: f64,
     same_method: f64,
     report: f64,
+    stopping: f64,
     improvements: f64,
 }
 
@@ -56,8 +59,15 @@ fn main() {
 
 fn head(name: &str) {
     println!(
-        "{name:<40} {:>9} {:>12} {:>9} {:>12} {:>16} {:>13}",
-        "proved", "same method", "report's", "proved/same", "report's/proved", "improvements"
+        "{name:<38} {:>8} {:>8} {:>9} {:>9} {:>12} {:>15} {:>15} {:>12}",
+        "proved",
+        "same",
+        "report's",
+        "stopping",
+        "proved/same",
+        "report's/proved",
+        "stopping/proved",
+        "improvements"
     );
 }
 
@@ -68,12 +78,14 @@ fn line(name: &str, case: impl Fn(&mut Random) -> Case) {
         .collect();
     let middle = |part: fn(&Times) -> f64| median(times.iter().map(part).collect());
     println!(
-        "{name:<40} {:>9.3} {:>12.3} {:>9.3} {:>12.2} {:>16.2} {:>13}",
+        "{name:<38} {:>8.3} {:>8.3} {:>9.3} {:>9.3} {:>12.2} {:>15.1} {:>15.1} {:>12}",
         middle(|t| t.proved),
         middle(|t| t.same_method),
         middle(|t| t.report),
+        middle(|t| t.stopping),
         middle(|t| t.proved / t.same_method),
         middle(|t| t.report / t.proved),
+        middle(|t| t.stopping / t.proved),
         middle(|t| t.improvements),
     );
 }
@@ -83,44 +95,65 @@ fn median(mut values: Vec<f64>) -> f64 {
     values[values.len() / 2]
 }
 
-/// Calls the three methods in turn, so that none has the machine to itself.
+/// Calls the methods in turn, so that none has the machine to itself.
 fn time((c, former): &Case) -> Times {
     let record = cluster_record(c, former);
-    let mut cells = vec![0; ffi::LAYOUT_CELLS];
-    let mut scratch = vec![0; ffi::SCRATCH_CELLS];
-    let mut answer = [0; ffi::PLAN_ANSWER];
-    let (mut proved, mut same_method, mut by_report) = (Vec::new(), Vec::new(), Vec::new());
+    let (mut proved, mut same_method) = (Vec::new(), Vec::new());
+    let (mut by_report, mut stopping) = (Vec::new(), Vec::new());
+    let mut improvements = 0.0;
     for _ in 0..CALLS {
-        let begun = Instant::now();
-        let refusal = ffi::plan(
-            &record,
-            dezghuri::ENOUGH,
-            &mut cells,
-            &mut scratch,
-            &mut answer,
-        );
-        proved.push(milliseconds(begun));
-        assert_eq!(refusal, 0);
-        let begun = Instant::now();
-        let same = exchanges::plan(c, former, 2048).expect("a layout exists");
-        same_method.push(milliseconds(begun));
-        let begun = Instant::now();
-        let flow = report::plan(c, former).expect("a layout exists");
-        by_report.push(milliseconds(begun));
-        let same = distance(&exchanges::layout(c, &same.rows), former);
-        let least = answer[3] as usize;
-        assert_eq!([least, least], [same, distance(&flow.layout, former)]);
+        let (least, steps) = timed(&mut proved, || by_proof(&record));
+        improvements = f64::from(steps);
+        let far = timed(&mut same_method, || by_exchanges(&record));
+        assert_eq!(distance(&far, former), least);
+        let far = timed(&mut stopping, || by_flows(&record, report::plan));
+        assert_eq!(distance(&far, former), least);
+        let far = timed(&mut by_report, || {
+            by_flows(&record, report::plan_as_written)
+        });
+        assert!(distance(&far, former) >= least);
     }
     Times {
         proved: median(proved),
         same_method: median(same_method),
         report: median(by_report),
-        improvements: answer[5].into(),
+        stopping: median(stopping),
+        improvements,
     }
 }
 
-fn milliseconds(begun: Instant) -> f64 {
-    begun.elapsed().as_secs_f64() * 1e3
+fn timed<T>(times: &mut Vec<f64>, call: impl FnOnce() -> T) -> T {
+    let begun = Instant::now();
+    let made = call();
+    times.push(begun.elapsed().as_secs_f64() * 1e3);
+    made
+}
+
+/// The distance and the improvements of the proved plan.
+fn by_proof(record: &[u8]) -> (usize, u32) {
+    let mut cells = vec![0; ffi::LAYOUT_CELLS];
+    let mut scratch = vec![0; ffi::SCRATCH_CELLS];
+    let mut answer = [0; ffi::PLAN_ANSWER];
+    let refusal = ffi::plan(
+        record,
+        dezghuri::ENOUGH,
+        &mut cells,
+        &mut scratch,
+        &mut answer,
+    );
+    assert_eq!(refusal, 0);
+    (answer[3] as usize, answer[5])
+}
+
+fn by_exchanges(record: &[u8]) -> Layout {
+    let (c, former) = read_cluster(record).expect("a record");
+    let plan = exchanges::plan(&c, &former, 2048).expect("a layout exists");
+    exchanges::layout(&c, &plan.rows)
+}
+
+fn by_flows(record: &[u8], plan: impl Fn(&Cluster, &Layout) -> Option<report::Planned>) -> Layout {
+    let (c, former) = read_cluster(record).expect("a record");
+    plan(&c, &former).expect("a layout exists").layout
 }
 
 /// Nodes 1, 2, 3 and on with disks of 1 to 4 TB, in so many zones.

@@ -101,31 +101,48 @@ impl Network {
         total
     }
 
+    /// One round of Bellman and Ford over all arcs; whether a distance fell.
+    fn relax(&self, dist: &mut [i32], via: &mut [usize]) -> bool {
+        let mut fell = false;
+        for u in 0..self.out.len() {
+            for &i in &self.out[u] {
+                let a = &self.arcs[i];
+                if a.capacity > 0 && dist[u] + a.weight < dist[a.to] {
+                    dist[a.to] = dist[u] + a.weight;
+                    via[a.to] = i;
+                    fell = true;
+                }
+            }
+        }
+        fell
+    }
+
     /// Disjoint negative cycles of the residual graph, as lists of arcs; none only where there is
-    /// none.
+    /// none. It looks for cycles after each round, which the report does not.
     fn negative_cycles(&self) -> Vec<Vec<usize>> {
         let n = self.out.len();
         let mut dist = vec![0i32; n];
         let mut via = vec![usize::MAX; n];
         for _ in 0..n {
-            let mut fell = false;
-            for u in 0..n {
-                for &i in &self.out[u] {
-                    let a = &self.arcs[i];
-                    if a.capacity > 0 && dist[u] + a.weight < dist[a.to] {
-                        dist[a.to] = dist[u] + a.weight;
-                        via[a.to] = i;
-                        fell = true;
-                    }
-                }
-            }
-            if !fell {
+            if !self.relax(&mut dist, &mut via) {
                 return Vec::new();
             }
             let found = self.cycles_back(&via);
             if !found.is_empty() {
                 return found;
             }
+        }
+        self.cycles_back(&via)
+    }
+
+    /// The negative cycles as the report finds them: so many rounds, and then the cycles that they
+    /// show.
+    fn cycles_in_rounds(&self, rounds: usize) -> Vec<Vec<usize>> {
+        let n = self.out.len();
+        let mut dist = vec![0i32; n];
+        let mut via = vec![usize::MAX; n];
+        for _ in 0..rounds {
+            self.relax(&mut dist, &mut via);
         }
         self.cycles_back(&via)
     }
@@ -307,10 +324,24 @@ pub struct Planned {
 
 /// The plan of a cluster; nothing where no layout is valid at size 1.
 pub fn plan(c: &Cluster, former: &Layout) -> Option<Planned> {
+    planned(c, former, Network::negative_cycles)
+}
+
+/// The plan as the report's text has it, with 4N + 1 rounds in every search.
+pub fn plan_as_written(c: &Cluster, former: &Layout) -> Option<Planned> {
+    let rounds = 4 * c.nodes.len() + 1;
+    planned(c, former, |net| net.cycles_in_rounds(rounds))
+}
+
+fn planned(
+    c: &Cluster,
+    former: &Layout,
+    search: impl Fn(&Network) -> Vec<Vec<usize>>,
+) -> Option<Planned> {
     let size = size(c)?;
     let mut g = Assigning::starting_from(c, size, former);
     g.weigh(former);
-    g.minimise(Network::negative_cycles);
+    g.minimise(search);
     Some(Planned {
         size,
         layout: g.layout(),
