@@ -1,6 +1,6 @@
 #!/bin/sh
-# The gate: proves every listed crate with `rt ci`, then builds the static library of the console crate and runs the Rust
-# tests once those crates exist. The last line is rt's own 'N passed, 0 failed', and is printed only where all passed.
+# The gate: proves every listed crate with `rt ci`, then runs the program `plan` on the stored records, builds the static library of the
+# console crate and runs the Rust tests, once those crates exist. The last line is rt's own 'N passed, 0 failed', and is printed only where all passed.
 set -u
 cd "$(dirname "$0")/.." || exit 2
 
@@ -27,6 +27,9 @@ case $last in
     *) printf '%s\n' "$last"; fail "rt ci's last line is not 'N passed, 0 failed'" ;;
 esac
 
+if [ -d crates/plan ]; then
+    sh tools/run-samples.sh || fail "the program plan printed something else than is stored"
+fi
 if [ -d crates/console ]; then
     rt staticlib console || fail "the static library of the console crate was not built"
 fi

@@ -1,6 +1,7 @@
-//! The method of the proved planner, written plainly and unverified: dealing, then exchange graphs, levels, cycles and splits. It is what the
-//! proved planner's speed is held to.
+//! The method of the proved planner, written plainly and unverified: dealing, then exchange graphs,
+//! levels, cycles and splits. It is what the proved planner's speed is held to.
 
+use crate::dealing::{caps_at, deal, size, zones};
 use crate::{Cluster, Layout};
 
 pub struct Planned {
@@ -16,16 +17,33 @@ struct Setting {
     nodes: usize,
     redundancy: u32,
     all: u32,
-    zone: Vec<usize>,
     mates: [u32; 32],
     caps: [u32; 32],
     former: Vec<u32>,
 }
 
+/// For each node the nodes that it has an arc to, by the arc's weight of -1, 0 or 1.
 struct Graph {
     minus: [u32; 32],
     zero: [u32; 32],
     plus: [u32; 32],
+}
+
+impl Graph {
+    /// The least weight of the arcs from u to v, more by 1.
+    fn weight(&self, u: usize, v: usize) -> Option<u32> {
+        [&self.minus, &self.zero, &self.plus]
+            .iter()
+            .zip(0..)
+            .find(|(arcs, _)| arcs[u] >> v & 1 == 1)
+            .map(|(_, w)| w)
+    }
+}
+
+/// A cycle: arc i goes from node i + 1 to node i, as an exchange in partition i.
+struct Circuit {
+    nodes: Vec<usize>,
+    partitions: Vec<usize>,
 }
 
 fn members(mut s: u32) -> impl Iterator<Item = usize> {
@@ -37,59 +55,6 @@ fn members(mut s: u32) -> impl Iterator<Item = usize> {
         s &= s - 1;
         Some(b)
     })
-}
-
-fn caps_at(c: &Cluster, size: u32) -> Vec<u32> {
-    c.nodes.iter().map(|n| (n.capacity / size).min(c.partitions() as u32)).collect()
-}
-
-fn zones(c: &Cluster) -> Vec<usize> {
-    c.nodes.iter().map(|n| c.nodes.iter().position(|m| m.zone == n.zone).unwrap()).collect()
-}
-
-/// Whether the caps admit a layout: enough copies, and enough pairs of partition and zone.
-fn fits(c: &Cluster, zone: &[usize], size: u32) -> bool {
-    let p = c.partitions() as u32;
-    let caps = caps_at(c, size);
-    let mut by_zone = [0u32; 32];
-    for (b, cap) in caps.iter().enumerate() {
-        by_zone[zone[b]] += cap;
-    }
-    caps.iter().sum::<u32>() >= c.replication as u32 * p && by_zone.iter().map(|z| p.min(*z)).sum::<u32>() >= c.redundancy as u32 * p
-}
-
-fn size(c: &Cluster, zone: &[usize]) -> u32 {
-    (0..32).rev().fold(0u32, |s, i| if fits(c, zone, s | 1 << i) { s | 1 << i } else { s })
-}
-
-/// The dealt layout: copies per node in two passes, then copy number i goes to partition i mod P.
-fn deal(c: &Cluster, zone: &[usize], caps: &[u32]) -> Vec<u32> {
-    let p = c.partitions() as u32;
-    let mut left = c.replication as u32 * p;
-    let mut by_zone = [0u32; 32];
-    let mut given = vec![0u32; caps.len()];
-    for b in 0..caps.len() {
-        given[b] = caps[b].min(p - by_zone[zone[b]].min(p)).min(left);
-        by_zone[zone[b]] += given[b];
-        left -= given[b];
-    }
-    for b in 0..caps.len() {
-        let more = (caps[b] - given[b]).min(left);
-        given[b] += more;
-        by_zone[zone[b]] += more;
-        left -= more;
-    }
-    let mut line: Vec<usize> = (0..caps.len()).collect();
-    line.sort_by_key(|&b| (by_zone[zone[b]] >= p, zone[b], b));
-    let mut rows = vec![0u32; p as usize];
-    let mut at = 0;
-    for b in line {
-        for _ in 0..given[b] {
-            rows[at % p as usize] |= 1 << b;
-            at += 1;
-        }
-    }
-    rows
 }
 
 impl Setting {
@@ -121,10 +86,13 @@ impl Setting {
     }
 
     fn graph(&self, rows: &[u32]) -> Graph {
-        let mut g = Graph { minus: [0; 32], zero: [0; 32], plus: [0; 32] };
+        let mut g = Graph {
+            minus: [0; 32],
+            zero: [0; 32],
+            plus: [0; 32],
+        };
         let mut copies = [0u32; 32];
-        for p in 0..self.partitions {
-            let (row, f) = (rows[p], self.former[p]);
+        for (&row, &f) in rows.iter().zip(&self.former) {
             let (spare, covered) = (self.cover(row) > self.redundancy, self.covered(row));
             for a in members(row) {
                 copies[a] += 1;
@@ -138,60 +106,30 @@ impl Setting {
                 }
             }
         }
-        for b in 0..self.nodes {
-            if copies[b] < self.caps[b] {
-                g.zero[b] |= self.all;
-            }
+        for b in members(self.all).filter(|&b| copies[b] < self.caps[b]) {
+            g.zero[b] |= self.all;
         }
         g
     }
 
-    /// The nodes of a simple negative cycle, y 0, .., y m with y m = y 0; its arc i goes from y (i + 1) to y i. Nothing where there is none.
+    /// The nodes of a simple negative cycle, y 0, .., y m with y m = y 0; its arc i goes from
+    /// y (i + 1) to y i. Nothing where there is none.
     fn cycle(&self, g: &Graph) -> Option<Vec<usize>> {
-        let n = self.nodes;
-        let mut dist = [n as u32; 32];
+        let mut dist = [self.nodes as u32; 32];
         let mut from: Vec<[u8; 32]> = Vec::new();
-        let mut way: [u32; 32] = std::array::from_fn(|b| 1u32.checked_shl(b as u32).unwrap_or(0));
+        let mut way: [u32; 32] = std::array::from_fn(|b| 1 << b);
         let mut fell = self.all;
         loop {
-            let mut next = dist;
-            let mut source = [0u8; 32];
-            for (v, s) in source.iter_mut().enumerate() {
-                *s = v as u8;
-            }
-            for u in members(fell) {
-                for v in 0..n {
-                    let w = if g.minus[u] >> v & 1 == 1 {
-                        0
-                    } else if g.zero[u] >> v & 1 == 1 {
-                        1
-                    } else if g.plus[u] >> v & 1 == 1 {
-                        2
-                    } else {
-                        continue;
-                    };
-                    if dist[u] + w < next[v] + 1 {
-                        next[v] = dist[u] + w - 1;
-                        source[v] = u as u8;
-                    }
-                }
-            }
-            fell = (0..n).filter(|&v| next[v] < dist[v]).fold(0, |m, v| m | 1 << v);
-            from.push(source);
+            let (next, source) = self.level(g, &dist, fell);
+            fell = (0..self.nodes)
+                .filter(|&v| next[v] < dist[v])
+                .fold(0, |m, v| m | 1 << v);
             if fell == 0 {
                 return None;
             }
+            from.push(source);
             if let Some(v) = members(fell).find(|&v| way[source[v] as usize] >> v & 1 == 1) {
-                let mut walk = vec![v];
-                let mut at = v;
-                for level in from.iter().rev() {
-                    at = level[at] as usize;
-                    walk.push(at);
-                    if at == v {
-                        return Some(walk);
-                    }
-                }
-                unreachable!("a way back that meets its start comes to it");
+                return Some(walk_back(&from, v));
             }
             let old = way;
             for v in members(fell) {
@@ -201,9 +139,27 @@ impl Setting {
         }
     }
 
-    /// A partition in which the arc u to v can be made at its weight, or the number of partitions for a step over the store of free room.
+    /// The next level of distances, and for each node the one that its distance came from. Only the
+    /// nodes that fell last can make others fall.
+    fn level(&self, g: &Graph, dist: &[u32; 32], fell: u32) -> ([u32; 32], [u8; 32]) {
+        let mut next = *dist;
+        let mut source: [u8; 32] = std::array::from_fn(|v| v as u8);
+        for u in members(fell) {
+            for v in 0..self.nodes {
+                let Some(w) = g.weight(u, v) else { continue };
+                if dist[u] + w < next[v] + 1 {
+                    next[v] = dist[u] + w - 1;
+                    source[v] = u as u8;
+                }
+            }
+        }
+        (next, source)
+    }
+
+    /// A partition in which the arc u to v can be made at its weight, or the number of partitions
+    /// for a step over the store of free room.
     fn witness(&self, rows: &[u32], g: &Graph, u: usize, v: usize) -> usize {
-        let w = if g.minus[u] >> v & 1 == 1 { 0 } else if g.zero[u] >> v & 1 == 1 { 1 } else { 2 };
+        let w = g.weight(u, v).expect("an arc of the cycle");
         (0..self.partitions)
             .find(|&p| {
                 rows[p] >> u & 1 == 1
@@ -220,86 +176,172 @@ impl Setting {
         (self.former[p] >> a & 1) as i32 - (self.former[p] >> b & 1) as i32
     }
 
-    /// Frees the circuit of pairs of arcs that can be crossed, going on with a part that gains.
-    fn uncross(&self, rows: &[u32], mut y: Vec<usize>, mut q: Vec<usize>) -> (Vec<usize>, Vec<usize>) {
-        'again: loop {
-            let m = q.len();
-            for i in 0..m {
-                for j in i + 1..m {
-                    if q[i] < self.partitions
-                        && q[i] == q[j]
-                        && self.targets_at(rows[q[i]], y[j + 1]) >> y[i] & 1 == 1
-                        && self.targets_at(rows[q[i]], y[i + 1]) >> y[j] & 1 == 1
-                    {
-                        let inner: i32 = (i + 1..j).map(|t| self.cost(q[t], y[t + 1], y[t])).sum::<i32>() + self.cost(q[i], y[i + 1], y[j]);
-                        if inner < 0 {
-                            let first = y[i + 1];
-                            y = y[i + 1..=j].to_vec();
-                            y.push(first);
-                            q = q[i + 1..=j].to_vec();
-                        } else {
-                            y.drain(i + 1..=j);
-                            q.drain(i + 1..=j);
-                        }
-                        continue 'again;
-                    }
-                }
+    /// The first pair of arcs in one row that can be crossed.
+    fn crossed(&self, rows: &[u32], c: &Circuit) -> Option<(usize, usize)> {
+        let (y, q) = (&c.nodes, &c.partitions);
+        let m = q.len();
+        (0..m)
+            .flat_map(|i| (i + 1..m).map(move |j| (i, j)))
+            .find(|&(i, j)| {
+                q[i] < self.partitions
+                    && q[i] == q[j]
+                    && self.targets_at(rows[q[i]], y[j + 1]) >> y[i] & 1 == 1
+                    && self.targets_at(rows[q[i]], y[i + 1]) >> y[j] & 1 == 1
+            })
+    }
+
+    /// Frees the circuit of pairs of arcs that can be crossed, going on with a part that gains; how
+    /// often it was split.
+    fn uncross(&self, rows: &[u32], c: &mut Circuit) -> u32 {
+        let mut splits = 0;
+        while let Some((i, j)) = self.crossed(rows, c) {
+            let (y, q) = (&mut c.nodes, &mut c.partitions);
+            let between: i32 = (i + 1..j).map(|t| self.cost(q[t], y[t + 1], y[t])).sum();
+            if between + self.cost(q[i], y[i + 1], y[j]) < 0 {
+                let first = y[i + 1];
+                *y = y[i + 1..=j].to_vec();
+                y.push(first);
+                *q = q[i + 1..=j].to_vec();
+            } else {
+                y.drain(i + 1..=j);
+                q.drain(i + 1..=j);
             }
-            return (y, q);
+            splits += 1;
+        }
+        splits
+    }
+
+    fn turn(&self, rows: &mut [u32], c: &Circuit) {
+        for (i, &p) in c.partitions.iter().enumerate() {
+            if p < self.partitions {
+                rows[p] &= !(1 << c.nodes[i + 1]);
+                rows[p] |= 1 << c.nodes[i];
+            }
         }
     }
 
-    /// One improvement; whether there was one.
-    fn improve(&self, rows: &mut [u32], turn: bool) -> bool {
+    /// A cycle that gains, with a partition for each of its arcs.
+    fn circuit(&self, rows: &[u32]) -> Option<Circuit> {
         let g = self.graph(rows);
-        let Some(walk) = self.cycle(&g) else { return false };
-        if turn {
-            let q = (0..walk.len() - 1).map(|i| self.witness(rows, &g, walk[i + 1], walk[i])).collect();
-            let (y, q) = self.uncross(rows, walk, q);
-            for (i, &p) in q.iter().enumerate() {
-                if p < self.partitions {
-                    rows[p] &= !(1 << y[i + 1]);
-                    rows[p] |= 1 << y[i];
-                }
-            }
-        }
+        let nodes = self.cycle(&g)?;
+        let partitions = nodes
+            .windows(2)
+            .map(|y| self.witness(rows, &g, y[1], y[0]))
+            .collect();
+        Some(Circuit { nodes, partitions })
+    }
+
+    /// One improvement; whether there was one.
+    fn improve(&self, rows: &mut [u32]) -> bool {
+        let Some(mut circuit) = self.circuit(rows) else {
+            return false;
+        };
+        self.uncross(rows, &mut circuit);
+        self.turn(rows, &circuit);
         true
     }
 }
 
-/// The plan of a cluster; nothing where no layout is valid at size 1.
-pub fn plan(c: &Cluster, former: &Layout, allowance: u32) -> Option<Planned> {
+/// From v back along the levels until v comes again.
+fn walk_back(from: &[[u8; 32]], v: usize) -> Vec<usize> {
+    let mut walk = vec![v];
+    let mut at = v;
+    for level in from.iter().rev() {
+        at = level[at] as usize;
+        walk.push(at);
+        if at == v {
+            return walk;
+        }
+    }
+    unreachable!("a way back that meets its start comes to it");
+}
+
+/// What a run starts from; nothing where no layout is valid at size 1.
+fn begin(c: &Cluster, former: &Layout) -> Option<(Setting, u32, Vec<u32>)> {
     let zone = zones(c);
     let size = size(c, &zone);
     if size == 0 {
         return None;
     }
     let caps = caps_at(c, size);
-    let mut rows = deal(c, &zone, &caps);
+    let rows = deal(c, &zone, &caps);
     let nodes = c.nodes.len();
+    let set = |holds: &dyn Fn(usize) -> bool| {
+        (0..nodes)
+            .filter(|&b| holds(b))
+            .fold(0u32, |m, b| m | 1 << b)
+    };
     let mut setting = Setting {
         partitions: c.partitions(),
         nodes,
         redundancy: c.redundancy as u32,
-        all: if nodes == 32 { u32::MAX } else { (1 << nodes) - 1 },
+        all: set(&|_| true),
         mates: [0; 32],
         caps: [0; 32],
-        former: former.iter().map(|row| (0..nodes).filter(|&b| row.contains(&c.nodes[b].id)).fold(0, |m, b| m | 1 << b)).collect(),
-        zone,
+        former: former
+            .iter()
+            .map(|row| set(&|b| row.contains(&c.nodes[b].id)))
+            .collect(),
     };
+    setting.caps[..nodes].copy_from_slice(&caps);
     for b in 0..nodes {
-        setting.caps[b] = caps[b];
-        setting.mates[b] = (0..nodes).filter(|&d| setting.zone[d] == setting.zone[b]).fold(0, |m, d| m | 1 << d);
+        setting.mates[b] = set(&|d| zone[d] == zone[b]);
     }
+    Some((setting, size, rows))
+}
+
+/// The plan of a cluster; nothing where no layout is valid at size 1.
+pub fn plan(c: &Cluster, former: &Layout, allowance: u32) -> Option<Planned> {
+    let (setting, size, mut rows) = begin(c, former)?;
     let mut improvements = 0;
-    while improvements < allowance && setting.improve(&mut rows, true) {
+    while improvements < allowance && setting.improve(&mut rows) {
         improvements += 1;
     }
-    let finished = improvements < allowance || !setting.improve(&mut rows, false);
-    Some(Planned { size, finished, improvements, rows })
+    let finished = improvements < allowance || setting.cycle(&setting.graph(&rows)).is_none();
+    Some(Planned {
+        size,
+        finished,
+        improvements,
+        rows,
+    })
+}
+
+/// How the cycles of a whole run were split.
+#[derive(Clone, Copy, Debug, Default, PartialEq, Eq)]
+pub struct Splits {
+    /// Cycles found.
+    pub cycles: u32,
+    /// Those that were split.
+    pub split: u32,
+    /// Those that would have left an invalid row, had they been turned as found.
+    pub needed: u32,
+    /// The most splits of one cycle.
+    pub most: u32,
+}
+
+/// The splits of the run that finishes.
+pub fn splits(c: &Cluster, former: &Layout) -> Splits {
+    let mut counted = Splits::default();
+    let Some((setting, _, mut rows)) = begin(c, former) else {
+        return counted;
+    };
+    while let Some(mut circuit) = setting.circuit(&rows) {
+        let mut as_found = rows.clone();
+        setting.turn(&mut as_found, &circuit);
+        let is_invalid = |row: &u32| setting.cover(*row) < setting.redundancy;
+        let splits = setting.uncross(&rows, &mut circuit);
+        setting.turn(&mut rows, &circuit);
+        counted.cycles += 1;
+        counted.split += (splits > 0) as u32;
+        counted.needed += as_found.iter().any(is_invalid) as u32;
+        counted.most = counted.most.max(splits);
+    }
+    counted
 }
 
 /// The rows of masks as rows of ids.
 pub fn layout(c: &Cluster, rows: &[u32]) -> Layout {
-    rows.iter().map(|m| members(*m).map(|b| c.nodes[b].id).collect()).collect()
+    rows.iter()
+        .map(|m| members(*m).map(|b| c.nodes[b].id).collect())
+        .collect()
 }

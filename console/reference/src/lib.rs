@@ -1,6 +1,9 @@
-//! Unverified programs that the proved planner is compared with, each written from the papers and from nothing else:
-//! a listing of all layouts, a planner by the report's own method, a planner by the method of exchanges, and a parser.
+//! Unverified programs that the proved planner is compared with, each written from the papers and
+//! from nothing else: a listing of all layouts, a planner by the report's own method, a planner by
+//! the method of exchanges, a parser, and what the papers say of lent cells.
 
+pub mod cells;
+mod dealing;
 pub mod exchanges;
 pub mod listing;
 pub mod random;
@@ -45,7 +48,10 @@ pub type Layout = Vec<Vec<u32>>;
 pub fn distance(a: &Layout, b: &Layout) -> usize {
     a.iter()
         .zip(b)
-        .map(|(x, y)| x.iter().filter(|i| !y.contains(i)).count() + y.iter().filter(|i| !x.contains(i)).count())
+        .map(|(x, y)| {
+            x.iter().filter(|i| !y.contains(i)).count()
+                + y.iter().filter(|i| !x.contains(i)).count()
+        })
         .sum()
 }
 
@@ -58,12 +64,18 @@ pub fn is_valid(c: &Cluster, layout: &Layout, size: u64) -> bool {
         if row.len() != c.replication || row.windows(2).any(|w| w[0] >= w[1]) {
             return false;
         }
-        let Some(indices) = row.iter().map(|id| c.nodes.iter().position(|n| n.id == *id)).collect::<Option<Vec<_>>>() else {
+        let Some(indices) = row
+            .iter()
+            .map(|id| c.nodes.iter().position(|n| n.id == *id))
+            .collect::<Option<Vec<_>>>()
+        else {
             return false;
         };
         if c.zones_of(&indices) < c.redundancy {
             return false;
         }
     }
-    c.nodes.iter().all(|n| layout.iter().filter(|r| r.contains(&n.id)).count() as u64 * size <= n.capacity as u64)
+    c.nodes.iter().all(|n| {
+        layout.iter().filter(|r| r.contains(&n.id)).count() as u64 * size <= n.capacity as u64
+    })
 }

@@ -40,7 +40,8 @@ fn each(rows: usize, partitions: usize, f: &mut impl FnMut(&[usize])) {
     }
 }
 
-/// The largest size of one layout: the least of capacity over copies, rounded down, over nodes with copies.
+/// The largest size of one layout: the least of capacity over copies, rounded down, over nodes with
+/// copies.
 fn size_of(c: &Cluster, rows: &[Vec<usize>], choice: &[usize]) -> u64 {
     let mut copies = vec![0u64; c.nodes.len()];
     for &r in choice {
@@ -48,11 +49,18 @@ fn size_of(c: &Cluster, rows: &[Vec<usize>], choice: &[usize]) -> u64 {
             copies[b] += 1;
         }
     }
-    (0..c.nodes.len()).filter(|&b| copies[b] > 0).map(|b| c.nodes[b].capacity as u64 / copies[b]).min().unwrap_or(0)
+    (0..c.nodes.len())
+        .filter(|&b| copies[b] > 0)
+        .map(|b| c.nodes[b].capacity as u64 / copies[b])
+        .min()
+        .unwrap_or(0)
 }
 
 fn layout_of(c: &Cluster, rows: &[Vec<usize>], choice: &[usize]) -> Layout {
-    choice.iter().map(|&r| rows[r].iter().map(|&b| c.nodes[b].id).collect()).collect()
+    choice
+        .iter()
+        .map(|&r| rows[r].iter().map(|&b| c.nodes[b].id).collect())
+        .collect()
 }
 
 /// How many layouts there are to list: the caller keeps this small.
@@ -64,15 +72,23 @@ pub fn effort(c: &Cluster) -> u64 {
 pub fn list(c: &Cluster, former: &Layout) -> Option<Listed> {
     let rows = rows(c);
     let mut size = 0;
-    each(rows.len(), c.partitions(), &mut |choice| size = size.max(size_of(c, &rows, choice)));
+    each(rows.len(), c.partitions(), &mut |choice| {
+        size = size.max(size_of(c, &rows, choice))
+    });
     if size == 0 {
         return None;
     }
-    let mut found = Listed { size, least_distance: usize::MAX, layouts: 0 };
+    let mut found = Listed {
+        size,
+        least_distance: usize::MAX,
+        layouts: 0,
+    };
     each(rows.len(), c.partitions(), &mut |choice| {
         if size_of(c, &rows, choice) >= size {
             found.layouts += 1;
-            found.least_distance = found.least_distance.min(distance(&layout_of(c, &rows, choice), former));
+            found.least_distance = found
+                .least_distance
+                .min(distance(&layout_of(c, &rows, choice), former));
         }
     });
     Some(found)

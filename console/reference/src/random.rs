@@ -1,4 +1,5 @@
-//! A small generator of random numbers with a fixed seed (xorshift64*), so that every run tries the same cases.
+//! A small generator of random numbers with a fixed seed (xorshift64*), so that every run tries the
+//! same cases.
 
 pub struct Random(u64);
 
@@ -7,7 +8,7 @@ impl Random {
         Random(seed.wrapping_mul(0x9E37_79B9_7F4A_7C15) | 1)
     }
 
-    pub fn next(&mut self) -> u64 {
+    pub fn number(&mut self) -> u64 {
         self.0 ^= self.0 >> 12;
         self.0 ^= self.0 << 25;
         self.0 ^= self.0 >> 27;
@@ -16,7 +17,7 @@ impl Random {
 
     /// A number from 0 to n - 1.
     pub fn below(&mut self, n: u64) -> u64 {
-        (self.next() >> 11) % n
+        (self.number() >> 11) % n
     }
 
     /// A number from a to b, both included.

@@ -17,7 +17,11 @@ impl<'a> Fields<'a> {
     }
 
     /// The next field's tag, body and first byte; `legal` judges tag and length.
-    fn next(&mut self, tags: &[u8], legal: impl Fn(u8, usize) -> bool) -> Result<(u8, &'a [u8], usize), Refused> {
+    fn next(
+        &mut self,
+        tags: &[u8],
+        legal: impl Fn(u8, usize) -> bool,
+    ) -> Result<(u8, &'a [u8], usize), Refused> {
         let at = self.at;
         let rest = &self.bytes[at..];
         if rest.len() < 3 {
@@ -62,57 +66,84 @@ fn fixed(tag: u8, len: usize) -> bool {
 
 fn rows(tag: u8, len: usize) -> bool {
     if tag == 5 || tag == 10 {
-        len >= 6 && len <= 34 && (len - 2) % 4 == 0
+        (6..=34).contains(&len) && len % 4 == 2
     } else {
         fixed(tag, len)
     }
 }
 
+/// Takes a field of one number that must come next and lie in its range.
+fn number_field(f: &mut Fields, tag: u8, least: u64, most: u64) -> Result<u64, Refused> {
+    if f.done() {
+        return Err((7, f.bytes.len()));
+    }
+    let (_, body, at) = f.next(&[tag], rows)?;
+    let v = number(body);
+    if v < least || v > most {
+        return Err((4, at));
+    }
+    Ok(v)
+}
+
+fn take_node(c: &mut Cluster, body: &[u8], at: usize) -> Result<(), Refused> {
+    let node = Node {
+        id: number(&body[..4]) as u32,
+        zone: number(&body[4..6]) as u16,
+        capacity: number(&body[6..]) as u32,
+    };
+    if node.id == 0 {
+        return Err((4, at));
+    }
+    if c.nodes.last().is_some_and(|n| n.id >= node.id) {
+        return Err((5, at));
+    }
+    if c.nodes.len() == 32 {
+        return Err((6, at));
+    }
+    c.nodes.push(node);
+    Ok(())
+}
+
+/// Takes a row; its partition has to be one that `follows` the rows before.
+fn take_row(
+    layout: &mut Layout,
+    body: &[u8],
+    at: usize,
+    follows: impl Fn(usize) -> bool,
+) -> Result<usize, Refused> {
+    let (p, row) = (number(&body[..2]) as usize, ids(&body[2..]));
+    if p >= layout.len() || row.contains(&0) {
+        return Err((4, at));
+    }
+    if !follows(p) || !rising(&row) {
+        return Err((5, at));
+    }
+    layout[p] = row;
+    Ok(p)
+}
+
 /// Reads a cluster record: the cluster and its former layout, P rows.
 pub fn read_cluster(bytes: &[u8]) -> Result<(Cluster, Layout), Refused> {
     let mut f = Fields { bytes, at: 0 };
-    let first = |tag: u8, most: u64, f: &mut Fields| -> Result<u64, Refused> {
-        if f.done() {
-            return Err((7, bytes.len()));
-        }
-        let (_, body, at) = f.next(&[tag], rows)?;
-        let v = number(body);
-        if (tag != 1 && v == 0) || v > most {
-            return Err((4, at));
-        }
-        Ok(v)
+    let bits = number_field(&mut f, 1, 0, 8)? as u32;
+    let replication = number_field(&mut f, 2, 1, 8)?;
+    let redundancy = number_field(&mut f, 3, 1, replication)? as usize;
+    let mut c = Cluster {
+        bits,
+        replication: replication as usize,
+        redundancy,
+        nodes: Vec::new(),
     };
-    let bits = first(1, 8, &mut f)? as u32;
-    let replication = first(2, 8, &mut f)? as usize;
-    let redundancy = first(3, replication as u64, &mut f)? as usize;
-    let mut c = Cluster { bits, replication, redundancy, nodes: Vec::new() };
     let mut former: Layout = vec![Vec::new(); c.partitions()];
-    let mut last_row: Option<u64> = None;
+    let mut last_row: Option<usize> = None;
     while !f.done() {
         let tags: &[u8] = if last_row.is_some() { &[5] } else { &[4, 5] };
         let (tag, body, at) = f.next(tags, rows)?;
         if tag == 4 {
-            let node = Node { id: number(&body[..4]) as u32, zone: number(&body[4..6]) as u16, capacity: number(&body[6..]) as u32 };
-            if node.id == 0 {
-                return Err((4, at));
-            }
-            if c.nodes.last().map_or(false, |n| n.id >= node.id) {
-                return Err((5, at));
-            }
-            if c.nodes.len() == 32 {
-                return Err((6, at));
-            }
-            c.nodes.push(node);
+            take_node(&mut c, body, at)?;
         } else {
-            let (p, row) = (number(&body[..2]), ids(&body[2..]));
-            if p >= c.partitions() as u64 || row.contains(&0) {
-                return Err((4, at));
-            }
-            if last_row.map_or(false, |q| q >= p) || !rising(&row) {
-                return Err((5, at));
-            }
-            last_row = Some(p);
-            former[p as usize] = row;
+            let rises = |p| last_row.is_none_or(|q| q < p);
+            last_row = Some(take_row(&mut former, body, at, rises)?);
         }
     }
     Ok((c, former))
@@ -132,40 +163,23 @@ pub struct Numbers {
 /// Reads a layout record.
 pub fn read_layout(bytes: &[u8]) -> Result<(Numbers, Layout), Refused> {
     let mut f = Fields { bytes, at: 0 };
-    let first = |tag: u8, least: u64, most: u64, f: &mut Fields| -> Result<u32, Refused> {
-        if f.done() {
-            return Err((7, bytes.len()));
-        }
-        let (_, body, at) = f.next(&[tag], rows)?;
-        let v = number(body);
-        if v < least || v > most {
-            return Err((4, at));
-        }
-        Ok(v as u32)
-    };
+    let mut head = |tag, least, most| number_field(&mut f, tag, least, most).map(|v| v as u32);
     let numbers = Numbers {
-        bits: first(1, 0, 8, &mut f)?,
-        replication: first(2, 1, 8, &mut f)?,
-        size: first(6, 1, u32::MAX as u64, &mut f)?,
-        distance: first(7, 0, 4096, &mut f)?,
-        verdict: first(8, 0, 1, &mut f)?,
-        improvements: first(9, 0, 2048, &mut f)?,
+        bits: head(1, 0, 8)?,
+        replication: head(2, 1, 8)?,
+        size: head(6, 1, u32::MAX.into())?,
+        distance: head(7, 0, 4096)?,
+        verdict: head(8, 0, 1)?,
+        improvements: head(9, 0, 2048)?,
     };
-    let partitions = 1usize << numbers.bits;
-    let mut layout: Layout = Vec::new();
-    while layout.len() < partitions {
+    let mut layout: Layout = vec![Vec::new(); 1 << numbers.bits];
+    for next in 0..layout.len() {
         if f.done() {
             return Err((7, bytes.len()));
         }
-        let (_, body, at) = f.next(&[10], |_, len| len == 2 + 4 * numbers.replication as usize)?;
-        let (p, row) = (number(&body[..2]), ids(&body[2..]));
-        if p >= partitions as u64 || row.contains(&0) {
-            return Err((4, at));
-        }
-        if p != layout.len() as u64 || !rising(&row) {
-            return Err((5, at));
-        }
-        layout.push(row);
+        let of_this_record = |_, len| len == 2 + 4 * numbers.replication as usize;
+        let (_, body, at) = f.next(&[10], of_this_record)?;
+        take_row(&mut layout, body, at, |p| p == next)?;
     }
     if !f.done() {
         f.next(&[], rows)?;

@@ -1,5 +1,7 @@
-//! The report's own method (document 000): the size by dichotomy over maximal flows, a candidate that starts from the former associations,
-//! then negative cycles by Bellman and Ford until there is none. Unverified; the rounds are not cut at 4N + 1, so that its answer is right.
+//! The report's own method (document 000): the size by dichotomy over maximal flows, a candidate
+//! that starts from the former associations, then negative cycles by Bellman and Ford until there
+//! is none. Unverified. The rounds of the search are cut at 4N + 1 only where a caller asks for it,
+//! to show that the answer is then wrong.
 
 use crate::{Cluster, Layout};
 
@@ -22,13 +24,26 @@ const SINK: usize = 1;
 
 impl Network {
     fn new(vertices: usize) -> Network {
-        Network { arcs: Vec::new(), out: vec![Vec::new(); vertices], level: vec![0; vertices], next: vec![0; vertices] }
+        Network {
+            arcs: Vec::new(),
+            out: vec![Vec::new(); vertices],
+            level: vec![0; vertices],
+            next: vec![0; vertices],
+        }
     }
 
     fn arc(&mut self, from: usize, to: usize, capacity: u32) -> usize {
         let i = self.arcs.len();
-        self.arcs.push(Arc { to, capacity, weight: 0 });
-        self.arcs.push(Arc { to: from, capacity: 0, weight: 0 });
+        self.arcs.push(Arc {
+            to,
+            capacity,
+            weight: 0,
+        });
+        self.arcs.push(Arc {
+            to: from,
+            capacity: 0,
+            weight: 0,
+        });
         self.out[from].push(i);
         self.out[to].push(i + 1);
         i
@@ -86,30 +101,69 @@ impl Network {
         total
     }
 
-    /// Disjoint negative cycles of the residual graph, as lists of arcs.
+    /// One round of Bellman and Ford over all arcs; whether a distance fell.
+    fn relax(&self, dist: &mut [i32], via: &mut [usize]) -> bool {
+        let mut fell = false;
+        for u in 0..self.out.len() {
+            for &i in &self.out[u] {
+                let a = &self.arcs[i];
+                if a.capacity > 0 && dist[u] + a.weight < dist[a.to] {
+                    dist[a.to] = dist[u] + a.weight;
+                    via[a.to] = i;
+                    fell = true;
+                }
+            }
+        }
+        fell
+    }
+
+    /// Disjoint negative cycles of the residual graph, as lists of arcs; none only where there is
+    /// none. It looks for cycles after each round, which the report does not.
     fn negative_cycles(&self) -> Vec<Vec<usize>> {
         let n = self.out.len();
         let mut dist = vec![0i32; n];
         let mut via = vec![usize::MAX; n];
-        let mut last = Vec::new();
         for _ in 0..n {
-            last.clear();
-            for u in 0..n {
-                for &i in &self.out[u] {
-                    let a = &self.arcs[i];
-                    if a.capacity > 0 && dist[u] + a.weight < dist[a.to] {
-                        dist[a.to] = dist[u] + a.weight;
-                        via[a.to] = i;
-                        last.push(a.to);
-                    }
-                }
-            }
-            if last.is_empty() {
+            if !self.relax(&mut dist, &mut via) {
                 return Vec::new();
             }
             let found = self.cycles_back(&via);
             if !found.is_empty() {
                 return found;
+            }
+        }
+        self.cycles_back(&via)
+    }
+
+    /// The negative cycles as the report finds them: so many rounds, and then the cycles that they
+    /// show.
+    fn cycles_in_rounds(&self, rounds: usize) -> Vec<Vec<usize>> {
+        let n = self.out.len();
+        let mut dist = vec![0i32; n];
+        let mut via = vec![usize::MAX; n];
+        for _ in 0..rounds {
+            self.relax(&mut dist, &mut via);
+        }
+        self.cycles_back(&via)
+    }
+
+    /// The cycles that so many rounds of Bellman and Ford show, each round working from the
+    /// distances of the round before: after i rounds all shortest walks of at most i arcs are
+    /// known, as the report counts them.
+    fn cycles_after(&self, rounds: usize) -> Vec<Vec<usize>> {
+        let n = self.out.len();
+        let mut dist = vec![0i32; n];
+        let mut via = vec![usize::MAX; n];
+        for _ in 0..rounds {
+            let before = dist.clone();
+            for (out, reached) in self.out.iter().zip(&before) {
+                for &i in out {
+                    let a = &self.arcs[i];
+                    if a.capacity > 0 && reached + a.weight < dist[a.to] {
+                        dist[a.to] = reached + a.weight;
+                        via[a.to] = i;
+                    }
+                }
             }
         }
         self.cycles_back(&via)
@@ -142,29 +196,125 @@ impl Network {
     }
 }
 
-/// The graph G(s) of the report and the arcs from partition and zone to nodes, by partition and node.
-fn graph(c: &Cluster, size: u64, zone: &[usize], zones: usize, only: Option<&Vec<Vec<bool>>>) -> (Network, Vec<Vec<usize>>) {
-    let (p, n) = (c.partitions(), c.nodes.len());
-    let (plus, minus, cross, node) = (2, 2 + p, 2 + 2 * p, 2 + 2 * p + p * zones);
-    let mut net = Network::new(node + n);
-    let spare = (c.replication - c.redundancy) as u32;
-    let mut held = vec![vec![0; n]; p];
-    for q in 0..p {
-        net.arc(SOURCE, plus + q, c.redundancy as u32);
-        net.arc(SOURCE, minus + q, spare);
-        for z in 0..zones {
-            net.arc(plus + q, cross + q * zones + z, 1);
-            net.arc(minus + q, cross + q * zones + z, spare);
+/// The network of a cluster at a size: the graph G(s) of the report.
+struct Assigning<'a> {
+    cluster: &'a Cluster,
+    net: Network,
+    /// The arc from partition and zone to node, by partition and node.
+    held: Vec<Vec<usize>>,
+}
+
+/// For each node the place of its zone among the zones in use.
+fn zone_places(c: &Cluster) -> (Vec<usize>, usize) {
+    let mut numbers: Vec<u16> = c.nodes.iter().map(|b| b.zone).collect();
+    numbers.sort_unstable();
+    numbers.dedup();
+    let place = |zone| numbers.iter().position(|n| *n == zone).expect("in use");
+    (
+        c.nodes.iter().map(|b| place(b.zone)).collect(),
+        numbers.len(),
+    )
+}
+
+impl Assigning<'_> {
+    /// The graph with only those associations that are open.
+    fn new(c: &Cluster, size: u64, open: impl Fn(usize, usize) -> bool) -> Assigning<'_> {
+        let (zone, zones) = zone_places(c);
+        let (p, n) = (c.partitions(), c.nodes.len());
+        let (plus, minus, cross) = (2, 2 + p, 2 + 2 * p);
+        let node = cross + p * zones;
+        let mut net = Network::new(node + n);
+        let spare = (c.replication - c.redundancy) as u32;
+        let mut held = vec![vec![0; n]; p];
+        for (q, held) in held.iter_mut().enumerate() {
+            net.arc(SOURCE, plus + q, c.redundancy as u32);
+            net.arc(SOURCE, minus + q, spare);
+            for z in 0..zones {
+                net.arc(plus + q, cross + q * zones + z, 1);
+                net.arc(minus + q, cross + q * zones + z, spare);
+            }
+            for (b, held) in held.iter_mut().enumerate() {
+                *held = net.arc(cross + q * zones + zone[b], node + b, open(q, b) as u32);
+            }
         }
-        for b in 0..n {
-            let open = only.map_or(true, |o| o[q][b]);
-            held[q][b] = net.arc(cross + q * zones + zone[b], node + b, open as u32);
+        for (b, box_) in c.nodes.iter().enumerate() {
+            let most = (box_.capacity as u64 / size).min(p as u64);
+            net.arc(node + b, SINK, most as u32);
+        }
+        Assigning {
+            cluster: c,
+            net,
+            held,
         }
     }
-    for (b, box_) in c.nodes.iter().enumerate() {
-        net.arc(node + b, SINK, (box_.capacity as u64 / size).min(p as u64) as u32);
+
+    /// A maximal flow that first takes all it can of the associations of `first`.
+    fn starting_from<'a>(c: &'a Cluster, size: u64, first: &Layout) -> Assigning<'a> {
+        let holds = |q: usize, b: usize| first[q].contains(&c.nodes[b].id);
+        let mut g = Assigning::new(c, size, holds);
+        g.net.maximise();
+        for q in 0..c.partitions() {
+            for b in (0..c.nodes.len()).filter(|&b| !holds(q, b)) {
+                g.net.arcs[g.held[q][b]].capacity = 1;
+            }
+        }
+        g.net.maximise();
+        g
     }
-    (net, held)
+
+    /// An association that stood before weighs -1, any other 1.
+    fn weigh(&mut self, former: &Layout) {
+        for (held, row) in self.held.iter().zip(former) {
+            for (&i, node) in held.iter().zip(&self.cluster.nodes) {
+                let weight = if row.contains(&node.id) { -1 } else { 1 };
+                self.net.arcs[i].weight = weight;
+                self.net.arcs[i ^ 1].weight = -weight;
+            }
+        }
+    }
+
+    /// Turns negative cycles as long as the search finds any.
+    fn minimise(&mut self, search: impl Fn(&Network) -> Vec<Vec<usize>>) {
+        loop {
+            let cycles = search(&self.net);
+            if cycles.is_empty() {
+                return;
+            }
+            for i in cycles.into_iter().flatten() {
+                self.net.arcs[i].capacity -= 1;
+                self.net.arcs[i ^ 1].capacity += 1;
+            }
+        }
+    }
+
+    fn layout(&self) -> Layout {
+        let row = |held: &Vec<usize>| {
+            let nodes = held.iter().zip(&self.cluster.nodes);
+            let taken = nodes.filter(|(&i, _)| self.net.arcs[i].capacity == 0);
+            taken.map(|(_, node)| node.id).collect()
+        };
+        self.held.iter().map(row).collect()
+    }
+}
+
+/// The size by dichotomy; nothing where no layout is valid at size 1.
+fn size(c: &Cluster) -> Option<u64> {
+    let full = (c.replication * c.partitions()) as u32;
+    let fits = |size| Assigning::new(c, size, |_, _| true).net.maximise() == full;
+    if !fits(1) {
+        return None;
+    }
+    let total: u64 = c.nodes.iter().map(|b| b.capacity as u64).sum();
+    let (mut low, mut high) = (1, 1 + total / c.replication as u64);
+    while low + 1 < high {
+        let middle = (low + high) / 2;
+        if fits(middle) {
+            low = middle;
+        } else {
+            high = middle;
+        }
+    }
+    Some(low)
 }
 
 pub struct Planned {
@@ -174,55 +324,40 @@ pub struct Planned {
 
 /// The plan of a cluster; nothing where no layout is valid at size 1.
 pub fn plan(c: &Cluster, former: &Layout) -> Option<Planned> {
-    let (p, n) = (c.partitions(), c.nodes.len());
-    let mut numbers: Vec<u16> = c.nodes.iter().map(|b| b.zone).collect();
-    numbers.sort_unstable();
-    numbers.dedup();
-    let zone: Vec<usize> = c.nodes.iter().map(|b| numbers.binary_search(&b.zone).unwrap()).collect();
-    let zones = numbers.len();
-    let full = (c.replication * p) as u32;
-    if graph(c, 1, &zone, zones, None).0.maximise() < full {
-        return None;
-    }
-    let (mut low, mut high) = (1, 1 + c.nodes.iter().map(|b| b.capacity as u64).sum::<u64>() / c.replication as u64);
-    while low + 1 < high {
-        let middle = (low + high) / 2;
-        if graph(c, middle, &zone, zones, None).0.maximise() < full {
-            high = middle;
-        } else {
-            low = middle;
-        }
-    }
-    let before: Vec<Vec<bool>> = former.iter().map(|row| c.nodes.iter().map(|b| row.contains(&b.id)).collect()).collect();
-    let (mut net, held) = graph(c, low, &zone, zones, Some(&before));
-    net.maximise();
-    for q in 0..p {
-        for b in 0..n {
-            if !before[q][b] {
-                net.arcs[held[q][b]].capacity = 1;
-            }
-        }
-    }
-    net.maximise();
-    for q in 0..p {
-        for b in 0..n {
-            let i = held[q][b];
-            net.arcs[i].weight = if before[q][b] { -1 } else { 1 };
-            net.arcs[i ^ 1].weight = -net.arcs[i].weight;
-        }
-    }
-    loop {
-        let cycles = net.negative_cycles();
-        if cycles.is_empty() {
-            break;
-        }
-        for cycle in cycles {
-            for i in cycle {
-                net.arcs[i].capacity -= 1;
-                net.arcs[i ^ 1].capacity += 1;
-            }
-        }
-    }
-    let layout = (0..p).map(|q| (0..n).filter(|&b| net.arcs[held[q][b]].capacity == 0).map(|b| c.nodes[b].id).collect()).collect();
-    Some(Planned { size: low, layout })
+    planned(c, former, Network::negative_cycles)
+}
+
+/// The plan as the report's text has it, with 4N + 1 rounds in every search.
+pub fn plan_as_written(c: &Cluster, former: &Layout) -> Option<Planned> {
+    let rounds = 4 * c.nodes.len() + 1;
+    planned(c, former, |net| net.cycles_in_rounds(rounds))
+}
+
+fn planned(
+    c: &Cluster,
+    former: &Layout,
+    search: impl Fn(&Network) -> Vec<Vec<usize>>,
+) -> Option<Planned> {
+    let size = size(c)?;
+    let mut g = Assigning::starting_from(c, size, former);
+    g.weigh(former);
+    g.minimise(search);
+    Some(Planned {
+        size,
+        layout: g.layout(),
+    })
+}
+
+/// What the report's last step makes of a layout of that size, its search cut after so many rounds.
+pub fn improve_cut(
+    c: &Cluster,
+    former: &Layout,
+    size: u64,
+    start: &Layout,
+    rounds: usize,
+) -> Layout {
+    let mut g = Assigning::starting_from(c, size, start);
+    g.weigh(former);
+    g.minimise(|net| net.cycles_after(rounds));
+    g.layout()
 }

@@ -1,18 +1,36 @@
-//! The unverified programs agree with one another: the listing, the method of exchanges and the report's method.
+//! The unverified programs agree with one another: the listing, the method of exchanges and the
+//! report's method.
 
 use reference::random::Random;
 use reference::{distance, exchanges, is_valid, listing, report, Cluster, Layout, Node};
 
-/// A small cluster and a former layout, with gone nodes, long former rows, capacities of 0 and too many zones wanted.
+/// A small cluster and a former layout, with gone nodes, long former rows, capacities of 0 and too
+/// many zones wanted.
 fn small(r: &mut Random) -> (Cluster, Layout) {
     let bits = r.between(0, 2) as u32;
     let n = r.between(0, 5) as usize;
     let replication = r.between(1, 3) as usize;
     let redundancy = r.between(1, replication as u64) as usize;
-    let nodes = (0..n).map(|b| Node { id: 3 * b as u32 + 1, zone: r.between(0, 3) as u16, capacity: r.between(0, 12) as u32 }).collect();
-    let c = Cluster { bits, replication, redundancy, nodes };
+    let nodes = (0..n)
+        .map(|b| Node {
+            id: 3 * b as u32 + 1,
+            zone: r.between(0, 3) as u16,
+            capacity: r.between(0, 12) as u32,
+        })
+        .collect();
+    let c = Cluster {
+        bits,
+        replication,
+        redundancy,
+        nodes,
+    };
     let former = (0..c.partitions())
-        .map(|_| (1..=16u32).filter(|id| r.chance(if id % 3 == 1 { 40 } else { 5 })).take(8).collect())
+        .map(|_| {
+            (1..=16u32)
+                .filter(|id| r.chance(if id % 3 == 1 { 40 } else { 5 }))
+                .take(8)
+                .collect()
+        })
         .collect();
     (c, former)
 }
@@ -37,12 +55,24 @@ fn all_agree_on_small_clusters() {
                 let layout = exchanges::layout(&c, &planned.rows);
                 assert_eq!(planned.size as u64, listed.size, "{c:?}");
                 assert!(is_valid(&c, &layout, listed.size), "{c:?}");
-                assert_eq!(distance(&layout, &former), listed.least_distance, "{c:?} {former:?}");
+                assert_eq!(
+                    distance(&layout, &former),
+                    listed.least_distance,
+                    "{c:?} {former:?}"
+                );
                 assert!(planned.finished);
                 let flow = flow.expect("a layout exists");
                 assert_eq!(flow.size, listed.size, "{c:?}");
-                assert!(is_valid(&c, &flow.layout, listed.size), "{c:?} {:?}", flow.layout);
-                assert_eq!(distance(&flow.layout, &former), listed.least_distance, "{c:?} {former:?}");
+                assert!(
+                    is_valid(&c, &flow.layout, listed.size),
+                    "{c:?} {:?}",
+                    flow.layout
+                );
+                assert_eq!(
+                    distance(&flow.layout, &former),
+                    listed.least_distance,
+                    "{c:?} {former:?}"
+                );
             }
         }
     }

@@ -1,10 +1,11 @@
 -- Demand 3 of the planner, and what refusal 9 means: the theorems that a customer reads. Their statements are in the terms of document 01.
 -- Assumes nothing.
-use Prim.Native.Nat.{ℕ, _+_, _*_, _≤_, _<_}
+use Prim.Native.Nat.{ℕ, suc, _+_, _≤_}
 use mathlib.Core.Path.{_≡_, refl, sym, subst}
+use mathlib.Core.Bool.{false}
 use native.Mathlib.Omega.{arith}
 use native.Mathlib.Nat.{le-antisymm}
-use Rattle.cluster.specs.Terms.{Topology, Layout, ValidAt, IsSize, IsFormer}
+use Rattle.cluster.specs.Terms.{Topology, Layout, ValidAt, IsSize, IsFormer, distance}
 use Rattle.cluster.specs.Faults.{Accepted}
 use Rattle.cluster.proofs.TieLayouts.{valid-of-within}
 use Rattle.sizing.specs.Model.{Fits32, sizeOf}
@@ -45,6 +46,14 @@ demand3 t a low L v =
           rules t F (sizeOf t) (improvesAt t F) (nextAt t F) (layoutRows t) (farRows t F) (startRows t) (Good t a) (machine t a F fo low large)
           (layoutRows t (startRows t)) refl;
     }
+
+-- A stopped answer is never the nearest: one more improvement reaches a layout valid at the size that is nearer by two at least.
+pub stopped-nearer : (t : Topology) → Accepted t → Fits32 t → (L : Layout) → ValidAt t L 1 → (F : Layout) → IsFormer t F → (n : ℕ)
+    → planOf t F n .finished ≡ false → (M : Layout) × (ValidAt t M (planOf t F n .size) × (distance t M F + 2 ≤ planOf t F n .distance))
+unfolding planOf
+stopped-nearer t a low L v F fo n e =
+    let r = demand3 t a low L v .rules F fo in
+    (planOf t F (suc n) .layout, (r .valid (suc n), omega (arith, r .measured (suc n), r .stopped n e .lower)))
 
 -- Demand 2: the size that planning finds is 0 exactly when no layout is valid at size 1.
 pub no-layout : (t : Topology) → Accepted t → (sizeOf t ≡ 0 → (L : Layout) → ValidAt t L 1 → ⊥) × (((L : Layout) → ValidAt t L 1 → ⊥) → sizeOf t ≡ 0)

@@ -4,3 +4,4 @@ pub mod Demands
 pub mod Refusals
 pub mod Settling
 pub mod Planning
+pub mod Only

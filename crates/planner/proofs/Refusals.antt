@@ -1,20 +1,52 @@
 -- The refusals of planning, case by case, and what is there where nothing is refused.
 -- Assumes nothing.
-use Prim.Native.Nat.{ℕ, _≤_, _<_}
-use mathlib.Core.Path.{_≡_, refl, sym, ap, _∙_}
-use mathlib.Core.Bool.{Bool, true, false, not, _||_}
+use Prim.Native.Nat.{ℕ, zero, suc, _*_, _≤_, _<_}
+use mathlib.Core.Path.{_≡_, refl, sym, ap, ap₂, _∙_}
+use mathlib.Core.Bool.{Bool, true, false, _&&_, _||_}
 use mathlib.Core.List.{List}
 use native.Mathlib.Omega.{arith}
-use lib.Dec.{ltb, eqb}
+use lib.Dec.{ltb, leb, eqb}
 use lib.ListN.{length}
-use borrow.Author.Tests.{lt-ltb, le-ltb, eq-eqb, ne-eqb, eqb-true, ltb-false}
+use borrow.Author.Tests.{le-leb, lt-ltb, le-ltb, eq-eqb, ne-eqb, eqb-true, ltb-false}
 use Rattle.sums.specs.Sum.{pick}
 use Rattle.cluster.specs.Terms.{topology, partitions}
+use Rattle.cluster.specs.TermsCells.{rowAt, idsIn, formed}
+use Rattle.cluster.specs.RowScan.{illFormed, hasRow, idCount, rowIds}
 use Rattle.cluster.specs.Faults.{faultOf}
 use Rattle.cluster.specs.declared.Cluster.{Cluster}
-use Rattle.masks.specs.Model.{rowsFormed}
+use Rattle.cluster.proofs.Accepting.{accepted}
+use Rattle.cluster.proofs.CellLayouts.{few-ids}
+use Rattle.cluster.proofs.RowScans.{row-of-buffer}
+use Rattle.masks.specs.Model.{rowsFormed, allTo}
 use Rattle.improve.proofs.Runs.{not-both}
-use Rattle.planner.specs.TermsPlan.{unusable}
+use Rattle.planner.specs.TermsPlan.{formedRows, unusable}
+use Rattle.planner.proofs.Machines.{few-partitions}
+
+-- The test of the former rows that code makes is the one of the definition.
+module _ (cells : List ℕ) (whole : 2048 ≤ length cells) where
+  test : (b : Bool) (n : ℕ) → n ≤ 8 → ltb (pick b n illFormed) illFormed ≡ b
+  test true n l = lt-ltb n illFormed (omega arith)
+  test false n l = refl
+
+  one-row : (p : ℕ) → p < 256 → ltb (rowIds cells p) illFormed ≡ formed (rowAt cells p)
+  unfolding rowIds idCount
+  one-row p l =
+      ap (λ (b : Bool). ltb (pick b (idCount (rowAt cells p)) illFormed) illFormed) (row-of-buffer cells p whole l)
+      ∙ test (formed (rowAt cells p)) (length (idsIn (rowAt cells p))) (few-ids cells p)
+
+  all-rows : (n : ℕ) → n ≤ 256 → allTo n (λ p. ltb (rowIds cells p) illFormed) ≡ formedRows n cells
+  unfolding allTo formedRows
+  all-rows zero l = refl
+  all-rows (suc n) l = ap₂ _&&_ (all-rows n (omega arith)) (one-row n (omega arith))
+
+  rows-same : (n : ℕ) → n ≤ 256 → formedRows n cells ≡ rowsFormed cells n
+  unfolding rowsFormed
+  rows-same n l = sym (ap (λ (b : Bool). b && allTo n (λ p. ltb (rowIds cells p) illFormed)) (le-leb n 256 l) ∙ all-rows n l)
+
+-- The same of the former rows of a cluster without fault.
+former-same : (c : Cluster) (former : List ℕ) → 2048 ≤ length former → faultOf c ≡ 0
+    → formedRows (partitions (topology c)) former ≡ rowsFormed former (partitions (topology c))
+former-same c former whole e = rows-same former whole (partitions (topology c)) (few-partitions (topology c) (accepted c e))
 
 module _ (c : Cluster) (former : List ℕ) (a s : ℕ) where
   pub short-former : length former < 2048 → 8 ≡ unusable c former a s
@@ -37,11 +69,11 @@ module _ (c : Cluster) (former : List ℕ) (a s : ℕ) where
 
       pub usable : faultOf c ≡ 0 → rowsFormed former (partitions (topology c)) ≡ true → 0 ≡ unusable c former a s
       unfolding unusable
-      usable e r = simp (le-ltb (length former) 2048 f, le-ltb a 2048 g, le-ltb s 16384 h, eq-eqb (faultOf c) 0 e, r)
+      usable e r = simp (le-ltb (length former) 2048 f, le-ltb a 2048 g, le-ltb s 16384 h, eq-eqb (faultOf c) 0 e, former-same c former f e, r)
 
       pub ill-formed : faultOf c ≡ 0 → rowsFormed former (partitions (topology c)) ≡ false → 5 ≡ unusable c former a s
       unfolding unusable
-      ill-formed e r = simp (le-ltb (length former) 2048 f, le-ltb a 2048 g, le-ltb s 16384 h, eq-eqb (faultOf c) 0 e, r)
+      ill-formed e r = simp (le-ltb (length former) 2048 f, le-ltb a 2048 g, le-ltb s 16384 h, eq-eqb (faultOf c) 0 e, former-same c former f e, r)
 
 -- What is there where nothing is refused.
 pub record Usable (c : Cluster) (former : List ℕ) (a s : ℕ) : Type 0 where
@@ -55,18 +87,18 @@ pub usable-has : (c : Cluster) (former : List ℕ) (a s : ℕ) → unusable c fo
 unfolding unusable
 usable-has c former a s e = go (ltb (length former) 2048) refl (ltb a 2048) refl (ltb s 16384) refl e
   where
-    rows : 2048 ≤ length former → 2048 ≤ a → 16384 ≤ s → faultOf c ≡ 0 → (r : Bool) → rowsFormed former (partitions (topology c)) ≡ r
+    rows : 2048 ≤ length former → 2048 ≤ a → 16384 ≤ s → faultOf c ≡ 0 → (r : Bool) → formedRows (partitions (topology c)) former ≡ r
         → _≡_ {A = ℕ} (pick r 0 5) 0 → Usable c former a s
-    rows f g h z true q k = record { former-long = f; assignment-long = g; scratch-long = h; faultless = z; rows-formed = q }
+    rows f g h z true q k = record { former-long = f; assignment-long = g; scratch-long = h; faultless = z; rows-formed = sym (former-same c former f z) ∙ q }
     rows f g h z false q k = absurd (omega arith)
 
     fault : 2048 ≤ length former → 2048 ≤ a → 16384 ≤ s → (t : Bool) → eqb (faultOf c) 0 ≡ t
-        → _≡_ {A = ℕ} (pick t (pick (rowsFormed former (partitions (topology c))) 0 5) (faultOf c)) 0 → Usable c former a s
-    fault f g h true q k = rows f g h (eqb-true (faultOf c) 0 q) (rowsFormed former (partitions (topology c))) refl k
+        → _≡_ {A = ℕ} (pick t (pick (formedRows (partitions (topology c)) former) 0 5) (faultOf c)) 0 → Usable c former a s
+    fault f g h true q k = rows f g h (eqb-true (faultOf c) 0 q) (formedRows (partitions (topology c)) former) refl k
     fault f g h false q k = absurd (not-both (eqb (faultOf c) 0) (eq-eqb (faultOf c) 0 k) q)
 
     go : (x : Bool) → ltb (length former) 2048 ≡ x → (y : Bool) → ltb a 2048 ≡ y → (z : Bool) → ltb s 16384 ≡ z
-        → _≡_ {A = ℕ} (pick (x || y || z) 8 (pick (eqb (faultOf c) 0) (pick (rowsFormed former (partitions (topology c))) 0 5) (faultOf c))) 0
+        → _≡_ {A = ℕ} (pick (x || y || z) 8 (pick (eqb (faultOf c) 0) (pick (formedRows (partitions (topology c)) former) 0 5) (faultOf c))) 0
         → Usable c former a s
     go true p y q z r k = absurd (omega arith)
     go false p true q z r k = absurd (omega arith)

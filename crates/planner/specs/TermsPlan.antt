@@ -1,29 +1,33 @@
 -- What planning refuses, answers and leaves in the lent buffers.
 -- Assumes nothing.
-use Prim.Native.Nat.{ℕ}
+use Prim.Native.Nat.{ℕ, zero, suc}
 use mathlib.Core.Path.{_≡_}
-use mathlib.Core.Bool.{Bool, true, false, not, _||_}
+use mathlib.Core.Bool.{Bool, true, false, _&&_, _||_}
 use mathlib.Core.List.{List, _++_}
 use lib.Dec.{ltb, eqb}
 use lib.ListN.{length, drop, replicate}
 use Rattle.sums.specs.Sum.{pick}
 use Rattle.cluster.specs.Limits.{layoutCells, scratchCells}
 use Rattle.cluster.specs.Terms.{topology, partitions, Layout, ValidAt}
-use Rattle.cluster.specs.TermsCells.{rowsIn, cellsOf}
+use Rattle.cluster.specs.TermsCells.{rowAt, formed, rowsIn, cellsOf}
 use Rattle.cluster.specs.Faults.{faultOf}
 use Rattle.cluster.specs.declared.Cluster.{Cluster}
-use Rattle.masks.specs.Model.{rowsFormed}
 use Rattle.sizing.specs.Model.{sizeOf}
 use Rattle.planner.specs.Demand.{Answer, Demand3}
 use Rattle.planner.specs.ModelRun.{planOf}
 use Rattle.planner.specs.declared.Planned.{Planned}
+
+-- Whether each of the first n rows is "rising ids followed by zeros".
+unfoldable pub formedRows : ℕ → List ℕ → Bool
+formedRows zero cells = true
+formedRows (suc n) cells = formedRows n cells && formed (rowAt cells n)
 
 -- "8: any buffer too short. 6: more than 32 boxes. 4: bits, replication, redundancy or an id out of range. 5: ids not rising, or one of the
 -- first P former rows not rising ids followed by zeros."
 unfoldable pub unusable : Cluster → List ℕ → ℕ → ℕ → ℕ
 unusable c former assignment scratch =
     pick (ltb (length former) layoutCells || ltb assignment layoutCells || ltb scratch scratchCells) 8
-    (pick (eqb (faultOf c) 0) (pick (rowsFormed former (partitions (topology c))) 0 5) (faultOf c))
+    (pick (eqb (faultOf c) 0) (pick (formedRows (partitions (topology c)) former) 0 5) (faultOf c))
 
 -- "9: no layout is valid at size 1", where nothing else is refused. That the size found is 0 exactly then is a theorem.
 unfoldable pub planRefusal : Cluster → List ℕ → ℕ → ℕ → ℕ

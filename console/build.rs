@@ -1,0 +1,21 @@
+//! Links the static library of the proved functions, which `rt staticlib console` makes.
+
+use std::path::PathBuf;
+use std::process::exit;
+
+fn main() {
+    let here = std::env::var_os("CARGO_MANIFEST_DIR").expect("cargo sets it");
+    let folder = PathBuf::from(here).join("../target/staticlib");
+    let library = folder.join("libconsole.a");
+    println!("cargo::rerun-if-changed={}", library.display());
+    println!("cargo::rerun-if-changed=build.rs");
+    if !library.is_file() {
+        println!(
+            "cargo::error={} is missing: run `rt staticlib console` in the project's folder first",
+            library.display()
+        );
+        exit(1);
+    }
+    println!("cargo::rustc-link-search=native={}", folder.display());
+    println!("cargo::rustc-link-lib=static=console");
+}

@@ -1,0 +1,159 @@
+/* The planner's C functions: layouts of a cluster of storage boxes ("nodes"), proved.
+ * Link libconsole.a, which `rt staticlib console` makes.
+ *
+ * Every function answers a refusal number, DEZGHURI_OK where it refuses nothing. Its other numbers go into
+ * the lent slice `answer`.
+ *
+ *   - A slice is a pointer and a number of elements. Each function says how many elements it takes. A slice
+ *     with fewer is refused with DEZGHURI_SHORT; of one with more, those beyond are never touched.
+ *   - `answer` (and `row` of dezghuri_show_row) is judged first: if it is too short, nothing at all is
+ *     touched. In every other outcome all cells of `answer` are written, and a number for which nothing is
+ *     said here is 0.
+ *   - Whatever bytes, cells, numbers and lengths come in, a call ends and does nothing undefined, provided
+ *     that each pointer is sound: not null (not even with length 0), aligned for its type, with as many
+ *     elements behind it as its length says, writable where it is not const; and that no two slices of one
+ *     call overlap.
+ *   - The functions keep no state, allocate nothing and take less than 64 KiB of stack; several threads may
+ *     call them at once.
+ *
+ * docs/FORMATS.md lays down the records and the meaning of each refusal.
+ */
+#ifndef DEZGHURI_H
+#define DEZGHURI_H
+
+#include <stddef.h>
+#include <stdint.h>
+
+#ifdef __cplusplus
+extern "C" {
+#endif
+
+/* Limits of a cluster. */
+#define DEZGHURI_MOST_BITS 8          /* partition bits; there are 1 << bits partitions */
+#define DEZGHURI_MOST_PARTITIONS 256
+#define DEZGHURI_MOST_REPLICATION 8
+#define DEZGHURI_MOST_NODES 32
+#define DEZGHURI_ENOUGH_ALLOWANCE 2048 /* this many improvements always finish */
+
+/* Least lengths of lent slices, in elements. */
+#define DEZGHURI_ROW_CELLS 8            /* one row: rising node ids, then zeros */
+#define DEZGHURI_LAYOUT_CELLS 2048      /* a former layout or an assignment: 256 rows */
+#define DEZGHURI_SCRATCH_CELLS 16384
+#define DEZGHURI_FIGURES_CELLS 64
+#define DEZGHURI_READ_CLUSTER_ANSWER 102
+#define DEZGHURI_READ_LAYOUT_ANSWER 8
+#define DEZGHURI_PLAN_ANSWER 6
+#define DEZGHURI_CHECK_ANSWER 3
+#define DEZGHURI_FIGURES_ANSWER 5
+#define DEZGHURI_WRITE_LAYOUT_ANSWER 2
+
+/* Longest records, in bytes. */
+#define DEZGHURI_CLUSTER_RECORD_BYTES 9900
+#define DEZGHURI_LAYOUT_RECORD_BYTES 9501
+
+/* Verdicts. */
+#define DEZGHURI_STOPPED 0  /* the allowance was used up, and a nearer layout exists */
+#define DEZGHURI_FINISHED 1 /* no valid layout of the size lies nearer to the former one */
+
+/* Refusals. */
+#define DEZGHURI_OK 0
+#define DEZGHURI_CUT 1          /* one or two bytes left, or a field's body cut short */
+#define DEZGHURI_TAG 2          /* a tag that is not allowed next */
+#define DEZGHURI_LENGTH 3       /* a length that is not legal for the tag */
+#define DEZGHURI_RANGE 4        /* a value outside its range */
+#define DEZGHURI_ORDER 5        /* ids or partitions that do not rise, or a row that is not the next */
+#define DEZGHURI_NODES 6        /* more than 32 nodes */
+#define DEZGHURI_MISSING 7      /* the record ends before a field or row that it must have */
+#define DEZGHURI_SHORT 8        /* a lent slice is too short */
+#define DEZGHURI_NO_LAYOUT 9    /* no layout is valid at size 1 */
+#define DEZGHURI_ROW 10         /* a row that is not R rising ids of the cluster and zeros, or a non-zero row from P on */
+#define DEZGHURI_ZONES 11       /* a row in fewer than Z zones */
+#define DEZGHURI_CAPACITY 12    /* a node with more copies than its capacity takes at the size */
+
+/* Reads a cluster record.
+ *
+ * former, 2,048 cells: takes the former layout, eight cells to a partition; kept when refused.
+ * answer, 102 cells: 0, 1 the byte at which the faulty field begins (high, low 32 bits); 2 bits;
+ * 3 replication; 4 redundancy; 5 number of nodes; then for node b its id, zone and capacity at 6 + 3 b,
+ * zeros for nodes not in use. Refused, it holds the cluster with no nodes: bits 0, replication 1,
+ * redundancy 1.
+ * Refusals: 8 (byte 0), then the first fault of 1 to 7 with its byte. */
+uint32_t dezghuri_read_cluster(const uint8_t *record, size_t record_len,
+                               uint32_t *former, size_t former_len,
+                               uint32_t *answer, size_t answer_len);
+
+/* Reads a layout record.
+ *
+ * assignment, 2,048 cells: takes the rows; kept when refused.
+ * answer, 8 cells: 0, 1 the byte at which the faulty field begins (high, low); 2 bits; 3 replication;
+ * 4 size; 5 distance; 6 verdict; 7 improvements.
+ * Refusals: 8 (byte 0), then the first fault of 1 to 5 and 7 with its byte. */
+uint32_t dezghuri_read_layout(const uint8_t *record, size_t record_len,
+                              uint32_t *assignment, size_t assignment_len,
+                              uint32_t *answer, size_t answer_len);
+
+/* Plans the cluster of the record, whose former rows are in it, with at most `allowance` improvements.
+ *
+ * assignment, 2,048 cells: takes the layout; kept when refused.
+ * scratch, 16,384 cells: zeroed on success and with 9; kept with any other refusal.
+ * answer, 6 cells: 0, 1 the byte of a refused reading (high, low); 2 size; 3 distance; 4 verdict;
+ * 5 improvements.
+ * Refusals: 1 to 7 of the reading; then 8, assignment or scratch too short; then 9. */
+uint32_t dezghuri_plan(const uint8_t *record, size_t record_len,
+                       uint16_t allowance,
+                       uint32_t *assignment, size_t assignment_len,
+                       uint32_t *scratch, size_t scratch_len,
+                       uint32_t *answer, size_t answer_len);
+
+/* Checks that the assignment is a layout of the record's cluster, valid at the size.
+ *
+ * assignment, 2,048 cells.
+ * answer, 3 cells: 0, 1 the byte of a refused reading (high, low); 2 the partition with 10 and 11, the node
+ * id with 12.
+ * Refusals: 1 to 7 of the reading; then 8; 4, size 0; rows in order 10 or 11; nodes in order 12. */
+uint32_t dezghuri_check(const uint8_t *record, size_t record_len,
+                        const uint32_t *assignment, size_t assignment_len,
+                        uint32_t size,
+                        uint32_t *answer, size_t answer_len);
+
+/* Counts the copies of a checked layout.
+ *
+ * assignment, 2,048 cells.
+ * figures, 64 cells: 0 to 31 copies held by each node in id order, 32 to 63 copies in that node's zone;
+ * kept when refused.
+ * answer, 5 cells: 0, 1 the byte of a refused reading (high, low); 2 the place, as dezghuri_check; 3, 4 the
+ * size to hope for, total capacity over replication times partitions, rounded down (high, low).
+ * Refusals: as dezghuri_check, with 8 also for short figures. */
+uint32_t dezghuri_figures(const uint8_t *record, size_t record_len,
+                          const uint32_t *assignment, size_t assignment_len,
+                          uint32_t size,
+                          uint32_t *figures, size_t figures_len,
+                          uint32_t *answer, size_t answer_len);
+
+/* Copies the row of a partition, 0 to 255, out of an assignment.
+ *
+ * assignment, 2,048 cells.
+ * row, 8 cells: takes the row; kept when refused.
+ * Refusals: 8, row or assignment too short; 4, partition above 255. */
+uint32_t dezghuri_show_row(const uint32_t *assignment, size_t assignment_len,
+                           uint32_t partition,
+                           uint32_t *row, size_t row_len);
+
+/* Writes a layout record of 29 + (1 << bits) * (5 + 4 * replication) bytes.
+ *
+ * assignment, 2,048 cells.
+ * out: as many bytes as the record; kept when refused.
+ * answer, 2 cells: the record's length (high, low 32 bits).
+ * Refusals: 8, assignment too short; 4, a number outside its range; 10, a row that is not `replication`
+ * rising ids and zeros, or a row from 1 << bits on that is not zero; 8, out too short. */
+uint32_t dezghuri_write_layout(uint32_t bits, uint32_t replication, uint32_t size,
+                               uint32_t distance, uint32_t verdict, uint32_t improvements,
+                               const uint32_t *assignment, size_t assignment_len,
+                               uint8_t *out, size_t out_len,
+                               uint32_t *answer, size_t answer_len);
+
+#ifdef __cplusplus
+}
+#endif
+
+#endif

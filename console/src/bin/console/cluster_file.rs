@@ -1,0 +1,294 @@
+//! The text file in which an owner describes the cluster.
+
+use crate::units;
+use dezghuri::{Cluster, Layout, Node};
+use std::collections::BTreeSet;
+use std::fmt;
+use std::ops::RangeInclusive;
+
+/// The most boxes of a cluster.
+const MOST_BOXES: usize = 32;
+/// The partition bits of a file that has none: 256 partitions.
+const USUAL_BITS: u8 = 8;
+
+/// A cluster, with the words by which its owner knows it.
+#[derive(Debug)]
+pub struct Described {
+    /// The cluster without a former layout.
+    pub cluster: Cluster,
+    /// One for each node, in the same order.
+    pub labels: Vec<Label>,
+}
+
+/// What the owner calls a box and the zone that it stands in.
+#[derive(Clone, Debug, PartialEq, Eq)]
+pub struct Label {
+    pub name: String,
+    pub zone: String,
+}
+
+/// Something wrong with the file, and the line that it is on, if it is on one.
+#[derive(Debug, PartialEq, Eq)]
+pub struct Fault {
+    pub line: Option<usize>,
+    pub what: String,
+}
+
+impl fmt::Display for Fault {
+    fn fmt(&self, f: &mut fmt::Formatter<'_>) -> fmt::Result {
+        if let Some(line) = self.line {
+            write!(f, "line {line}: ")?;
+        }
+        f.write_str(&self.what)
+    }
+}
+
+/// Reads the whole file; every line that is at fault is told.
+pub fn parse(bytes: &[u8]) -> Result<Described, Vec<Fault>> {
+    let text = bytes.strip_prefix(b"\xef\xbb\xbf").unwrap_or(bytes);
+    let mut lines = Lines::default();
+    let mut faults = Vec::new();
+    for (number, line) in (1..).zip(text.split(|byte| *byte == b'\n')) {
+        if let Err(what) = lines.take(number, line) {
+            let line = Some(number);
+            faults.push(Fault { line, what });
+        }
+    }
+    faults.extend(lines.faults_of_all());
+    if faults.is_empty() {
+        Ok(lines.described())
+    } else {
+        Err(faults)
+    }
+}
+
+/// What the lines have said so far.
+#[derive(Default)]
+struct Lines {
+    copies: Option<Setting>,
+    zones: Option<Setting>,
+    bits: Option<Setting>,
+    boxes: Vec<BoxLine>,
+}
+
+/// A number that is set once; it has no value where its line is at fault.
+struct Setting {
+    line: usize,
+    value: Option<u8>,
+}
+
+struct BoxLine {
+    line: usize,
+    id: u32,
+    zone: Zone,
+    capacity: u32,
+    name: String,
+}
+
+#[derive(Clone, PartialEq, Eq)]
+enum Zone {
+    Number(u16),
+    Name(String),
+}
+
+impl Lines {
+    fn take(&mut self, line: usize, bytes: &[u8]) -> Result<(), String> {
+        let text = std::str::from_utf8(bytes).map_err(|_| "this is not plain text (UTF-8)")?;
+        let text = text.split('#').next().unwrap_or("").trim();
+        if text.contains(|c: char| c.is_control() && c != '\t') {
+            return Err("this has a control character in it".into());
+        }
+        let words: Vec<&str> = text.split_whitespace().collect();
+        match words[..] {
+            [] => Ok(()),
+            ["copies", ..] => set(&mut self.copies, line, &words, 1..=8),
+            ["zones", ..] => set(&mut self.zones, line, &words, 1..=8),
+            ["bits", ..] => set(&mut self.bits, line, &words, 0..=8),
+            ["box", id, zone, capacity, ref name @ ..] => {
+                let found = self.box_line(line, [id, zone, capacity], name)?;
+                self.boxes.push(found);
+                Ok(())
+            }
+            ["box", ..] => Err("a box has an id, a zone and a capacity: box 1 home 2T".into()),
+            [word, ..] => Err(format!(
+                "a line begins with copies, zones, bits or box, and not with '{word}'"
+            )),
+        }
+    }
+
+    fn box_line(&self, line: usize, words: [&str; 3], name: &[&str]) -> Result<BoxLine, String> {
+        let [id, zone, capacity] = words;
+        if let Some(unit) = name.first().filter(|word| units::is_unit(word)) {
+            return Err(format!(
+                "write the unit at the number, without a space: {capacity}{unit}"
+            ));
+        }
+        let found = BoxLine {
+            line,
+            id: self.new_id(id)?,
+            zone: self.zone(zone)?,
+            capacity: units::megabytes(capacity)?,
+            name: name.join(" "),
+        };
+        if self.boxes.len() == MOST_BOXES {
+            return Err(format!("this is one box too many: at most {MOST_BOXES}"));
+        }
+        Ok(found)
+    }
+
+    fn new_id(&self, word: &str) -> Result<u32, String> {
+        let Some(id) = digits::<u32>(word).filter(|id| *id != 0) else {
+            return Err(format!(
+                "the id of a box is a number from 1 to 4294967295, and not '{word}'"
+            ));
+        };
+        match self.boxes.iter().find(|earlier| earlier.id == id) {
+            Some(earlier) => Err(format!("box {id} is on line {} already", earlier.line)),
+            None => Ok(id),
+        }
+    }
+
+    /// Two names that differ in capitals only are refused: a slip there would count a house twice.
+    fn zone(&self, word: &str) -> Result<Zone, String> {
+        if word.bytes().all(|byte| byte.is_ascii_digit()) {
+            return match digits(word) {
+                Some(number) => Ok(Zone::Number(number)),
+                None => Err(format!("a zone's number is at most 65535, and not {word}")),
+            };
+        }
+        for earlier in &self.boxes {
+            let Zone::Name(name) = &earlier.zone else {
+                continue;
+            };
+            if name != word && name.to_lowercase() == word.to_lowercase() {
+                return Err(format!(
+                    "zone '{word}' is written '{name}' on line {}: write it one way",
+                    earlier.line
+                ));
+            }
+        }
+        Ok(Zone::Name(word.into()))
+    }
+
+    /// Faults that no single line has.
+    fn faults_of_all(&self) -> Vec<Fault> {
+        let mut faults = Vec::new();
+        let mut missing = |what: &str| {
+            faults.push(Fault {
+                line: None,
+                what: what.into(),
+            })
+        };
+        if self.copies.is_none() {
+            missing("there is no line that says how many copies: copies 3");
+        }
+        if self.zones.is_none() {
+            missing("there is no line that says in how many zones they lie: zones 2");
+        }
+        if self.boxes.is_empty() {
+            missing("there is no line with a box: box 1 home 2T");
+        }
+        if let (Some(copies), Some(zones)) = (&self.copies, &self.zones) {
+            if let (Some(c), Some(z)) = (copies.value, zones.value) {
+                if z > c {
+                    faults.push(Fault {
+                        line: Some(zones.line),
+                        what: format!("{c} copies cannot lie in {z} zones"),
+                    });
+                }
+            }
+        }
+        faults
+    }
+
+    /// The cluster of lines without a fault.
+    fn described(mut self) -> Described {
+        let numbers = zone_numbers(&self.boxes);
+        let value = |setting: &Option<Setting>| setting.as_ref().and_then(|s| s.value);
+        let (copies, zones) = (value(&self.copies), value(&self.zones));
+        let mut nodes = Vec::new();
+        let mut labels = Vec::new();
+        self.boxes.sort_by_key(|found| found.id);
+        for found in self.boxes {
+            let (zone, label) = match found.zone {
+                Zone::Number(number) => (number, number.to_string()),
+                Zone::Name(name) => (number_of(&numbers, &name), name),
+            };
+            nodes.push(Node {
+                id: found.id,
+                zone,
+                capacity: found.capacity,
+            });
+            labels.push(Label {
+                name: found.name,
+                zone: label,
+            });
+        }
+        let cluster = Cluster {
+            bits: value(&self.bits).unwrap_or(USUAL_BITS),
+            replication: copies.expect("a file without a fault has it"),
+            redundancy: zones.expect("a file without a fault has it"),
+            nodes,
+            former: Layout::default(),
+        };
+        Described { cluster, labels }
+    }
+}
+
+/// Sets a number from a line of two words.
+fn set(
+    slot: &mut Option<Setting>,
+    line: usize,
+    words: &[&str],
+    range: RangeInclusive<u8>,
+) -> Result<(), String> {
+    let word = words[0];
+    if let Some(earlier) = slot {
+        return Err(format!("{word} is on line {} already", earlier.line));
+    }
+    let value = match words {
+        [_, number] => digits(number).filter(|number| range.contains(number)),
+        _ => None,
+    };
+    *slot = Some(Setting { line, value });
+    match value {
+        Some(_) => Ok(()),
+        None => Err(format!(
+            "{word} takes one number, from {} to {}",
+            range.start(),
+            range.end()
+        )),
+    }
+}
+
+/// A number of decimal digits and nothing else.
+fn digits<T: std::str::FromStr>(word: &str) -> Option<T> {
+    let plain = word.bytes().all(|byte| byte.is_ascii_digit());
+    plain.then(|| word.parse().ok()).flatten()
+}
+
+/// The zones that have names, each with a number that no box of the file names: the lowest free
+/// ones, in the order in which the names appear.
+fn zone_numbers(boxes: &[BoxLine]) -> Vec<(String, u16)> {
+    let mut named = BTreeSet::new();
+    let mut names: Vec<&String> = Vec::new();
+    for found in boxes {
+        match &found.zone {
+            Zone::Number(number) => {
+                named.insert(*number);
+            }
+            Zone::Name(name) if !names.contains(&name) => names.push(name),
+            Zone::Name(_) => (),
+        }
+    }
+    let free = (0..=u16::MAX).filter(|number| !named.contains(number));
+    names.into_iter().cloned().zip(free).collect()
+}
+
+fn number_of(numbers: &[(String, u16)], name: &str) -> u16 {
+    let found = numbers.iter().find(|(known, _)| known == name);
+    found.expect("each name has a number").1
+}
+
+#[cfg(test)]
+mod tests;

@@ -1,0 +1,107 @@
+//! Refusals in the words of the owner.
+
+use crate::cluster_file::Described;
+use crate::units::{count, thousands};
+use dezghuri::{Place, Plan, Refusal, Refused};
+use std::collections::BTreeSet;
+
+/// Why the cluster has no plan.
+pub fn no_plan(described: &Described, refused: Refused) -> String {
+    if refused.refusal != Refusal::NoLayout {
+        return refused.to_string();
+    }
+    let cluster = &described.cluster;
+    let usable: Vec<_> = cluster.nodes.iter().filter(|n| n.capacity > 0).collect();
+    let zones: BTreeSet<u16> = usable.iter().map(|node| node.zone).collect();
+    let (copies, wanted) = (cluster.replication.into(), cluster.redundancy.into());
+    let why = if usable.len() < copies {
+        format!(
+            "{copies} copies need {copies} boxes with disk space, and {}",
+            count(usable.len() as u64, "has any", "have any")
+        )
+    } else if zones.len() < wanted {
+        format!(
+            "{wanted} zones are wanted, and the boxes with disk space lie in {}",
+            zones.len()
+        )
+    } else {
+        format!(
+            "the disks are too small for {} of a megabyte each",
+            count(1 << cluster.bits, "partition", "partitions")
+        )
+    };
+    format!("refused 9, there is no layout: {why}")
+}
+
+/// Why the plan's layout is not valid for the cluster.
+pub fn not_valid(described: &Described, plan: &Plan, refused: Refused) -> String {
+    let why = match refused.place {
+        Some(Place::Partition(partition)) if refused.refusal == Refusal::Zones => {
+            too_few_zones(described, plan, partition)
+        }
+        Some(Place::Partition(partition)) => bad_row(described, plan, partition),
+        Some(Place::Node(id)) => too_full(described, plan, id),
+        _ => return refused.to_string(),
+    };
+    format!("refused {}, not valid: {why}", refused.refusal.number())
+}
+
+fn bad_row(described: &Described, plan: &Plan, partition: u32) -> String {
+    let cluster = &described.cluster;
+    if plan.bits != cluster.bits {
+        return format!("it has bits {}, {} are wanted", plan.bits, cluster.bits);
+    }
+    if plan.replication != cluster.replication {
+        return format!(
+            "it has {} of each partition, {} are wanted",
+            count(plan.replication.into(), "copy", "copies"),
+            cluster.replication
+        );
+    }
+    let gone = row(plan, partition)
+        .iter()
+        .find(|id| cluster.nodes.iter().all(|node| node.id != **id));
+    match gone {
+        Some(id) => format!("partition {partition} lies on box {id}, which is not there"),
+        None => format!("partition {partition} does not lie on different boxes"),
+    }
+}
+
+fn too_few_zones(described: &Described, plan: &Plan, partition: u32) -> String {
+    let nodes = described.cluster.nodes.iter().zip(&described.labels);
+    let zones: BTreeSet<&str> = nodes
+        .filter(|(node, _)| row(plan, partition).contains(&node.id))
+        .map(|(_, label)| label.zone.as_str())
+        .collect();
+    let zones: Vec<&str> = zones.into_iter().collect();
+    format!(
+        "partition {partition} lies in {} ({}), {} are wanted",
+        count(zones.len() as u64, "zone", "zones"),
+        zones.join(", "),
+        described.cluster.redundancy
+    )
+}
+
+fn too_full(described: &Described, plan: &Plan, id: u32) -> String {
+    let copies = plan
+        .layout
+        .rows()
+        .filter(|(_, ids)| ids.contains(&id))
+        .count() as u64;
+    let nodes = &described.cluster.nodes;
+    let capacity = nodes
+        .iter()
+        .find(|node| node.id == id)
+        .map_or(0, |node| node.capacity);
+    format!(
+        "box {id} is to hold {} of {} MB, {} MB together, and has {} MB",
+        count(copies, "copy", "copies"),
+        thousands(plan.size.into()),
+        thousands(copies * u64::from(plan.size)),
+        thousands(capacity.into()),
+    )
+}
+
+fn row(plan: &Plan, partition: u32) -> &[u32] {
+    u8::try_from(partition).map_or(&[], |partition| plan.layout.row(partition))
+}

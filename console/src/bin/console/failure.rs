@@ -1,0 +1,39 @@
+//! Why the command fails, and with which exit status.
+
+use std::process::ExitCode;
+
+/// What went wrong, in lines for the owner.
+#[derive(Debug, PartialEq, Eq)]
+pub enum Failure {
+    /// The planner says no: there is no such layout, or the layout is not valid.
+    Refused(String),
+    /// A file can't be used.
+    Bad(Vec<String>),
+    /// The words of the call make no sense.
+    Usage(String),
+}
+
+impl Failure {
+    /// One thing wrong with a file.
+    pub fn bad(what: String) -> Failure {
+        Failure::Bad(vec![what])
+    }
+
+    pub fn lines(&self) -> Vec<String> {
+        match self {
+            Failure::Refused(what) => vec![what.clone()],
+            Failure::Bad(faults) => faults.clone(),
+            Failure::Usage(what) => vec![
+                format!("console: {what}"),
+                "`console help` says how it is called".into(),
+            ],
+        }
+    }
+
+    pub fn status(&self) -> ExitCode {
+        match self {
+            Failure::Refused(_) => ExitCode::from(1),
+            Failure::Bad(_) | Failure::Usage(_) => ExitCode::from(2),
+        }
+    }
+}

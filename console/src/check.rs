@@ -1,0 +1,120 @@
+//! What one asks of a layout in hand.
+
+use crate::cluster::Cluster;
+use crate::ffi;
+use crate::layout::Layout;
+use crate::refusal::{judge, wide, Refused};
+
+/// The copies of a valid layout, counted.
+#[derive(Clone, Debug, PartialEq, Eq)]
+pub struct Figures {
+    /// Copies held by each node, in the order of the nodes.
+    pub copies: Vec<u32>,
+    /// Copies held in the zone of each node, in the order of the nodes.
+    pub zone_copies: Vec<u32>,
+    /// Total capacity over all copies, rounded down: the size to hope for.
+    pub hope: u64,
+}
+
+impl Cluster {
+    /// Checks that the layout is one of this cluster, valid at the size.
+    ///
+    /// # Errors
+    ///
+    /// A fault of the cluster with the byte of its record, or of the layout with its partition or
+    /// node.
+    pub fn check(&self, layout: &Layout, size: u32) -> Result<(), Refused> {
+        let mut answer = [0; ffi::CHECK_ANSWER];
+        let record = self.to_record();
+        let refusal = ffi::check(&record, layout.cells(), size, &mut answer);
+        self.judge_layout(refusal, &answer, size)
+    }
+
+    /// Counts the copies of a layout that [`Cluster::check`] passes.
+    ///
+    /// # Errors
+    ///
+    /// As [`Cluster::check`].
+    pub fn figures(&self, layout: &Layout, size: u32) -> Result<Figures, Refused> {
+        let mut figures = [0; ffi::FIGURES_CELLS];
+        let mut answer = [0; ffi::FIGURES_ANSWER];
+        let record = self.to_record();
+        let refusal = ffi::figures(&record, layout.cells(), size, &mut figures, &mut answer);
+        self.judge_layout(refusal, &answer, size)?;
+        let (copies, zone_copies) = figures.split_at(ffi::FIGURES_CELLS / 2);
+        Ok(Figures {
+            copies: copies[..self.nodes.len()].to_vec(),
+            zone_copies: zone_copies[..self.nodes.len()].to_vec(),
+            hope: wide(answer[3], answer[4]),
+        })
+    }
+
+    /// A size of 0 has the number of a bad value too, but no byte: the field at byte 0 is good.
+    fn judge_layout(&self, refusal: u32, answer: &[u32], size: u32) -> Result<(), Refused> {
+        let byte = wide(answer[0], answer[1]);
+        let of_size = size == 0 && byte == 0 && self.bits <= 8;
+        judge(refusal, (!of_size).then_some(byte), Some(answer[2]))
+    }
+}
+
+#[cfg(test)]
+mod tests {
+    use super::*;
+    use crate::{Node, Place, Refusal};
+
+    /// Examples K and M of the paper.
+    fn cluster() -> Cluster {
+        let node = |id, zone, capacity| Node { id, zone, capacity };
+        Cluster {
+            bits: 0,
+            replication: 3,
+            redundancy: 2,
+            nodes: vec![node(1, 1, 9), node(2, 1, 9), node(3, 1, 9), node(4, 2, 1)],
+            former: Layout::default(),
+        }
+    }
+
+    fn row(ids: &[u32]) -> Layout {
+        let mut layout = Layout::default();
+        layout.set_row(0, ids);
+        layout
+    }
+
+    #[test]
+    fn faults_of_a_layout_have_their_place() {
+        let fault = |ids: &[u32], size| {
+            let refused = cluster().check(&row(ids), size).unwrap_err();
+            (refused.refusal, refused.place)
+        };
+        assert_eq!(
+            fault(&[1, 2, 3], 1),
+            (Refusal::Zones, Some(Place::Partition(0)))
+        );
+        assert_eq!(
+            fault(&[1, 1, 4], 1),
+            (Refusal::Row, Some(Place::Partition(0)))
+        );
+        assert_eq!(
+            fault(&[1, 2, 4], 2),
+            (Refusal::Capacity, Some(Place::Node(4)))
+        );
+        assert_eq!(fault(&[1, 2, 4], 0), (Refusal::Range, None));
+        assert_eq!(cluster().check(&row(&[1, 2, 4]), 1), Ok(()));
+    }
+
+    #[test]
+    fn a_fault_of_the_cluster_keeps_its_byte() {
+        let mut bad = cluster();
+        bad.bits = 9;
+        let refused = bad.check(&row(&[1, 2, 4]), 0).unwrap_err();
+        assert_eq!(refused.place, Some(Place::Byte(0)));
+    }
+
+    #[test]
+    fn figures_count_nodes_and_zones() {
+        let figures = cluster().figures(&row(&[1, 2, 4]), 1).unwrap();
+        assert_eq!(figures.copies, [1, 1, 0, 1]);
+        assert_eq!(figures.zone_copies, [2, 2, 2, 1]);
+        assert_eq!(figures.hope, 28 / 3);
+    }
+}

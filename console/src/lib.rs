@@ -1,0 +1,49 @@
+//! Layouts of a cluster of storage boxes, planned by proved functions.
+//!
+//! A [`Cluster`] has nodes (the boxes), each in a zone and with a capacity in megabytes; it wants
+//! every partition of its data kept as so many copies, on different nodes and in so many zones at
+//! least. [`Cluster::plan`] answers which nodes hold which partition: first the largest size of a
+//! partition that the disks allow, then, among all layouts of that size, one that lies nearest to
+//! the former layout.
+//!
+//! What is computed is computed by the C functions of `include/dezghuri.h`, whose contracts are
+//! proved; this library lends them their buffers and names their answers. [`ffi`] has them one for
+//! one.
+//!
+//! ```
+//! use dezghuri::{Cluster, Layout, Node, Verdict};
+//!
+//! let cluster = Cluster {
+//!     bits: 1,
+//!     replication: 3,
+//!     redundancy: 2,
+//!     nodes: vec![
+//!         Node { id: 1, zone: 1, capacity: 100 },
+//!         Node { id: 2, zone: 1, capacity: 70 },
+//!         Node { id: 3, zone: 2, capacity: 50 },
+//!     ],
+//!     former: Layout::default(),
+//! };
+//! let plan = cluster.plan(dezghuri::ENOUGH)?;
+//! assert_eq!(plan.size, 25);
+//! assert_eq!(plan.verdict, Verdict::Finished);
+//! assert_eq!(plan.layout.row(0), [1, 2, 3]);
+//! cluster.check(&plan.layout, plan.size)?;
+//! # Ok::<(), dezghuri::Refused>(())
+//! ```
+
+#![deny(unsafe_code, missing_docs)]
+
+mod check;
+mod cluster;
+#[allow(unsafe_code)]
+pub mod ffi;
+mod layout;
+mod plan;
+mod refusal;
+
+pub use check::Figures;
+pub use cluster::{Cluster, Node};
+pub use layout::Layout;
+pub use plan::{Plan, Verdict, ENOUGH};
+pub use refusal::{Place, Refusal, Refused};

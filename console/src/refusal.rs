@@ -1,0 +1,181 @@
+//! Why a call is refused, and where.
+
+use std::error::Error;
+use std::fmt;
+
+/// A reason to refuse, by the paper's numbers.
+#[derive(Clone, Copy, Debug, PartialEq, Eq, Hash, PartialOrd, Ord)]
+#[non_exhaustive]
+#[repr(u32)]
+pub enum Refusal {
+    /// 1: a record's last field is cut short.
+    Cut = 1,
+    /// 2: a field's tag is not allowed where it stands.
+    Tag = 2,
+    /// 3: a field's length is not legal for its tag.
+    Length = 3,
+    /// 4: a number lies outside its range.
+    Range = 4,
+    /// 5: ids or partitions do not rise, or a row is not the next.
+    Order = 5,
+    /// 6: there are more than 32 nodes.
+    Nodes = 6,
+    /// 7: a record ends before a field or row that it must have.
+    Missing = 7,
+    /// 8: a lent slice is too short.
+    Short = 8,
+    /// 9: no layout is valid at size 1.
+    NoLayout = 9,
+    /// 10: a row does not name so many different nodes of the cluster.
+    Row = 10,
+    /// 11: a row lies in too few zones.
+    Zones = 11,
+    /// 12: a node holds more copies than its capacity takes.
+    Capacity = 12,
+}
+
+/// Each refusal with its meaning, in the order of the numbers from 1 on.
+const MEANINGS: [(Refusal, &str); 12] = [
+    (
+        Refusal::Cut,
+        "one or two bytes left, or a field's body cut short",
+    ),
+    (Refusal::Tag, "a tag that is not allowed next"),
+    (Refusal::Length, "a length that is not legal for the tag"),
+    (Refusal::Range, "a value outside its range"),
+    (
+        Refusal::Order,
+        "ids or partitions that do not rise, or a row that is not the next",
+    ),
+    (Refusal::Nodes, "more than 32 nodes"),
+    (
+        Refusal::Missing,
+        "the record ends before a field or row that it must have",
+    ),
+    (Refusal::Short, "a lent buffer is too short"),
+    (Refusal::NoLayout, "no layout is valid at size 1"),
+    (
+        Refusal::Row,
+        "a row that is not as many rising ids of the cluster as copies are wanted",
+    ),
+    (Refusal::Zones, "a row in fewer zones than wanted"),
+    (
+        Refusal::Capacity,
+        "a node with more copies than its capacity takes at the size",
+    ),
+];
+
+impl Refusal {
+    /// The refusal of a number; nothing for 0 and for numbers that no call answers.
+    pub fn from_number(number: u32) -> Option<Refusal> {
+        let place = usize::try_from(number).ok()?.checked_sub(1)?;
+        MEANINGS.get(place).map(|(refusal, _)| *refusal)
+    }
+
+    /// The paper's number, 1 to 12.
+    pub fn number(self) -> u32 {
+        self as u32
+    }
+}
+
+impl fmt::Display for Refusal {
+    fn fmt(&self, f: &mut fmt::Formatter<'_>) -> fmt::Result {
+        let (_, meaning) = MEANINGS[*self as usize - 1];
+        f.write_str(meaning)
+    }
+}
+
+/// What a refusal points at.
+#[derive(Clone, Copy, Debug, PartialEq, Eq)]
+pub enum Place {
+    /// The byte of the record at which the faulty field begins, or the record's length.
+    Byte(u64),
+    /// The partition of a faulty row.
+    Partition(u32),
+    /// The id of a node with too many copies.
+    Node(u32),
+}
+
+impl fmt::Display for Place {
+    fn fmt(&self, f: &mut fmt::Formatter<'_>) -> fmt::Result {
+        match self {
+            Place::Byte(byte) => write!(f, "byte {byte}"),
+            Place::Partition(partition) => write!(f, "partition {partition}"),
+            Place::Node(id) => write!(f, "node {id}"),
+        }
+    }
+}
+
+/// A refused call.
+#[derive(Clone, Copy, Debug, PartialEq, Eq)]
+pub struct Refused {
+    /// Why.
+    pub refusal: Refusal,
+    /// Where, if the refusal points anywhere.
+    pub place: Option<Place>,
+}
+
+impl fmt::Display for Refused {
+    fn fmt(&self, f: &mut fmt::Formatter<'_>) -> fmt::Result {
+        write!(f, "refused {}", self.refusal.number())?;
+        if let Some(place) = self.place {
+            write!(f, " at {place}")?;
+        }
+        write!(f, ": {}", self.refusal)
+    }
+}
+
+impl Error for Refused {}
+
+/// The result of a call that answered this refusal number: the byte goes with a fault of a record,
+/// the place with a fault of a layout, where the call answers them.
+pub(crate) fn judge(number: u32, byte: Option<u64>, place: Option<u32>) -> Result<(), Refused> {
+    if number == 0 {
+        return Ok(());
+    }
+    let refusal = Refusal::from_number(number).expect("a call answers a number of the header");
+    let place = match refusal {
+        Refusal::Row | Refusal::Zones => place.map(Place::Partition),
+        Refusal::Capacity => place.map(Place::Node),
+        _ if refusal <= Refusal::Missing => byte.map(Place::Byte),
+        _ => None,
+    };
+    Err(Refused { refusal, place })
+}
+
+/// A number in two cells.
+pub(crate) fn wide(high: u32, low: u32) -> u64 {
+    u64::from(high) << 32 | u64::from(low)
+}
+
+#[cfg(test)]
+mod tests {
+    use super::*;
+
+    #[test]
+    fn numbers_and_refusals_are_one_for_one() {
+        for number in 1..=12 {
+            let refusal = Refusal::from_number(number).unwrap();
+            assert_eq!(refusal.number(), number);
+        }
+        for number in [0, 13, 19, u32::MAX] {
+            assert_eq!(Refusal::from_number(number), None);
+        }
+    }
+
+    #[test]
+    fn messages_say_number_place_and_meaning() {
+        let tag = judge(2, Some(wide(1, 4)), Some(0)).unwrap_err();
+        assert_eq!(
+            tag.to_string(),
+            "refused 2 at byte 4294967300: a tag that is not allowed next"
+        );
+        let none = judge(9, Some(0), Some(0)).unwrap_err();
+        assert_eq!(none.to_string(), "refused 9: no layout is valid at size 1");
+        let zones = judge(11, Some(0), Some(7)).unwrap_err();
+        assert_eq!(zones.place, Some(Place::Partition(7)));
+        let full = judge(12, Some(0), Some(7)).unwrap_err();
+        assert_eq!(full.place, Some(Place::Node(7)));
+        assert_eq!(judge(0, Some(0), Some(0)), Ok(()));
+    }
+}

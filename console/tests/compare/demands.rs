@@ -1,0 +1,197 @@
+//! Demands 2 and 3 at allowances 0, 1, 2 and on: against a listing of all layouts where there are
+//! few, against the report's method where there are many.
+
+use crate::clusters::{self, Kind, MEDIUM, SMALL};
+use crate::lent::{self, Planned};
+use crate::{soak_factor, soak_seed};
+use reference::cells::cells_of;
+use reference::random::Random;
+use reference::records::cluster_record;
+use reference::{distance, is_valid, listing, report, Cluster, Layout};
+
+/// What is known of a cluster and a former layout from elsewhere.
+struct Known {
+    size: u64,
+    least_distance: usize,
+}
+
+/// A cluster with its former layout, and what is known of them.
+struct Case<'a> {
+    c: &'a Cluster,
+    former: &'a Layout,
+    record: Vec<u8>,
+    known: Known,
+}
+
+impl Case<'_> {
+    /// Checks all that is promised of the answers at all allowances; whether anything improves.
+    fn keeps_the_rules(&self, other: &Layout, r: &mut Random) -> bool {
+        let mut now = self.answer(0, r);
+        self.begins_alike(other, &now, r);
+        let mut allowance = 0;
+        while !now.finished {
+            assert_eq!(
+                now.improvements,
+                allowance.into(),
+                "a stopped run has used all"
+            );
+            allowance += 1;
+            let next = self.answer(allowance, r);
+            let gain = now.distance - next.distance;
+            assert!(gain >= 2, "an improvement brings two at least");
+            assert!(
+                gain as usize <= 2 * self.c.nodes.len(),
+                "and two for each node at most"
+            );
+            now = next;
+        }
+        assert!(allowance <= 2048);
+        assert_eq!(
+            now.improvements,
+            allowance.into(),
+            "the smallest that finishes"
+        );
+        let larger = r.between(2048, 65_535) as u16;
+        for more in [allowance + 1, allowance + 2, 2048, larger, 65_535] {
+            assert_eq!(
+                self.answer(more, r),
+                now,
+                "a larger allowance changes nothing"
+            );
+        }
+        if self.former.iter().all(Vec::is_empty) {
+            assert_eq!(allowance, 0);
+            assert_eq!(
+                now.distance as usize,
+                self.c.replication * self.c.partitions()
+            );
+        }
+        allowance > 0
+    }
+
+    /// Plans, and checks what holds at every allowance: the layout is valid at the cluster's size
+    /// and at no larger one, has the distance named, and is the nearest just when it is finished.
+    fn answer(&self, allowance: u16, r: &mut Random) -> Planned {
+        let planned = lent::plan(&self.record, allowance, r).expect("a layout exists");
+        let (size, far) = (u64::from(planned.size), planned.distance as usize);
+        assert_eq!(size, self.known.size);
+        assert!(is_valid(self.c, &planned.layout, size));
+        assert_eq!(far, distance(&planned.layout, self.former));
+        assert_eq!(far == self.known.least_distance, planned.finished);
+        let cells = cells_of(&planned.layout);
+        assert_eq!(
+            lent::check(&self.record, &cells, planned.size, r),
+            (0, 0, 0)
+        );
+        if let Some(larger) = planned.size.checked_add(1) {
+            assert_eq!(lent::check(&self.record, &cells, larger, r).0, 12);
+        }
+        planned
+    }
+
+    /// At allowance 0 the distance is that of the beginning, which another former layout has too.
+    fn begins_alike(&self, other: &Layout, first: &Planned, r: &mut Random) {
+        let beginning = lent::plan(&cluster_record(self.c, other), 0, r).expect("a layout exists");
+        let expected = distance(&beginning.layout, self.former);
+        assert_eq!(first.distance as usize, expected, "another beginning");
+    }
+}
+
+fn refuses_all(c: &Cluster, former: &Layout, r: &mut Random) {
+    let record = cluster_record(c, former);
+    for allowance in [0, 1, 2048, 65_535] {
+        assert_eq!(lent::plan(&record, allowance, r), Err((9, 0)));
+    }
+}
+
+/// Prints the case when a test fails in it.
+struct ToldOnFailure<'a>(&'a Cluster, &'a Layout);
+
+impl Drop for ToldOnFailure<'_> {
+    fn drop(&mut self) {
+        if std::thread::panicking() {
+            eprintln!("{:?}\nformer {:?}", self.0, self.1);
+        }
+    }
+}
+
+/// Tries so many of the clusters that are suited; what is known of each comes from `know`.
+fn try_clusters(
+    seed: u64,
+    cases: u64,
+    kind: Kind,
+    suited: impl Fn(&Cluster) -> bool,
+    know: impl Fn(&Cluster, &Layout) -> Option<Known>,
+) {
+    let mut r = Random::new(seed);
+    let (mut tried, mut planned, mut improved) = (0, 0, 0);
+    while tried < cases {
+        let (c, former, other) = clusters::case(kind, &mut r);
+        if !suited(&c) {
+            continue;
+        }
+        tried += 1;
+        let _told = ToldOnFailure(&c, &former);
+        match know(&c, &former) {
+            None => refuses_all(&c, &former, &mut r),
+            Some(known) => {
+                planned += 1;
+                let record = cluster_record(&c, &former);
+                let case = Case {
+                    c: &c,
+                    former: &former,
+                    record,
+                    known,
+                };
+                improved += u64::from(case.keeps_the_rules(&other, &mut r));
+            }
+        }
+    }
+    assert!(planned * 2 > tried, "too few of the clusters have a layout");
+    assert!(improved * 4 > planned, "too few of the layouts improve");
+}
+
+/// Small clusters, against a listing of all their layouts.
+fn try_small(seed: u64, cases: u64) {
+    let few_layouts = |c: &Cluster| listing::effort(c) <= 10_000;
+    let listed = |c: &Cluster, former: &Layout| {
+        listing::list(c, former).map(|listed| Known {
+            size: listed.size,
+            least_distance: listed.least_distance,
+        })
+    };
+    try_clusters(seed, cases, SMALL, few_layouts, listed);
+}
+
+/// Larger clusters, against the report's method.
+fn try_larger(seed: u64, cases: u64) {
+    let by_report = |c: &Cluster, former: &Layout| {
+        report::plan(c, former).map(|planned| Known {
+            size: planned.size,
+            least_distance: distance(&planned.layout, former),
+        })
+    };
+    try_clusters(seed, cases, MEDIUM, |_| true, by_report);
+}
+
+#[test]
+fn small_clusters_against_all_their_layouts() {
+    try_small(11, 20_000);
+}
+
+#[test]
+fn larger_clusters_against_the_reports_method() {
+    try_larger(12, 800);
+}
+
+#[test]
+#[ignore = "make soak"]
+fn soak_small_clusters() {
+    try_small(soak_seed(13), 20_000 * soak_factor());
+}
+
+#[test]
+#[ignore = "make soak"]
+fn soak_larger_clusters() {
+    try_larger(soak_seed(14), 800 * soak_factor());
+}

@@ -1,0 +1,210 @@
+//! Calls with lent buffers that are filled with a pattern and longer than they need to be: each
+//! call here checks that every cell comes back as laid down for the outcome.
+
+use dezghuri::ffi;
+use reference::cells::{layout_of, CELLS};
+use reference::random::Random;
+use reference::records::Numbers;
+use reference::{Cluster, Layout};
+
+/// Cells that no call would write by chance.
+pub fn pattern(length: usize, r: &mut Random) -> Vec<u32> {
+    let salt = r.number() as u32;
+    let cell = |i: usize| (i as u32).wrapping_mul(0x9E37_79B9) ^ salt | 1;
+    (0..length).map(cell).collect()
+}
+
+/// A buffer of so many cells, or some more.
+fn lend(least: usize, r: &mut Random) -> Vec<u32> {
+    let more = if r.chance(50) { r.below(20) } else { 0 };
+    pattern(least + more as usize, r)
+}
+
+/// Checks that the cells from `from` on are as they were lent.
+pub fn kept<T: PartialEq>(now: &[T], before: &[T], from: usize) {
+    assert_eq!(now.len(), before.len());
+    assert!(now[from..] == before[from..], "cells were touched");
+}
+
+fn byte(answer: &[u32]) -> u64 {
+    u64::from(answer[0]) << 32 | u64::from(answer[1])
+}
+
+/// What planning answers.
+#[derive(Clone, Debug, PartialEq, Eq)]
+pub struct Planned {
+    pub size: u32,
+    pub distance: u32,
+    pub finished: bool,
+    pub improvements: u32,
+    pub layout: Layout,
+}
+
+/// Plans; refused, the refusal and the byte.
+pub fn plan(record: &[u8], allowance: u16, r: &mut Random) -> Result<Planned, (u32, u64)> {
+    let lent = (
+        lend(CELLS, r),
+        lend(ffi::SCRATCH_CELLS, r),
+        lend(ffi::PLAN_ANSWER, r),
+    );
+    let (mut assignment, mut scratch, mut answer) = lent.clone();
+    let refusal = ffi::plan(
+        record,
+        allowance,
+        &mut assignment,
+        &mut scratch,
+        &mut answer,
+    );
+    let scratched = refusal == 0 || refusal == 9;
+    kept(&assignment, &lent.0, if refusal == 0 { CELLS } else { 0 });
+    kept(
+        &scratch,
+        &lent.1,
+        if scratched { ffi::SCRATCH_CELLS } else { 0 },
+    );
+    kept(&answer, &lent.2, ffi::PLAN_ANSWER);
+    if scratched {
+        assert!(scratch[..ffi::SCRATCH_CELLS].iter().all(|cell| *cell == 0));
+    }
+    if refusal != 0 {
+        assert_eq!(answer[2..ffi::PLAN_ANSWER], [0; 4], "numbers of a refusal");
+        return Err((refusal, byte(&answer)));
+    }
+    Ok(planned(1 << record[3], &assignment, &answer))
+}
+
+/// The answer to an accepted record of so many partitions.
+fn planned(partitions: usize, assignment: &[u32], answer: &[u32]) -> Planned {
+    assert_eq!(byte(answer), 0, "the byte of an accepted record");
+    assert!(answer[4] <= 1, "a verdict");
+    assert!(assignment[8 * partitions..CELLS]
+        .iter()
+        .all(|cell| *cell == 0));
+    Planned {
+        size: answer[2],
+        distance: answer[3],
+        finished: answer[4] == 1,
+        improvements: answer[5],
+        layout: layout_of(assignment, partitions),
+    }
+}
+
+/// Reads a cluster; refused, the refusal and the byte.
+pub fn read_cluster(record: &[u8], r: &mut Random) -> Result<(Cluster, Vec<u32>), (u32, u64)> {
+    let lent = (lend(CELLS, r), lend(ffi::READ_CLUSTER_ANSWER, r));
+    let (mut former, mut answer) = lent.clone();
+    let refusal = ffi::read_cluster(record, &mut former, &mut answer);
+    kept(&former, &lent.0, if refusal == 0 { CELLS } else { 0 });
+    kept(&answer, &lent.1, ffi::READ_CLUSTER_ANSWER);
+    let answer = &answer[..ffi::READ_CLUSTER_ANSWER];
+    if refusal != 0 {
+        assert_eq!(answer[2..6], [0, 1, 1, 0], "the cluster with no nodes");
+        assert!(answer[6..].iter().all(|cell| *cell == 0));
+        return Err((refusal, byte(answer)));
+    }
+    assert_eq!(byte(answer), 0, "the byte of an accepted record");
+    let (used, unused) = answer[6..].split_at(3 * answer[5] as usize);
+    assert!(unused.iter().all(|cell| *cell == 0), "unused nodes");
+    let node = |cells: &[u32]| reference::Node {
+        id: cells[0],
+        zone: cells[1].try_into().expect("a zone has 16 bits"),
+        capacity: cells[2],
+    };
+    let cluster = Cluster {
+        bits: answer[2],
+        replication: answer[3] as usize,
+        redundancy: answer[4] as usize,
+        nodes: used.chunks(3).map(node).collect(),
+    };
+    former.truncate(CELLS);
+    Ok((cluster, former))
+}
+
+/// Reads a layout; refused, the refusal and the byte.
+pub fn read_layout(record: &[u8], r: &mut Random) -> Result<(Numbers, Vec<u32>), (u32, u64)> {
+    let lent = (lend(CELLS, r), lend(ffi::READ_LAYOUT_ANSWER, r));
+    let (mut assignment, mut answer) = lent.clone();
+    let refusal = ffi::read_layout(record, &mut assignment, &mut answer);
+    kept(&assignment, &lent.0, if refusal == 0 { CELLS } else { 0 });
+    kept(&answer, &lent.1, ffi::READ_LAYOUT_ANSWER);
+    if refusal != 0 {
+        assert_eq!(answer[2..8], [0; 6], "numbers of a refusal");
+        return Err((refusal, byte(&answer)));
+    }
+    assert_eq!(byte(&answer), 0, "the byte of an accepted record");
+    assignment.truncate(CELLS);
+    let numbers = Numbers {
+        bits: answer[2],
+        replication: answer[3],
+        size: answer[4],
+        distance: answer[5],
+        verdict: answer[6],
+        improvements: answer[7],
+    };
+    Ok((numbers, assignment))
+}
+
+/// A check's refusal, byte and place.
+pub fn check(record: &[u8], assignment: &[u32], size: u32, r: &mut Random) -> (u32, u64, u32) {
+    let lent = lend(ffi::CHECK_ANSWER, r);
+    let mut answer = lent.clone();
+    let refusal = ffi::check(record, assignment, size, &mut answer);
+    kept(&answer, &lent, ffi::CHECK_ANSWER);
+    (refusal, byte(&answer), answer[2])
+}
+
+/// The 64 figures and the size to hope for; refused, the refusal, byte and place.
+pub fn figures(
+    record: &[u8],
+    assignment: &[u32],
+    size: u32,
+    r: &mut Random,
+) -> Result<(Vec<u32>, u64), (u32, u64, u32)> {
+    let lent = (lend(ffi::FIGURES_CELLS, r), lend(ffi::FIGURES_ANSWER, r));
+    let (mut figures, mut answer) = lent.clone();
+    let refusal = ffi::figures(record, assignment, size, &mut figures, &mut answer);
+    kept(
+        &figures,
+        &lent.0,
+        if refusal == 0 { ffi::FIGURES_CELLS } else { 0 },
+    );
+    kept(&answer, &lent.1, ffi::FIGURES_ANSWER);
+    let hope = byte(&answer[3..]);
+    if refusal != 0 {
+        assert_eq!(hope, 0, "numbers of a refusal");
+        return Err((refusal, byte(&answer), answer[2]));
+    }
+    assert_eq!(answer[..3], [0; 3], "byte and place without a refusal");
+    figures.truncate(ffi::FIGURES_CELLS);
+    Ok((figures, hope))
+}
+
+/// The record that writing makes in an output of so many bytes; refused, the refusal.
+pub fn write_layout(
+    n: &Numbers,
+    assignment: &[u32],
+    room: usize,
+    r: &mut Random,
+) -> Result<Vec<u8>, u32> {
+    let lent: Vec<u8> = (0..room).map(|_| r.number() as u8).collect();
+    let lent_answer = lend(ffi::WRITE_LAYOUT_ANSWER, r);
+    let (mut out, mut answer) = (lent.clone(), lent_answer.clone());
+    let numbers = ffi::Numbers {
+        bits: n.bits,
+        replication: n.replication,
+        size: n.size,
+        distance: n.distance,
+        verdict: n.verdict,
+        improvements: n.improvements,
+    };
+    let refusal = ffi::write_layout(numbers, assignment, &mut out, &mut answer);
+    let length = byte(&answer) as usize;
+    kept(&answer, &lent_answer, ffi::WRITE_LAYOUT_ANSWER);
+    kept(&out, &lent, length);
+    if refusal != 0 {
+        assert_eq!(length, 0, "the length of a refusal");
+        return Err(refusal);
+    }
+    out.truncate(length);
+    Ok(out)
+}

@@ -1,0 +1,97 @@
+//! The largest clusters: 256 partitions, eight copies, 32 nodes. Each call has to end in practice.
+
+use crate::lent;
+use reference::random::Random;
+use reference::records::cluster_record;
+use reference::{distance, is_valid, report, Cluster, Layout, Node};
+use std::time::{Duration, Instant};
+
+/// A call on the largest cluster takes some milliseconds; this is far beyond.
+const PATIENCE: Duration = Duration::from_secs(20);
+
+fn largest(redundancy: usize, zones: u32, capacity: impl Fn(u32) -> u32) -> Cluster {
+    let node = |b: u32| Node {
+        id: b + 1,
+        zone: (b % zones) as u16,
+        capacity: capacity(b),
+    };
+    Cluster {
+        bits: 8,
+        replication: 8,
+        redundancy,
+        nodes: (0..32).map(node).collect(),
+    }
+}
+
+/// Eight former copies in each row, drawn by lot.
+fn drawn(r: &mut Random) -> Layout {
+    let row = |r: &mut Random| {
+        let mut ids: Vec<u32> = (1..=32).collect();
+        while ids.len() > 8 {
+            ids.remove(r.below(ids.len() as u64) as usize);
+        }
+        ids
+    };
+    (0..256).map(|_| row(r)).collect()
+}
+
+/// Each row eight nodes next to each other, far from any dealt row.
+fn neighbours() -> Layout {
+    let row = |p: u32| {
+        let mut ids: Vec<u32> = (0..8).map(|i| (p * 5 + 3 * i) % 32 + 1).collect();
+        ids.sort_unstable();
+        ids
+    };
+    (0..256).map(row).collect()
+}
+
+fn ends(c: &Cluster, former: &Layout) {
+    let known = report::plan(c, former).expect("a layout exists");
+    let record = cluster_record(c, former);
+    let begun = Instant::now();
+    let planned = lent::plan(&record, 65_535, &mut Random::new(1)).expect("a layout exists");
+    assert!(begun.elapsed() < PATIENCE, "{:?}", begun.elapsed());
+    assert_eq!(u64::from(planned.size), known.size);
+    assert!(is_valid(c, &planned.layout, known.size));
+    assert!(planned.finished && planned.improvements <= 2048);
+    assert_eq!(planned.distance as usize, distance(&known.layout, former));
+    assert_eq!(planned.distance as usize, distance(&planned.layout, former));
+}
+
+#[test]
+fn the_largest_clusters_end() {
+    let mut r = Random::new(41);
+    for zones in [32, 8] {
+        for redundancy in [1, 5, 8] {
+            ends(&largest(redundancy, zones, |_| 6400), &drawn(&mut r));
+            ends(&largest(redundancy, zones, |_| 6400), &neighbours());
+            ends(
+                &largest(redundancy, zones, |b| 5000 + 97 * b),
+                &drawn(&mut r),
+            );
+            ends(
+                &largest(redundancy, zones, |b| u32::MAX - b),
+                &drawn(&mut r),
+            );
+        }
+    }
+}
+
+/// The header promises both of every call; planning the largest cluster is the one that takes most.
+#[test]
+fn threads_with_little_stack_call_at_once() {
+    let (c, former) = (largest(4, 9, |b| 5000 + 97 * b), neighbours());
+    let record = cluster_record(&c, &former);
+    let expected = lent::plan(&record, 2048, &mut Random::new(1));
+    std::thread::scope(|scope| {
+        for seed in 0..4 {
+            let (record, expected) = (&record, &expected);
+            let planned =
+                move || assert_eq!(&lent::plan(record, 2048, &mut Random::new(seed)), expected);
+            let thread = std::thread::Builder::new().stack_size(64 * 1024);
+            thread
+                .spawn_scoped(scope, planned)
+                .expect("a thread starts");
+        }
+    });
+}

@@ -1,0 +1,18 @@
+-- `console::cluster_in::read` meets its contract: the cells that it lends are long enough.
+-- Assumes nothing.
+use borrow.Author.Needs.{needs}
+use Rattle.console.proofs.ClusterAnswers.{read-whole}
+use Rattle.console.proofs.cluster_in.read.Statement.{statement}
+use Rattle.console.proofs.cluster_in.read.Tie as tie
+
+slice-aggregate-read-cluster : tie.Need-slice-aggregate-read-cluster
+slice-aggregate-read-cluster c = search needs
+
+read-cluster-requires : tie.Need-read-cluster-requires
+read-cluster-requires c κs = search needs
+
+returns : tie.Need-returns
+returns c = read-whole _ _ (c .before .read-cluster .result) (c .before .read-cluster .ensures .0) (search needs)
+
+pub read-spec : {M : Type 1} → statement M
+read-spec = tie.close (tie.spec slice-aggregate-read-cluster read-cluster-requires returns)

@@ -1,0 +1,43 @@
+-- `console::row::dezghuri_show_row` meets its contract.
+-- Assumes nothing.
+use borrow.Author.Needs.{needs}
+use mathlib.Core.Path.{ap, _∙_}
+use Prim.Native.Nat.{ℕ}
+use mathlib.Core.List.{List}
+use lib.ListN.{length}
+use Rattle.console.specs.TermsConsole.{answered}
+use Rattle.console.proofs.RowAnswers.{row-short, row-long}
+use Rattle.console.proofs.row.dezghuri_show_row.Statement.{statement}
+use Rattle.console.proofs.row.dezghuri_show_row.Tie as tie
+
+returns : tie.Need-returns
+returns c =
+    let a = c .before .before .before .args in
+    row-short (a .assignment .now) (a .partition) (a .row .now) (c .if1 .taken)
+
+show-row-requires : tie.Need-show-row-requires
+show-row-requires c κs = search needs
+
+put-requires : tie.Need-put-requires
+put-requires c κs = search needs
+
+same-length : tie.Need-same-length
+same-length c = search needs
+
+returns-2 : tie.Need-returns-2
+returns-2 c =
+    let k = c .before .before .before .before in
+    let e = k .before .before in
+    let a = e .before .before .before .args in
+    let w = row-long (a .assignment .now) (a .partition) (a .row .now) (e .if1 .left) in
+    (k .show-row .ensures .1 .0 ∙ w .0, c .before .before .put .ensures ∙ (ap (λ (l : List ℕ). answered (length l) l (a .row .now)) (k .show-row .ensures .0) ∙ w .1))
+
+pub dezghuri-show-row-spec : {M : Type 1} → statement M
+dezghuri-show-row-spec =
+    tie.close
+    (tie.spec
+    returns
+    show-row-requires
+    put-requires
+    same-length
+    returns-2)

@@ -1,0 +1,58 @@
+// The figures of a layout in hand, asked through C.
+ghost use mathlib.Core.Path.{_≡_};
+ghost use Rattle.console.specs.TermsConsole.{figured, figuresLeft, figuresRefusal, figuresAfter, figuresAnswer};
+use super::answers;
+use super::cluster_in;
+use cluster::refusal;
+use cluster_record::ReadCluster;
+use layouts::figures;
+use layouts::figures::Figured;
+
+// The cells of the answer: byte (two cells), place, the size to hope for (two cells).
+const ANSWER: usize = 5;
+
+// Reading's refusal, or else the figures of the cluster read.
+fn figures_read(read: ReadCluster, assignment: &[u32], size: u32, figures: &mut [u32]) -> Figured
+    ensures { λ r. ⌜ (r ≡ figured read (now (assignment .entry)) size (now (figures .entry)))
+        × (now (figures .exit) ≡ figuresLeft read (now (assignment .entry)) size (now (figures .entry))) ⌝ }
+{
+    if read.refusal != 0 {
+        return Figured {
+            refusal: read.refusal,
+            place: 0,
+            hope: 0,
+        };
+    }
+    let c = read.cluster;
+    figures::figures(c, assignment, size, figures)
+}
+
+// The figures of an assignment that check passes for the cluster of a record.
+#[no_mangle]
+pub extern "C" fn dezghuri_figures(
+    bytes: &[u8],
+    assignment: &[u32],
+    size: u32,
+    figures: &mut [u32],
+    answer: &mut [u32],
+) -> u32
+    ensures { λ r. ⌜ (r ≡ figuresRefusal (now (bytes .entry)) (now (assignment .entry)) size (now (figures .entry)) (now (answer .entry)))
+        × (now (figures .exit) ≡ figuresAfter (now (bytes .entry)) (now (assignment .entry)) size (now (figures .entry)) (now (answer .entry)))
+        × (now (answer .exit) ≡ figuresAnswer (now (bytes .entry)) (now (assignment .entry)) size (now (figures .entry)) (now (answer .entry))) ⌝ }
+{
+    if answer.len() < ANSWER {
+        return refusal::BUFFER;
+    }
+    let read = cluster_in::read(bytes);
+    let found = figures_read(read, assignment, size, figures);
+    let byte = read.byte as u64;
+    let numbers = [
+        answers::high(byte),
+        answers::low(byte),
+        found.place,
+        answers::high(found.hope),
+        answers::low(found.hope),
+    ];
+    answers::put(&numbers, answer);
+    found.refusal
+}

@@ -1,0 +1,45 @@
+// Layout records, written through C.
+ghost use mathlib.Core.Path.{_≡_};
+ghost use Rattle.layout_record.specs.RecordLayoutFaults.{numbersOf};
+ghost use Rattle.console.specs.TermsConsole.{writeRefusal, writeOut, writtenAnswer};
+use super::answers;
+use cluster::refusal;
+use layout_record::Numbers;
+
+// The cells of the answer: the record's length (two cells).
+const ANSWER: usize = 2;
+
+// Writes the record of a layout to the front of the lent bytes.
+#[no_mangle]
+pub extern "C" fn dezghuri_write_layout(
+    bits: u32,
+    replication: u32,
+    size: u32,
+    distance: u32,
+    verdict: u32,
+    improvements: u32,
+    assignment: &[u32],
+    out: &mut [u8],
+    answer: &mut [u32],
+) -> u32
+    ensures { λ r. ⌜ (r ≡ writeRefusal (numbersOf bits replication size distance verdict improvements) (now (assignment .entry)) (now (out .entry)) (now (answer .entry)))
+        × (now (out .exit) ≡ writeOut (numbersOf bits replication size distance verdict improvements) (now (assignment .entry)) (now (out .entry)) (now (answer .entry)))
+        × (now (answer .exit) ≡ writtenAnswer (numbersOf bits replication size distance verdict improvements) (now (assignment .entry)) (now (out .entry)) (now (answer .entry))) ⌝ }
+{
+    if answer.len() < ANSWER {
+        return refusal::BUFFER;
+    }
+    let n = Numbers {
+        bits,
+        replication,
+        size,
+        distance,
+        verdict,
+        improvements,
+    };
+    let written = layout_record::write_layout(n, assignment, out);
+    let length = written.length as u64;
+    let numbers = [answers::high(length), answers::low(length)];
+    answers::put(&numbers, answer);
+    written.refusal
+}

@@ -1,0 +1,78 @@
+// Plans, made through C.
+ghost use mathlib.Core.Path.{_≡_};
+ghost use lib.ListN.{length};
+ghost use Rattle.sums.specs.Sum.{one-if};
+ghost use Rattle.console.specs.TermsConsole.{planned, plannedAssignment, plannedScratch, planRefusal, planAssignment, planScratch, planAnswer};
+use super::answers;
+use cluster::Cluster;
+use cluster::refusal;
+use cluster_record::ReadCluster;
+use planner::Planned;
+
+// The cells of the answer: byte (two cells), size, distance, verdict, improvements.
+const ANSWER: usize = 6;
+
+// The number of a verdict.
+fn verdict(finished: bool) -> u32
+    ensures { λ r. ⌜ r ≡ one-if finished ⌝ }
+{
+    if finished { 1 } else { 0 }
+}
+
+// Reading's refusal, or else the plan of the cluster read.
+fn plan_read(
+    read: ReadCluster,
+    former: &[u32],
+    allowance: u16,
+    assignment: &mut [u32],
+    scratch: &mut [u32],
+) -> Planned
+    ensures { λ r. ⌜ (r ≡ planned read (now (former .entry)) allowance (length (now (assignment .entry))) (length (now (scratch .entry))))
+        × (now (assignment .exit) ≡ plannedAssignment read (now (former .entry)) allowance (now (assignment .entry)) (length (now (scratch .entry))))
+        × (now (scratch .exit) ≡ plannedScratch read (now (former .entry)) (length (now (assignment .entry))) (now (scratch .entry))) ⌝ }
+{
+    if read.refusal != 0 {
+        return Planned {
+            refusal: read.refusal,
+            size: 0,
+            distance: 0,
+            finished: false,
+            improvements: 0,
+        };
+    }
+    let c = read.cluster;
+    planner::plan(c, former, allowance, assignment, scratch)
+}
+
+// Plans the cluster of a record, whose former layout the record carries.
+#[no_mangle]
+pub extern "C" fn dezghuri_plan(
+    bytes: &[u8],
+    allowance: u16,
+    assignment: &mut [u32],
+    scratch: &mut [u32],
+    answer: &mut [u32],
+) -> u32
+    ensures { λ r. ⌜ (r ≡ planRefusal (now (bytes .entry)) allowance (now (assignment .entry)) (now (scratch .entry)) (now (answer .entry)))
+        × (now (assignment .exit) ≡ planAssignment (now (bytes .entry)) allowance (now (assignment .entry)) (now (scratch .entry)) (now (answer .entry)))
+        × (now (scratch .exit) ≡ planScratch (now (bytes .entry)) (now (assignment .entry)) (now (scratch .entry)) (now (answer .entry)))
+        × (now (answer .exit) ≡ planAnswer (now (bytes .entry)) allowance (now (assignment .entry)) (now (scratch .entry)) (now (answer .entry))) ⌝ }
+{
+    if answer.len() < ANSWER {
+        return refusal::BUFFER;
+    }
+    let mut former = [0u32; Cluster::CELLS];
+    let read = cluster_record::read_cluster(bytes, &mut former);
+    let made = plan_read(read, &former, allowance, assignment, scratch);
+    let byte = read.byte as u64;
+    let numbers = [
+        answers::high(byte),
+        answers::low(byte),
+        made.size,
+        made.distance,
+        verdict(made.finished),
+        made.improvements,
+    ];
+    answers::put(&numbers, answer);
+    made.refusal
+}

@@ -1,0 +1,277 @@
+-- The operations fit together, of the definitions that the contracts of `plan`, `check`, `write_layout` and `read_layout` cite: what planning
+-- answers passes check, can be written, reads back as it was, and planned again it stays.
+-- Assumes nothing.
+use Prim.Native.Nat.{ℕ, _+_, _*_, _^_, _≤_, _<_}
+use mathlib.Core.Path.{_≡_, refl, sym, ap, ap₂, _∙_, subst}
+use mathlib.Core.Bool.{true}
+use mathlib.Core.List.{List, _++_}
+use native.Mathlib.Omega.{arith}
+use lib.ListN.{length, take, drop, length-append}
+use lib.Seq.{take-at}
+use Rattle.cluster.specs.Limits.{layoutCells, scratchCells}
+use Rattle.cluster.specs.Terms.{Topology, topology, partitions, nodeAt, Layout, ValidAt, IsFormer, distance}
+use Rattle.cluster.specs.TermsCells.{cellsOf, rowsIn, FitsCells, HoldsRows}
+use Rattle.cluster.specs.Faults.{Accepted}
+use Rattle.cluster.specs.declared.Cluster.{Cluster}
+use Rattle.cluster.proofs.Accepting.{accepted}
+use Rattle.cluster.proofs.Lists.{one-if-le}
+use Rattle.cluster.proofs.CellLayouts.{length-cellsOf, rowsIn-written, holds-cellsOf, holds-append}
+use Rattle.masks.proofs.Laws.{holds-formed}
+use Rattle.layouts.specs.TermsCheck.{passed, checkOf}
+use Rattle.layouts.proofs.CheckMeaning.{valid-fits, valid-passed}
+use Rattle.sizing.specs.Model.{Fits32, sizeOf}
+use Rattle.planner.specs.Demand.{Answer, Demand3, Rules}
+use Rattle.planner.specs.ModelRun.{planOf}
+use Rattle.planner.specs.TermsPlan.{unusable, planRefusal, answerOf, answered, plannedOf, assignmentAfter}
+use Rattle.planner.specs.declared.Planned.{Planned}
+use Rattle.planner.proofs.Refusals.{Usable, usable}
+use Rattle.layout_record.specs.declared.Numbers.{Numbers}
+use Rattle.layout_record.specs.declared.ReadLayout.{ReadLayout}
+use Rattle.layout_record.specs.declared.Written.{Written}
+use Rattle.layout_record.specs.RecordLayout.{InRange, HasLayout, layoutRecord, recordLength}
+use Rattle.layout_record.specs.RecordLayoutAnswer.{readAnswer, writeAnswer, outAfter}
+use Rattle.layout_record.specs.RecordLayoutAnswer as records
+use Rattle.layout_record.proofs.RecordLaws.{length-record}
+use Rattle.layout_record.proofs.Exact.{Writes, Reads, writes-layout, reads-record}
+use Rattle.whole.specs.TermsWhole.{planNumbers, Stays}
+use Rattle.whole.proofs.Alike.{distance-self, distance-none}
+use Rattle.whole.proofs.Plans.{none-refused, usable-sized, not-refused, plan-answered, plan-laid, one-size, size-below, distance-most, valid-words, lent-former, plan-rules, few-improvements}
+
+-- The plan of a cluster c with a former layout and an allowance: its answer r and the cells that it leaves in the lent assignment.
+module _ (c : Cluster) (former : List ℕ) (allowance : ℕ) (assignment scratch : List ℕ) where
+  abbrev t : Topology
+  t = topology c
+
+  abbrev r : Planned
+  r = plannedOf c former allowance (length assignment) (length scratch)
+
+  abbrev cells : List ℕ
+  cells = assignmentAfter c former allowance assignment (length scratch)
+
+  -- Planning refuses nothing, and capacities have 32 bits, as those of every cluster in code have.
+  module _ (made : r .refusal ≡ 0) (low : Fits32 t) where
+    none : planRefusal c former (length assignment) (length scratch) ≡ 0
+    none = not-refused c former (length assignment) (length scratch) allowance made
+
+    call : Usable c former (length assignment) (length scratch)
+    call = usable-sized c former (length assignment) (length scratch) none .0
+
+    sized : 1 ≤ sizeOf t
+    sized = usable-sized c former (length assignment) (length scratch) none .1
+
+    acc : Accepted t
+    acc = accepted c (call .faultless)
+
+    abbrev F : Layout
+    F = rowsIn (partitions t) former
+
+    fo : IsFormer t F
+    fo = lent-former c former (length assignment) (length scratch) call
+
+    demand : Demand3 t (planOf t)
+    demand = plan-rules t acc low sized
+
+    rules : Rules t (demand .beginning) F (planOf t F)
+    rules = demand .rules F fo
+
+    abbrev plan : Answer
+    plan = answerOf c former allowance
+
+    abbrev L : Layout
+    L = plan .layout
+
+    answer : r ≡ answered plan
+    answer = plan-answered c former (length assignment) (length scratch) allowance none
+
+    laid : cells ≡ cellsOf L ++ drop layoutCells assignment
+    laid = plan-laid c former allowance assignment (length scratch) none
+
+    valid : ValidAt t L (plan .size)
+    valid = rules .valid allowance
+
+    fits : FitsCells L
+    fits = valid-fits t L (plan .size) acc valid
+
+    front : (rest : List ℕ) → take layoutCells (cellsOf L ++ rest) ≡ cellsOf L
+    front rest = take-at (cellsOf L) rest layoutCells (length-cellsOf L)
+
+    taken : take layoutCells cells ≡ cellsOf L
+    taken = ap (take layoutCells) laid ∙ front (drop layoutCells assignment)
+
+    whole : (rest : List ℕ) → layoutCells ≤ length (cellsOf L ++ rest)
+    whole rest = omega (arith, length-append (cellsOf L) rest, length-cellsOf L)
+
+    -- ---- check
+
+    -- The layout passes check at its size, whatever cells stand after it.
+    laid-checks : (rest : List ℕ) → checkOf c (cellsOf L ++ rest) (r .size) ≡ passed
+    laid-checks rest =
+        ap (λ (x : Planned). checkOf c (cellsOf L ++ rest) (x .size)) answer
+        ∙ valid-passed c (cellsOf L ++ rest) (plan .size)
+        (record { whole = whole rest; accepted-cluster = call .faultless; layout = L; valid = valid; written = front rest })
+
+    -- What planning answers, stopped or finished, passes check at the size that it answers.
+    pub plan-checks : checkOf c cells (r .size) ≡ passed
+    plan-checks = ap (λ (l : List ℕ). checkOf c l (r .size)) laid ∙ laid-checks (drop layoutCells assignment)
+
+    -- ---- records
+
+    -- Ids have 32 bits, as those of every cluster in code have.
+    module _ (ids : (b : ℕ) → b < length (t .nodes) → nodeAt t b .id < 2 ^ 32) where
+      abbrev n : Numbers
+      n = planNumbers c r
+
+      in-range : InRange n
+      in-range =
+          let large = valid .positive in
+          let below = size-below t acc low (plan .size) (rules .size allowance) in
+          let far = distance-most t acc L F (plan .size) valid fo in
+          let size : r .size ≡ plan .size = ap (λ (x : Planned). x .size) answer in
+          record {
+            bits = acc .bits;
+            replication = acc .replication;
+            size = (omega arith, omega arith);
+            distance = omega (arith, ap (λ (x : Planned). x .distance) answer, rules .measured allowance);
+            verdict = one-if-le (r .finished);
+            improvements = omega (arith, ap (λ (x : Planned). x .improvements) answer, few-improvements t (demand .beginning) F allowance rules);
+          }
+
+      has-layout : HasLayout n L
+      has-layout = record {
+        partition-rows = valid .partition-rows;
+        many = λ p l. valid .rows p (omega (arith, valid .partition-rows)) .many;
+        ids = λ p l. valid .rows p (omega (arith, valid .partition-rows)) .ids;
+        words = valid-words t acc ids L (plan .size) valid;
+      }
+
+      -- The output has room for the record.
+      module _ (out : List ℕ) (room : 29 + partitions t * (5 + 4 * c .replication) ≤ length out) where
+        long : length (layoutRecord n L) ≡ 29 + partitions t * (5 + 4 * c .replication)
+        unfolding recordLength
+        long = length-record n L has-layout
+
+        written : Writes n cells out L
+        written =
+            writes-layout n cells out L
+            (record {
+              whole = omega (arith, ap length laid, whole (drop layoutCells assignment));
+              ranges = in-range;
+              layout = has-layout;
+              cells-of = taken;
+              room = omega (arith, long);
+            })
+
+        -- A plan can always be written.
+        pub plan-writes : writeAnswer n cells out ≡ record { refusal = 0; length = 29 + partitions t * (5 + 4 * c .replication) }
+        plan-writes = written .answer ∙ ap (λ (k : ℕ). record { refusal = 0; length = k }) long
+
+        -- The bytes written.
+        abbrev bytes : List ℕ
+        bytes = take (writeAnswer n cells out .length) (outAfter n cells out)
+
+        bytes-are : bytes ≡ layoutRecord n L
+        bytes-are =
+            ap₂ take (ap (λ (w : Written). w .length) (written .answer)) (written .after)
+            ∙ take-at (layoutRecord n L) (drop (length (layoutRecord n L)) out) (length (layoutRecord n L)) refl
+
+        module _ (lent : List ℕ) (enough : layoutCells ≤ length lent) where
+          read : Reads (layoutRecord n L) lent n L
+          read = reads-record (layoutRecord n L) lent n L enough (record { bytes = refl; ranges = in-range; layout = has-layout })
+
+          held : records.assignmentAfter bytes lent ≡ cellsOf L ++ drop layoutCells lent
+          held = ap (λ (x : List ℕ). records.assignmentAfter x lent) bytes-are ∙ read .after
+
+          -- What is written reads back: the numbers of the plan, and all 2,048 of its cells.
+          pub plan-returns : (readAnswer bytes lent ≡ record { refusal = 0; byte = 0; numbers = n })
+              × (records.assignmentAfter bytes lent ≡ take layoutCells cells ++ drop layoutCells lent)
+          plan-returns = (
+            ap (λ (x : List ℕ). readAnswer x lent) bytes-are ∙ read .answer,
+            held ∙ ap (λ (x : List ℕ). x ++ drop layoutCells lent) (sym taken),
+          )
+
+          -- And passes check as it is read.
+          pub returned-checks : checkOf c (records.assignmentAfter bytes lent) (readAnswer bytes lent .numbers .size) ≡ passed
+          returned-checks =
+              ap₂ (checkOf c) held (ap (λ (x : ReadLayout). x .numbers .size) (plan-returns .0)) ∙ laid-checks (drop layoutCells lent)
+
+    -- ---- again
+
+    -- The plan's own layout as the former one, and buffers long enough.
+    module _ (lent spare : List ℕ) (roomy : layoutCells ≤ length lent) (ample : scratchCells ≤ length spare) where
+      abbrev again : ℕ → Planned
+      again b = plannedOf c cells b (length lent) (length spare)
+
+      abbrev G : Layout
+      G = rowsIn (partitions t) cells
+
+      own : G ≡ L
+      own = ap₂ rowsIn (sym (valid .partition-rows)) laid ∙ rowsIn-written L (drop layoutCells assignment) fits
+
+      holds : HoldsRows (partitions t) cells
+      holds =
+          subst (λ (l : List ℕ). HoldsRows (partitions t) l) (sym laid)
+          (holds-append (partitions t) (cellsOf L) (drop layoutCells assignment)
+          (subst (λ (k : ℕ). HoldsRows k (cellsOf L)) (valid .partition-rows) (holds-cellsOf L fits)))
+
+      usable-again : unusable c cells (length lent) (length spare) ≡ 0
+      usable-again =
+          sym (usable c cells (length lent) (length spare) (holds .whole) roomy ample (call .faultless) (holds-formed (partitions t) cells holds))
+
+      none-again : planRefusal c cells (length lent) (length spare) ≡ 0
+      none-again = none-refused c cells (length lent) (length spare) usable-again sized
+
+      own-former : IsFormer t G
+      own-former = lent-former c cells (length lent) (length spare) (usable-sized c cells (length lent) (length spare) none-again .0)
+
+      rules-again : Rules t (demand .beginning) G (planOf t G)
+      rules-again = demand .rules G own-former
+
+      answer-again : (b : ℕ) → again b ≡ answered (planOf t G b)
+      answer-again b = plan-answered c cells (length lent) (length spare) b none-again
+
+      least : again 2048 .improvements ≡ planOf t G 2048 .improvements
+      least = ap (λ (x : Planned). x .improvements) (answer-again 2048)
+
+      same-size : (b : ℕ) → planOf t G b .size ≡ plan .size
+      same-size b = one-size t (planOf t G b .size) (plan .size) (rules-again .size b) (rules .size allowance)
+
+      module _ (b : ℕ) (enough : again 2048 .improvements ≤ b) where
+        ends : planOf t G b .finished ≡ true
+        ends =
+            let m = planOf t G 2048 .improvements in
+            let e = rules-again .finished 2048 (rules-again .enough) .finishes in
+            ap (λ (x : Answer). x .finished) (rules-again .finished m e .larger b (omega (arith, least))) ∙ e
+
+        near : planOf t G b .distance ≡ 0
+        near =
+            omega (
+              arith,
+              rules-again .finished b ends .nearest L (subst (ValidAt t L) (sym (same-size b)) valid),
+              ap (distance t L) own,
+              distance-self t L,
+            )
+
+        unmoved : planOf t G b .layout ≡ L
+        unmoved =
+            let v = rules-again .valid b in
+            distance-none t (planOf t G b .layout) G (v .partition-rows) (own-former .partition-rows) (λ p l. v .rows p l .ids) (own-former .ids)
+            (sym (rules-again .measured b) ∙ near)
+            ∙ own
+
+        stays : Stays r cells (again b) lent (assignmentAfter c cells b lent (length spare))
+        stays =
+            let e = answer-again b in
+            record {
+              refusal = ap (λ (x : Planned). x .refusal) e;
+              size = ap (λ (x : Planned). x .size) e ∙ (same-size b ∙ sym (ap (λ (x : Planned). x .size) answer));
+              distance = ap (λ (x : Planned). x .distance) e ∙ near;
+              finished = ap (λ (x : Planned). x .finished) e ∙ ends;
+              same =
+                  plan-laid c cells b lent (length spare) none-again
+                  ∙ ap (λ (l : List ℕ). l ++ drop layoutCells lent) (ap cellsOf unmoved ∙ sym taken);
+            }
+
+      -- A plan that is planned again moves nothing, with every allowance that finishes; 2,048 is one.
+      pub plan-again : (again 2048 .improvements ≤ 2048)
+          × ((b : ℕ) → again 2048 .improvements ≤ b → Stays r cells (again b) lent (assignmentAfter c cells b lent (length spare)))
+      plan-again = (omega (arith, least, few-improvements t (demand .beginning) G 2048 rules-again), stays)

@@ -1,0 +1,32 @@
+-- The numbers of a plan as its layout record has them, and what it means that a plan stays.
+-- Assumes nothing.
+use Prim.Native.Nat.{ℕ}
+use mathlib.Core.Path.{_≡_}
+use mathlib.Core.Bool.{true}
+use mathlib.Core.List.{List, _++_}
+use lib.ListN.{take, drop}
+use Rattle.sums.specs.Sum.{one-if}
+use Rattle.cluster.specs.Limits.{layoutCells}
+use Rattle.cluster.specs.declared.Cluster.{Cluster}
+use Rattle.planner.specs.declared.Planned.{Planned}
+use Rattle.layout_record.specs.declared.Numbers.{Numbers}
+
+-- "1, 2, then 6 size, 7 distance, 8 verdict (1: 1 finished, 0 stopped), 9 improvements": bits and replication are the cluster's, the others are
+-- what planning answers.
+abbrev pub planNumbers : Cluster → Planned → Numbers
+planNumbers c r = record {
+  bits = c .bits;
+  replication = c .replication;
+  size = r .size;
+  distance = r .distance;
+  verdict = one-if (r .finished);
+  improvements = r .improvements;
+}
+
+-- A plan with the answer r and these cells stays: planned again it has this answer, and what is then in the lent cells is the same layout.
+pub record Stays (r : Planned) (cells : List ℕ) (again : Planned) (lent held : List ℕ) : Type 0 where
+  pub refusal : again .refusal ≡ 0
+  pub size : again .size ≡ r .size
+  pub distance : again .distance ≡ 0
+  pub finished : again .finished ≡ true
+  pub same : held ≡ take layoutCells cells ++ drop layoutCells lent

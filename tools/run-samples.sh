@@ -1,0 +1,47 @@
+#!/bin/sh
+# Runs the built program `plan` on each record of samples/plan and compares what it prints with what is expected there, byte for byte. Of an
+# expected line 3 `improvements N` the number is free, up to 2,048. A's record is run once more in two parts, for a read that is short.
+set -u
+cd "$(dirname "$0")/.." || exit 2
+program=target/bin/plan
+samples=samples/plan
+
+fail() { printf 'run-samples: %s\n' "$*" >&2; exit 1; }
+
+[ -x "$program" ] || fail "$program is missing"
+work=$(mktemp -d) || exit 2
+trap 'rm -rf "$work"' EXIT
+
+# as_expected FILE: whether what was printed is what the file says.
+as_expected() {
+    if [ "$(sed -n 3p "$1")" != 'improvements N' ]; then
+        cmp -s "$work/printed" "$1"
+        return
+    fi
+    number=$(sed -n '3s/^improvements //p' "$work/printed")
+    case $number in '' | *[!0-9]* | 0?* | ?????*) return 1 ;; esac
+    [ "$number" -le 2048 ] || return 1
+    sed "3s/ $number\$/ N/" "$work/printed" | cmp -s - "$1"
+}
+
+# compare NAME: fails unless one of the outputs expected of the record was printed.
+compare() {
+    for expected in "$samples/$1.out" "$samples/$1".[0-9].out; do
+        if [ -f "$expected" ] && as_expected "$expected"; then
+            return
+        fi
+    done
+    cat "$work/printed" >&2
+    fail "$1: the above was printed, which is not what is expected"
+}
+
+count=0
+for name in A B D E K empty lone-byte too-long largest; do
+    [ -f "$samples/$name.record" ] || fail "$samples/$name.record is missing"
+    "$program" <"$samples/$name.record" >"$work/printed" || fail "$name: the program ended with status $?"
+    compare "$name"
+    count=$((count + 1))
+done
+{ dd bs=20 count=1 2>/dev/null; sleep 1; cat; } <"$samples/A.record" | "$program" >"$work/printed"
+compare A
+printf 'run-samples: %d records, each printed what is expected\n' "$count"
