@@ -1,4 +1,5 @@
 pub mod Rules
+pub mod GoodRows
 pub mod Machines
 pub mod Demands
 pub mod Refusals

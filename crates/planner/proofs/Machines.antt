@@ -1,57 +1,54 @@
 -- The rows of a run are a machine that improves layouts: its graph is the exchange graph of the rows, so that a cycle brings the layout nearer,
 -- and where there is none, no layout is nearer.
 -- Assumes nothing.
-use Prim.Native.Nat.{ℕ, zero, suc, _+_, _-_, _*_, _^_, _≤_, _<_, min}
-use mathlib.Core.Path.{_≡_, refl, sym, ap, ap₂, _∙_, subst}
+use Prim.Native.Nat.{ℕ, _+_, _*_, _^_, _≤_, _<_}
+use mathlib.Core.Path.{_≡_, refl, sym, ap, _∙_, subst}
 use mathlib.Core.Bool.{Bool, true, false, not, cond}
 use mathlib.Core.List.{List, []}
-use mathlib.Core.Logic.{_⊎_, inl, inr, ⊎-elim}
+use mathlib.Core.Logic.{inl, inr, ⊎-elim}
 use native.Mathlib.Omega.{arith}
-use native.Mathlib.Nat.{mul-le-mul, mul-one, mul-zero, one-mul, zero-mul, pow-le-pow-right, zero-add}
-use lib.Dec.{eqb, leb}
+use native.Mathlib.Nat.{mul-one, mul-zero, zero-add}
 use lib.Pow.{pow-pos}
-use lib.ListN.{length, getD, drop, replicate, length-replicate, length-append, length-drop, List·getD-append}
+use lib.ListN.{length, getD, drop, replicate, length-replicate, length-append}
 use borrow.Author.Tests.{eq-eqb, ne-eqb, le-leb}
 use Rattle.sums.specs.Sum.{sumTo, one-if}
-use Rattle.sums.proofs.Sum.{lt-or-ge, eq-or-ne, sum-cong, sum-zero, sum-le, sum-const}
-use Rattle.sets.specs.Bits.{bit, maskOf, meetOf, belowOf, countOf}
-use Rattle.sets.proofs.Laws.{bit-le, bit-lt, bit-high, bit-mask-high, mask-lt, bit-maskOf, bit-meet, meet-lt, count-sum}
+use Rattle.sums.proofs.Sum.{lt-or-ge, sum-zero}
+use Rattle.sets.specs.Bits.{belowOf}
+use Rattle.sets.proofs.Laws.{bit-le}
 use Rattle.cells.specs.Cells.{put, tab}
-use Rattle.cells.proofs.Cells.{length-put, getD-put-in, length-tab, getD-tab}
-use Rattle.exchange.specs.Row.{Valid, Within, Exchange, Agree, copies, weigh}
+use Rattle.cells.proofs.Cells.{length-put, getD-put-in, length-tab}
+use Rattle.exchange.specs.Row.{Within, Exchange, copies, weigh}
 use Rattle.exchange.specs.Levels.{Outcome, Potential, Cycle, outcome, back, cycleLength, IsCycle}
 use Rattle.exchange.specs.Circuit.{cost, Allowed, Better}
-use Rattle.exchange.specs.Join.{ExchangeGraph, Heaviest}
+use Rattle.exchange.specs.Join.{ExchangeGraph}
 use Rattle.exchange.proofs.Search.{outcome-cycle}
 use Rattle.exchange.proofs.Circuit.{cost-row, cost-store}
 use Rattle.exchange.proofs.Join.{join-potential, no-gain}
-use Rattle.exchange.proofs.Prices.{weigh-le}
-use Rattle.exchange.proofs.Agreeing.{SameLayout, weigh-cong, within-cong}
-use Rattle.cluster.specs.Limits.{bufferRows}
 use Rattle.cluster.specs.Terms.{Topology, partitions, nodeAt, mem, Layout, row, ValidAt, IsFormer, distance}
 use Rattle.cluster.specs.Faults.{Accepted}
-use Rattle.cluster.specs.Tie.{zoneIndex, capAt, incidence, layoutOf, formerPairs}
-use Rattle.cluster.specs.Columns.{cell, zoneCells}
+use Rattle.cluster.specs.Tie.{zoneIndex, capAt, incidence, formerPairs}
+use Rattle.cluster.specs.Columns.{zoneCells}
 use Rattle.cluster.proofs.TieZones.{zone-below}
-use Rattle.cluster.proofs.TieDistance.{distance-law, incidence-le}
-use Rattle.cluster.proofs.TieLayouts.{within-of-valid, valid-of-within, distance-bits}
-use Rattle.cluster.proofs.Columns.{cell-column, length-column}
-use Rattle.sizing.specs.Model.{nodesOf, mateCells, capCells, Fits32, sizeOf, beginning, dealtRows}
-use Rattle.sizing.proofs.Sizes.{beginning-within, size-is}
-use Rattle.sizing.proofs.Reading.{mates-hold, deal-length, deal-cell, deal-bit}
+use Rattle.cluster.proofs.TieDistance.{distance-law}
+use Rattle.cluster.proofs.TieLayouts.{within-of-valid, valid-of-within}
+use Rattle.cluster.proofs.Columns.{cell-column}
+use Rattle.sizing.specs.Model.{nodesOf, capCells, Fits32, sizeOf}
+use Rattle.sizing.proofs.Sizes.{size-is}
+use Rattle.sizing.proofs.Reading.{mates-hold}
 use Rattle.swaps.specs.Mates.{Mates}
 use Rattle.graph.specs.ModelArcs.{arcsOf, cellOf}
-use Rattle.graph.proofs.Members.{any, rowsOf}
+use Rattle.graph.proofs.Members.{any}
 use Rattle.graph.proofs.Exchanges.{graph-exchange, graph-room, graph-witness}
 use Rattle.cycles.specs.ModelGraph.{graphOf, arcOf, weightOf}
 use Rattle.cycles.specs.ModelFound.{searchable, endLength, endWalk, foundLength, foundWalk}
 use Rattle.circuits.specs.ModelCircuits.{turnedOf, okOf, witnessOf}
 use Rattle.circuits.proofs.Improving.{ok-right, witness-graph, turned-length, held-cycle, turned-small, turned-better}
-use Rattle.improve.specs.Run.{Ran, after, run}
-use Rattle.improve.specs.ModelImprove.{arcsIn, cycleIn, improvesIn, nextIn, agreementIn}
+use Rattle.improve.specs.ModelImprove.{arcsIn, cycleIn, improvesIn, nextIn}
 use Rattle.planner.specs.ModelRun.{bitsAt, matesOf, formerMasks, startRows, layoutRows, farRows, improvesAt, nextAt}
 use Rattle.improve.proofs.Runs.{true-or-false, not-both}
 use Rattle.planner.proofs.Rules.{Machine}
+use Rattle.planner.proofs.GoodRows.{fm-bit, shared, same-weight, measure, far-is, near}
+pub use Rattle.planner.proofs.GoodRows.{Good, few-partitions, start-good, fm-long, far-fits}
 
 -- ---- a cluster with a layout
 
@@ -73,10 +70,6 @@ module _ (t : Topology) (acc : Accepted t) where
 
   abbrev cap : ℕ → ℕ
   cap = capAt t (sizeOf t)
-
-  -- At most 256 partitions.
-  pub few-partitions : P ≤ 256
-  few-partitions = pow-le-pow-right {n = 2} (omega arith) (acc .bits)
 
   -- The sets of the nodes of each zone.
   mates-are : Mates N zone (matesOf t)
@@ -100,80 +93,15 @@ module _ (t : Topology) (acc : Accepted t) where
       empty : sumTo N (S 0) ≡ R → N ≡ 0 → ⊥
       empty e z = omega (arith, acc .replication, ap (λ (n : ℕ). sumTo n (S 0)) z, e)
 
-  -- Rows of nodes of the cluster, within the caps.
-  pub record Good (rows : List ℕ) : Type 0 where
-    pub long : length rows ≡ bufferRows
-    pub small : (p : ℕ) → p < P → getD rows p 0 < 2 ^ N
-    pub within : Within P N R Z zone cap (bitsAt rows)
-
-  -- The dealt rows are good.
-  pub start-good : 1 ≤ sizeOf t → Good (startRows t)
-  unfolding startRows
-  start-good some =
-      let long : partitions t ≤ length {A = ℕ} (replicate bufferRows 0) = omega (arith, few-partitions, length-replicate {A = ℕ} bufferRows 0) in
-      record {
-        long = deal-length t (sizeOf t) (replicate bufferRows 0) ∙ length-replicate {A = ℕ} bufferRows 0;
-        small = λ p l. subst (λ (x : ℕ). x < 2 ^ N) (sym (deal-cell t (sizeOf t) (replicate bufferRows 0) long p l)) (mask-lt (beginning t (sizeOf t) p) N);
-        within =
-            within-cong P N (beginning t (sizeOf t)) (bitsAt (dealtRows t (sizeOf t) (replicate bufferRows 0)))
-            (λ p l b k. sym (deal-bit t (sizeOf t) (replicate bufferRows 0) long p l b k)) R Z zone cap
-            (beginning-within t acc (sizeOf t) some (omega arith));
-      }
-
   -- ---- a former layout
 
   module _ (F : Layout) where
     abbrev fm : List ℕ
     fm = formerMasks t F
 
-    pub fm-long : length fm ≡ bufferRows
-    unfolding formerMasks
-    fm-long =
-        omega (
-          arith,
-          length-append (tab (λ p. maskOf (incidence t F p) N) P) (drop P (replicate bufferRows 0)),
-          length-tab (λ p. maskOf (incidence t F p) N) P,
-          length-drop P (replicate {A = ℕ} bufferRows 0),
-          length-replicate {A = ℕ} bufferRows 0,
-          few-partitions,
-        )
-
-    fm-cell : (p : ℕ) → p < P → getD fm p 0 ≡ maskOf (incidence t F p) N
-    unfolding formerMasks
-    fm-cell p l =
-        List·getD-append (tab (λ p. maskOf (incidence t F p) N) P) (drop P (replicate bufferRows 0)) 0 p
-        (omega (arith, length-tab (λ p. maskOf (incidence t F p) N) P))
-        ∙ getD-tab (λ p. maskOf (incidence t F p) N) P p 0 l
-
-    fm-bit : (p : ℕ) → p < P → (b : ℕ) → b < N → bitsAt fm p b ≡ incidence t F p b
-    fm-bit p l b k = ap (λ (x : ℕ). bit x b) (fm-cell p l) ∙ bit-maskOf (incidence t F p) N b k (incidence-le t F p b)
-
-    -- The weight of rows: the pairs that they share with the former rows.
-    shared-row : (rows : List ℕ) → Good rows → (p : ℕ) → p < P
-        → countOf (meetOf (getD rows p 0) (getD fm p 0)) ≡ sumTo N (λ b. bitsAt rows p b * incidence t F p b)
-    shared-row rows g p l =
-        let m = meetOf (getD rows p 0) (getD fm p 0) in
-        count-sum N m (acc .few)
-        (bit-lt 32 N m (meet-lt (getD rows p 0) (getD fm p 0))
-        (λ i h k. bit-meet (getD rows p 0) (getD fm p 0) i k ∙ omega (arith, bit-high N (getD rows p 0) i (g .small p l) h)))
-        ∙ sum-cong N (λ b. bit m b) (λ b. bitsAt rows p b * incidence t F p b)
-        (λ b k. bit-meet (getD rows p 0) (getD fm p 0) b (omega (arith, acc .few))
-        ∙ (ap (λ (x : ℕ). min (bitsAt rows p b) x) (fm-bit p l b k)
-        ∙ times (bitsAt rows p b) (incidence t F p b) (bit-le (getD rows p 0) b) (incidence-le t F p b)))
-      where
-        times : (x y : ℕ) → x ≤ 1 → y ≤ 1 → min x y ≡ x * y
-        times zero y a b = omega (arith, zero-mul y)
-        times (suc zero) y a b = omega (arith, one-mul y)
-        times (suc (suc x)) y a b = absurd (omega arith)
-
-    shared : (rows : List ℕ) → Good rows → agreementIn rows fm P ≡ weigh P N (incidence t F) (bitsAt rows)
-    unfolding agreementIn weigh
-    shared rows g =
-        sum-cong P (λ p. countOf (meetOf (getD rows p 0) (getD fm p 0))) (λ p. sumTo N (λ b. bitsAt rows p b * incidence t F p b)) (shared-row rows g)
-
     -- ---- the exchange graph of good rows
 
-    module _ (rows : List ℕ) (g : Good rows) where
+    module _ (rows : List ℕ) (g : Good t acc rows) where
       abbrev arcs : List ℕ
       arcs = arcsIn fm P (matesOf t) (capCells t (sizeOf t)) N Z rows
 
@@ -292,7 +220,7 @@ module _ (t : Topology) (acc : Accepted t) where
         cycle : IsCycle (graphOf arcs N) m (λ i. getD nodes i 0)
         cycle =
             held-cycle P N R Z zone cap any (λ p b. refl) rows fm (matesOf t) arcs mates-are (g .small) (g .within) exchanges room there some k v o
-            nodes held few-partitions (omega (arith, few-partitions, g .long)) (omega (arith, few-partitions, fm-long)) arcs-long nodes-long
+            nodes held (few-partitions t acc) (omega (arith, few-partitions t acc, g .long)) (omega (arith, few-partitions t acc, fm-long t acc F)) arcs-long nodes-long
 
         turned : nextAt t F rows ≡ turnedOf rows fm P (matesOf t) arcs (belowOf N) Z nodes m
         unfolding nextIn endLength
@@ -302,54 +230,38 @@ module _ (t : Topology) (acc : Accepted t) where
         better =
             subst (λ (x : List ℕ). Better P N R Z 1 zone cap (bitsAt fm) any (bitsAt rows) (bitsAt x)) (sym turned)
             (turned-better P N R Z zone cap any (λ p b. refl) rows fm (matesOf t) arcs mates-are (g .small) (g .within) exchanges room there nodes m
-            cycle few-partitions (omega (arith, few-partitions, g .long)) (omega (arith, few-partitions, fm-long)) arcs-long nodes-long)
+            cycle (few-partitions t acc) (omega (arith, few-partitions t acc, g .long)) (omega (arith, few-partitions t acc, fm-long t acc F)) arcs-long nodes-long)
 
-        next-good : Good (nextAt t F rows)
+        next-good : Good t acc (nextAt t F rows)
         next-good =
             record {
               long = ap length turned ∙ (turned-length rows fm P (matesOf t) arcs (belowOf N) Z nodes m ∙ g .long);
               small = λ p l.
                   subst (λ (x : List ℕ). getD x p 0 < 2 ^ N) (sym turned)
                   (turned-small P N R Z zone cap any (λ p b. refl) rows fm (matesOf t) arcs mates-are (g .small) (g .within) exchanges room there
-                  nodes m cycle few-partitions (omega (arith, few-partitions, g .long)) (omega (arith, few-partitions, fm-long)) arcs-long
+                  nodes m cycle (few-partitions t acc) (omega (arith, few-partitions t acc, g .long)) (omega (arith, few-partitions t acc, fm-long t acc F)) arcs-long
                   nodes-long p l);
               within = better .within;
             }
 
-    -- ---- how far rows are
+    -- ---- the machine
 
     module _ (fo : IsFormer t F) where
-      same-weight : (S : ℕ → ℕ → ℕ) → weigh P N (bitsAt fm) S ≡ weigh P N (incidence t F) S
-      same-weight S = weigh-cong P N (bitsAt fm) (incidence t F) S S fm-bit (λ p l b k. refl)
-
-      measure : (rows : List ℕ) → Good rows
-          → distance t (layoutRows t rows) F + 2 * weigh P N (incidence t F) (bitsAt rows) ≡ R * P + formerPairs t F
-      unfolding layoutRows
-      measure rows g = distance-bits t (acc .ids) (bitsAt rows) F (g .within .rows) fo
-
-      pub far-is : (rows : List ℕ) → Good rows → farRows t F rows ≡ distance t (layoutRows t rows) F
-      unfolding farRows
-      far-is rows g = omega (arith, measure rows g, shared rows g)
-
-      -- What is subtracted is there.
-      pub far-fits : (rows : List ℕ) → Good rows → 2 * agreementIn rows fm P ≤ R * P + formerPairs t F
-      far-fits rows g = omega (arith, measure rows g, shared rows g)
-
-      gain : (rows : List ℕ) (g : Good rows) → improvesAt t F rows ≡ true
+      gain : (rows : List ℕ) (g : Good t acc rows) → improvesAt t F rows ≡ true
           → (weigh P N (incidence t F) (bitsAt rows) + 1 ≤ weigh P N (incidence t F) (bitsAt (nextAt t F rows)))
           × (weigh P N (incidence t F) (bitsAt (nextAt t F rows)) ≤ weigh P N (incidence t F) (bitsAt rows) + N)
       gain rows g e =
           let w = improves-cycle rows g e in
           let b = better rows g (w .0) (w .1) (w .2) in
-          let a = same-weight (bitsAt rows) in
-          let c = same-weight (bitsAt (nextAt t F rows)) in
+          let a = same-weight t acc F (bitsAt rows) in
+          let c = same-weight t acc F (bitsAt (nextAt t F rows)) in
           (omega (arith, b .more, a, c), omega (arith, b .most, a, c, mul-one N))
 
-      next-is-good : (rows : List ℕ) → Good rows → improvesAt t F rows ≡ true → Good (nextAt t F rows)
+      next-is-good : (rows : List ℕ) → Good t acc rows → improvesAt t F rows ≡ true → Good t acc (nextAt t F rows)
       next-is-good rows g e = let w = improves-cycle rows g e in next-good rows g (w .0) (w .1) (w .2)
 
       -- Where the rows cannot be improved, no layout is nearer.
-      none-nearer : 1 ≤ sizeOf t → (rows : List ℕ) (g : Good rows) → improvesAt t F rows ≡ false → (L : Layout) → ValidAt t L (sizeOf t)
+      none-nearer : 1 ≤ sizeOf t → (rows : List ℕ) (g : Good t acc rows) → improvesAt t F rows ≡ false → (L : Layout) → ValidAt t L (sizeOf t)
           → farRows t F rows ≤ distance t L F
       none-nearer large rows g e L v =
           let w = stays-potential rows g e in
@@ -361,32 +273,12 @@ module _ (t : Topology) (acc : Accepted t) where
           (within-of-valid t (acc .ids) L (sizeOf t) v) (λ p l b k z. absurd (omega (arith, z))) in
           omega (
             arith,
-            far-is rows g,
-            measure rows g,
+            far-is t acc F fo rows g,
+            measure t acc F fo rows g,
             h,
-            same-weight (bitsAt rows),
-            same-weight (incidence t L),
+            same-weight t acc F (bitsAt rows),
+            same-weight t acc F (incidence t L),
             distance-law t L F (acc .ids) (v .rows) (fo .ids),
-          )
-
-      few-shared : (rows : List ℕ) → Good rows → weigh P N (incidence t F) (bitsAt rows) ≤ 2048
-      few-shared rows g =
-          omega (
-            arith,
-            weigh-le P N R Z 1 zone cap (incidence t F) (bitsAt rows) (g .within) (λ p b l k. incidence-le t F p b),
-            mul-one (P * R),
-            mul-le-mul few-partitions (acc .replication .1),
-          )
-
-      near : 1 ≤ sizeOf t → (rows : List ℕ) → Good rows → farRows t F (startRows t) ≤ farRows t F rows + 2 * 2048
-      near large rows g =
-          omega (
-            arith,
-            far-is rows g,
-            measure rows g,
-            few-shared rows g,
-            far-is (startRows t) (start-good large),
-            measure (startRows t) (start-good large),
           )
 
       -- Without former copies nothing is to be improved.
@@ -399,13 +291,13 @@ module _ (t : Topology) (acc : Accepted t) where
             absurd
             (no-gain P N R Z 1 zone cap (bitsAt fm) any (bitsAt (startRows t)) (graphOf (arcs (startRows t) g) N)
             (witnessOf (startRows t) fm P (matesOf t) (arcs (startRows t) g) (belowOf N) Z) (the-graph (startRows t) g) (some (startRows t) g)
-            (λ p b l k. fm-bit p l b k ∙ none p l b) (w .0) (w .1) (w .2)))
+            (λ p b l k. fm-bit t acc F p l b k ∙ none p l b) (w .0) (w .1) (w .2)))
             (λ e. e) (true-or-false (improvesAt t F (startRows t))),
-        omega (arith, shared (startRows t) g, nothing, pairs),
+        omega (arith, shared t acc F (startRows t) g, nothing, pairs),
       )
         where
-          g : Good (startRows t)
-          g = start-good large
+          g : Good t acc (startRows t)
+          g = start-good t acc large
 
           none : (p : ℕ) → p < P → (b : ℕ) → incidence t F p b ≡ 0
           none p l b = ap (λ (r : List ℕ). one-if (mem (nodeAt t b .id) r)) (h p l)
@@ -421,21 +313,21 @@ module _ (t : Topology) (acc : Accepted t) where
 
       -- The rows of planning are such a machine.
       pub machine : Fits32 t → 1 ≤ sizeOf t
-          → Machine t F (sizeOf t) (improvesAt t F) (nextAt t F) (layoutRows t) (farRows t F) (startRows t) Good
+          → Machine t F (sizeOf t) (improvesAt t F) (nextAt t F) (layoutRows t) (farRows t F) (startRows t) (Good t acc)
       machine low large =
           record {
             sized = size-is t acc low large;
-            starts = start-good large;
+            starts = start-good t acc large;
             stays = next-is-good;
             valid = λ x g. unfold layoutRows in valid-of-within t (acc .ids) (bitsAt x) (sizeOf t) large (g .within);
-            measured = far-is;
+            measured = far-is t acc F fo;
             falls = λ x g e.
                 let n = next-is-good x g e in
-                omega (arith, gain x g e .0, far-is x g, measure x g, far-is (nextAt t F x) n, measure (nextAt t F x) n);
+                omega (arith, gain x g e .0, far-is t acc F fo x g, measure t acc F fo x g, far-is t acc F fo (nextAt t F x) n, measure t acc F fo (nextAt t F x) n);
             bounded = λ x g e.
                 let n = next-is-good x g e in
-                omega (arith, gain x g e .1, far-is x g, measure x g, far-is (nextAt t F x) n, measure (nextAt t F x) n);
+                omega (arith, gain x g e .1, far-is t acc F fo x g, measure t acc F fo x g, far-is t acc F fo (nextAt t F x) n, measure t acc F fo (nextAt t F x) n);
             nearest = none-nearer large;
-            near = near large;
+            near = near t acc F fo large;
             blank = blank large;
           }
