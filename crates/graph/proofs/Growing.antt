@@ -214,3 +214,12 @@ module _ (s left : ℕ) (L : Left s left) (some : left ≡ 0 → ⊥) where
 -- At last all are done.
 pub done-all : (s left c : ℕ) → left ≡ 0 → bit s c - bit left c ≡ bit s c
 done-all s left c e = omega (arith, ap (λ (x : ℕ). bit x c) e, bit-zero c)
+
+-- ---- what the code computes, step by step
+
+-- The nodes `to` in a's sets: h is a's digit of the former row, x and y are the nodes of `to` in the former row and outside.
+pub noted-is : (l : List ℕ) (a former to h x y : ℕ) (m n : List ℕ) → h ≡ bit former a → x ≡ meetOf to former → y ≡ differenceOf to former
+    → m ≡ joined l (a + h * 32) x → n ≡ joined m (a + h * 32 + 32) y → n ≡ noted l a former to
+unfolding noted
+noted-is l a former to h x y m n eh ex ey em en =
+    en ∙ ((λ i. joined (em i) (a + h * 32 + 32) (ey i)) ∙ (λ i. joined (joined l (a + eh i * 32) (ex i)) (a + eh i * 32 + 32) (differenceOf to former)))

@@ -1,17 +1,18 @@
 -- One step of each scan, over plain numbers and lists.
 -- Assumes nothing.
 use Prim.Native.Nat.{ℕ, zero, suc, _+_, _-_, _^_, _≤_, _<_}
-use mathlib.Core.Path.{_≡_, refl, ap, _∙_}
+use mathlib.Core.Path.{_≡_, refl, sym, ap, _∙_}
 use mathlib.Core.Bool.{Bool, true, false}
 use mathlib.Core.List.{List}
 use mathlib.Core.Logic.{⊎-elim}
 use native.Mathlib.Omega.{arith}
+use lib.Dec.{ltb}
 use lib.ListN.{getD}
 use borrow.Author.Tests.{eq-eqb, ne-eqb, lt-ltb, le-ltb}
 use Rattle.sums.proofs.Sum.{eq-or-ne}
 use Rattle.sets.specs.Bits.{withoutOf, unionOf, meetOf, differenceOf, countOf, leastOf}
 use Rattle.sets.proofs.Laws.{without-lt, without-none, least-none, least-taken, count-difference, count-empty}
-use Rattle.swaps.specs.ModelSwaps.{restOf, coverIn, coveredIn, targetsIn}
+use Rattle.swaps.specs.ModelSwaps.{restOf, coverIn, coveredIn, coverOf, coveredOf, targetsIn, targetsOf}
 
 -- A scan's next fuel.
 pub fuel : (n : ℕ) → n < 32 → 32 - n ≡ suc (32 - (n + 1))
@@ -82,3 +83,31 @@ pub targets-few : (all row mate : ℕ) (spare : Bool) (covered : ℕ) → spare 
     → targetsIn all row mate spare covered ≡ meetOf (differenceOf all row) (unionOf mate (differenceOf all covered))
 unfolding targetsIn
 targets-few all row mate spare covered e h = rw (e, le-ltb 1 (countOf (meetOf row mate)) h)
+
+-- ---- what the code computes, step by step
+
+-- What a turn leaves: without its least node b, and without x, the nodes of b's zone.
+pub rest-is : (mates : List ℕ) (left b x w d : ℕ) → b ≡ leastOf left → x ≡ getD mates b 0 → w ≡ withoutOf left b → d ≡ differenceOf w x → d ≡ restOf mates left
+unfolding restOf
+rest-is mates left b x w d eb ex ew ed =
+    ed ∙ ((λ i. differenceOf (ew i) (ex i)) ∙ (λ i. differenceOf (withoutOf left (eb i)) (getD mates (eb i) 0)))
+
+-- The nodes of the zones up to the turn.
+pub nodes-are : (mates : List ℕ) (left nodes b x u : ℕ) → b ≡ leastOf left → x ≡ getD mates b 0 → u ≡ unionOf nodes x
+    → unionOf nodes (getD mates (leastOf left) 0) ≡ u
+nodes-are mates left nodes b x u eb ex eu = sym (eu ∙ ((λ i. unionOf nodes (ex i)) ∙ (λ i. unionOf nodes (getD mates (eb i) 0))))
+
+-- The nodes of the row in the zone, without the least.
+pub gone-is : (row mate s l w : ℕ) → s ≡ meetOf row mate → l ≡ leastOf s → w ≡ withoutOf s l → w ≡ withoutOf (meetOf row mate) (leastOf (meetOf row mate))
+gone-is row mate s l w es el ew = ew ∙ ((λ i. withoutOf s (el i)) ∙ (λ i. withoutOf (es i) (leastOf (es i))))
+
+-- The nodes outside the row in the zone and in the zones that the row does not touch.
+pub near-is : (all row mate covered f d u r : ℕ) → f ≡ differenceOf all row → d ≡ differenceOf all covered → u ≡ unionOf mate d → r ≡ meetOf f u
+    → r ≡ meetOf (differenceOf all row) (unionOf mate (differenceOf all covered))
+near-is all row mate covered f d u r ef ed eu er = er ∙ ((λ i. meetOf (ef i) (eu i)) ∙ (λ i. meetOf (differenceOf all row) (unionOf mate (ed i))))
+
+-- The nodes that may take a node's place, from the zones that the row touches.
+pub targets-are : (mates : List ℕ) (all z row a count nodes mate r : ℕ) → count ≡ coverOf mates row → nodes ≡ coveredOf mates row → mate ≡ getD mates a 0
+    → r ≡ targetsIn all row mate (ltb z count) nodes → r ≡ targetsOf mates all z row a
+unfolding targetsOf
+targets-are mates all z row a count nodes mate r ec en em er = er ∙ (λ i. targetsIn all row (em i) (ltb z (ec i)) (en i))

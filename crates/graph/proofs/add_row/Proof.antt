@@ -4,7 +4,7 @@ use Prim.Native.Nat.{ℕ, _-_, _≤_, _<_}
 use mathlib.Core.Path.{_≡_, sym, ap, _∙_, subst}
 use lib.ListN.{length}
 use Rattle.sets.specs.Bits.{bit, countOf, withoutOf}
-use Rattle.swaps.specs.ModelSwaps.{targetsOf}
+use Rattle.swaps.proofs.Steps.{targets-are}
 use Rattle.graph.specs.Growth.{Grown, Added}
 use Rattle.graph.proofs.Growing.{added-same, Left, left-all, least-word, left-less}
 use Rattle.graph.proofs.Turns.{doing, row-none, row-turn, row-all, count-turn, count-all}
@@ -108,7 +108,11 @@ loop-again c =
     let i = n .before .before .before .before .least .result in
     let ei = n .before .before .before .before .least .ensures in
     let en = c .without .ensures ∙ ap (λ (x : ℕ). withoutOf (k .loop .left) x) ei in
-    let e : n .before .before .targets-in .result ≡ targetsOf (a .mates .now) (a .all) (a .z) (a .row) i = unfold targetsOf in cc in (
+    let s = n .before .before in
+    let f = k .before .touched in
+    let e =
+    targets-are (a .mates .now) (a .all) (a .z) (a .row) i (f .result .count) (f .result .nodes) (s .before .cell .result) (s .targets-in .result) (f .ensures .0)
+    (f .ensures .1) (s .before .cell .ensures) (s .targets-in .ensures) in (
       k .loop .inv .0,
       k .loop .inv .1,
       subst (λ (x : ℕ). Left (a .row) x) (sym en) (left-less (a .row) (k .loop .left) (k .loop .inv .2) t),

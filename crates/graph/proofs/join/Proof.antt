@@ -1,4 +1,7 @@
 -- `graph::join` meets its contract. Assumes nothing.
+use Prim.Native.Nat.{ℕ}
+use mathlib.Core.Path.{ap}
+use lib.ListN.{set}
 use Rattle.graph.specs.ModelArcs.{joined}
 use borrow.Author.Needs.{needs}
 use Rattle.graph.proofs.join.Statement.{statement}
@@ -24,7 +27,7 @@ same-length c = search needs
 
 returns : tie.Need-returns
 unfolding joined
-returns c = cc
+returns c = let a = c .before .before .before .args in ap (λ (x : ℕ). set (a .arcs .now) (a .i) x) (c .union .ensures)
 
 pub join-spec : {M : Type 1} → statement M
 join-spec =

@@ -1,7 +1,9 @@
 -- `graph::note` meets its contract. Assumes nothing.
-use Rattle.graph.specs.ModelArcs.{noted}
+use Prim.Native.Nat.{_/_, _%_, _^_}
+use mathlib.Core.Path.{sym}
 use Rattle.sets.proofs.Laws.{bit-shr}
 use borrow.Author.Needs.{needs}
+use Rattle.graph.proofs.Growing.{noted-is}
 use Rattle.graph.proofs.note.Statement.{statement}
 use Rattle.graph.proofs.note.Tie as tie
 
@@ -36,10 +38,13 @@ same-length : tie.Need-same-length
 same-length c = search needs
 
 returns : tie.Need-returns
-unfolding noted
 returns c =
-    let a = c .before .before .before .before .before .before .before .before .before .before .before .args in
-    cc (bit-shr (a .former) (a .a))
+    let h = c .before .before in
+    let k = h .before .before .before .before .before in
+    let m = k .before in
+    let a = m .before .before .before .args in
+    noted-is (a .arcs .now) (a .a) (a .former) (a .to) (a .former / 2 ^ a .a % 2) (m .meet .result) (h .before .difference .result) (k .join .last .0)
+    (h .join2 .last .0) (sym (bit-shr (a .former) (a .a))) (m .meet .ensures) (h .before .difference .ensures) (k .join .ensures) (h .join2 .ensures)
 
 pub note-spec : {M : Type 1} → statement M
 note-spec =

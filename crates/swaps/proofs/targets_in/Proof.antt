@@ -1,16 +1,11 @@
 -- `swaps::targets_in` meets its contract. Assumes nothing.
-use Prim.Native.Nat.{ℕ}
-use mathlib.Core.Path.{_≡_, sym, _∙_}
-use Rattle.sets.specs.Bits.{withoutOf, unionOf, meetOf, differenceOf, leastOf}
+use mathlib.Core.Path.{sym, _∙_}
+use Rattle.sets.specs.Bits.{meetOf}
 use Rattle.sets.proofs.Laws.{meet-lt}
-use Rattle.swaps.proofs.Steps.{two-members, one-member, targets-spare, targets-crowded, targets-few}
+use Rattle.swaps.proofs.Steps.{two-members, one-member, targets-spare, targets-crowded, targets-few, gone-is, near-is}
 use borrow.Author.Needs.{needs}
 use Rattle.swaps.proofs.targets_in.Statement.{statement}
 use Rattle.swaps.proofs.targets_in.Tie as tie
-
--- The nodes of the row in the zone, without the least.
-abbrev gone : ℕ → ℕ → ℕ
-gone row mate = withoutOf (meetOf row mate) (leastOf (meetOf row mate))
 
 difference-requires : tie.Need-difference-requires
 difference-requires c κs = search needs
@@ -32,7 +27,10 @@ without-requires c κs = search needs
 returns-2 : tie.Need-returns-2
 returns-2 c =
     let a = c .before .before .before .before .before .before .args in
-    let e : c .before .without .result ≡ gone (a .row) (a .mate) = cc in
+    let w = c .before in
+    let s = w .before .before in
+    let e =
+    gone-is (a .row) (a .mate) (s .meet .result) (w .before .least .result) (w .without .result) (s .meet .ensures) (w .before .least .ensures) (w .without .ensures) in
     c .before .before .before .before .before .difference .ensures
     ∙ sym (targets-crowded (a .all) (a .row) (a .mate) (a .spare) (a .covered) (c .before .before .before .before .if1 .left) (two-members (meetOf (a .row) (a .mate)) (meet-lt (a .row) (a .mate)) (λ z. c .if2 .taken (e ∙ z))))
 
@@ -49,8 +47,14 @@ returns-3 : tie.Need-returns-3
 returns-3 c =
     let a = c .before .before .before .before .before .before .before .before .before .args in
     let d = c .before .before .before in
-    let e : d .before .without .result ≡ gone (a .row) (a .mate) = cc in
-    let r : c .meet2 .result ≡ meetOf (differenceOf (a .all) (a .row)) (unionOf (a .mate) (differenceOf (a .all) (a .covered))) = cc in
+    let w = d .before in
+    let s = w .before .before in
+    let f = s .before .before in
+    let e =
+    gone-is (a .row) (a .mate) (s .meet .result) (w .before .least .result) (w .without .result) (s .meet .ensures) (w .before .least .ensures) (w .without .ensures) in
+    let r =
+    near-is (a .all) (a .row) (a .mate) (a .covered) (f .difference .result) (c .before .before .difference2 .result) (c .before .union .result) (c .meet2 .result)
+    (f .difference .ensures) (c .before .before .difference2 .ensures) (c .before .union .ensures) (c .meet2 .ensures) in
     r ∙ sym (targets-few (a .all) (a .row) (a .mate) (a .spare) (a .covered) (d .before .before .before .before .if1 .left) (one-member (meetOf (a .row) (a .mate)) (meet-lt (a .row) (a .mate)) (sym e ∙ d .if2 .left)))
 
 pub targets-in-spec : {M : Type 1} → statement M

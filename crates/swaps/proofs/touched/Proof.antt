@@ -2,11 +2,10 @@
 -- The measure is the number of nodes that are left. Assumes nothing.
 use Prim.Native.Nat.{ℕ, _+_, _-_, _^_, _≤_, _<_}
 use mathlib.Core.Path.{_≡_, sym, refl, ap, ap₂, _∙_}
-use lib.ListN.{getD}
-use Rattle.sets.specs.Bits.{countOf, unionOf, leastOf}
+use Rattle.sets.specs.Bits.{countOf}
 use Rattle.sets.proofs.Laws.{difference-lt, count-le}
 use Rattle.swaps.specs.ModelSwaps.{restOf, coverOf, coveredOf, coverIn, coveredIn}
-use Rattle.swaps.proofs.Steps.{fuel, cover-more, cover-done, covered-more, covered-done, rest-count}
+use Rattle.swaps.proofs.Steps.{fuel, cover-more, cover-done, covered-more, covered-done, rest-count, rest-is, nodes-are}
 use borrow.Author.Needs.{needs}
 use native.Mathlib.Omega.{arith}
 use Rattle.swaps.proofs.touched.Statement.{statement}
@@ -47,8 +46,12 @@ union-requires c κs = search needs
 -- What the turn leaves.
 rest : (c : tie.After-difference Inv-loop μ-loop)
     → c .difference .result ≡ restOf (c .before .before .before .before .before .before .before .args .mates .now) (c .before .before .before .before .before .loop .left)
-unfolding restOf
-rest c = cc
+rest c =
+    let e = c .before in
+    let b = e .before .before in
+    let k = b .before .before in
+    rest-is (k .before .before .args .mates .now) (k .loop .left) (b .least .result) (e .before .cell .result) (e .without .result) (c .difference .result)
+    (b .least .ensures) (e .before .cell .ensures) (e .without .ensures) (c .difference .ensures)
 
 -- The count is below 32 within a turn, and what is left counts less.
 falls : (c : tie.After-difference Inv-loop μ-loop)
@@ -71,7 +74,10 @@ loop-again c =
     let k = c .before .before .before .before .before .before in
     let f : (k .loop .left ≡ 0 → ⊥) = c .before .before .before .before .before .loop-test .taken in
     let m = k .before .before .args .mates .now in
-    let u : unionOf (k .loop .nodes) (getD m (leastOf (k .loop .left)) 0) ≡ c .union .result = cc in (
+    let b = c .before .before .before in
+    let u =
+    nodes-are m (k .loop .left) (k .loop .nodes) (b .before .least .result) (b .cell .result) (c .union .result) (b .before .least .ensures) (b .cell .ensures)
+    (c .union .ensures) in (
       omega (arith, c .before .difference .ensures, difference-lt (c .before .before .without .result) (c .before .before .before .cell .result)),
       omega (arith, falls (c .before)),
       k .loop .inv .2 ∙ (cover-more (32 - k .loop .count) (32 - (k .loop .count + 1)) m (k .loop .left) (k .loop .count) (fuel (k .loop .count) (falls (c .before) .1)) f ∙ ap (λ (x : ℕ). coverIn (32 - (k .loop .count + 1)) m x (k .loop .count + 1)) (sym (rest (c .before)))),
