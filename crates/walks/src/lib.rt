@@ -1,5 +1,6 @@
 // What is read off a closed walk of the exchange graph: the partition in which an arc is an exchange, the first pair of arcs that can be crossed, and
-// whether the part between two arcs gains. A row is a set of nodes below 32; a walk is two slices, its nodes and the partitions of its arcs.
+// whether the part between two arcs gains. A row is a set of nodes below 32; a walk is two slices, its nodes and the partitions of its arcs. Every
+// public function is total: a cell past a slice's end counts as 0, and the arcs are numbered by u32, so that the next one is always an index.
 ghost use mathlib.Core.Path.{_≡_};
 ghost use Prim.Native.Nat.{ℕ, suc, _+_, _-_, _≤_, _<_, _^_};
 ghost use lib.ListN.{getD};
@@ -63,16 +64,9 @@ pub fn witness(
     let w = weight(arcs, u, v);
     let mut p = 0;
     while p < partitions {
-        if suits(
-            mates,
-            all,
-            z,
-            swaps::cell(rows, p),
-            swaps::cell(former, p),
-            w,
-            u,
-            v,
-        ) {
+        let row = swaps::cell(rows, p);
+        let old = swaps::cell(former, p);
+        if suits(mates, all, z, row, old, w, u, v) {
             return p;
         }
         p += 1;
@@ -111,26 +105,14 @@ fn crossed(
     if e != swaps::cell(q, j) {
         return false;
     }
-    if !allows(
-        rows,
-        mates,
-        all,
-        z,
-        p,
-        swaps::cell(y, j + 1),
-        swaps::cell(y, i),
-    ) {
+    let from = swaps::cell(y, j + 1);
+    let to = swaps::cell(y, i);
+    if !allows(rows, mates, all, z, p, from, to) {
         return false;
     }
-    allows(
-        rows,
-        mates,
-        all,
-        z,
-        p,
-        swaps::cell(y, i + 1),
-        swaps::cell(y, j),
-    )
+    let from = swaps::cell(y, i + 1);
+    let to = swaps::cell(y, j);
+    allows(rows, mates, all, z, p, from, to)
 }
 
 // The first arc after i that can be crossed with it.
