@@ -3,7 +3,7 @@
 set -eu
 awk '
     /^rt: [a-z_]+ proved \([0-9]+ s\)/ { name[++count] = $2; check[$2] = substr($4, 2) }
-    /^rt: must-fail [a-z_]+\/[a-z_]+: refused/ {
+    /^rt: must-fail [a-z_]+\/[a-z_0-9]+: refused/ {
         split($3, part, "/"); edits[part[1]]++
         sub(/.*; /, ""); edit_time[part[1]] += $1
     }
