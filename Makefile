@@ -25,5 +25,7 @@ bench: $(LIBRARY)
 
 # The C functions, proved and compiled; again only when a crate has changed.
 $(LIBRARY): crates.txt $(shell find crates -name '*.rt' -o -name '*.antt')
-	rt staticlib console
-	touch $@
+	@mkdir -p target
+	@echo 'Proving the planner and compiling it: some minutes the first time (see target/staticlib.log).'
+	@rt staticlib console >target/staticlib.log 2>&1 || { cat target/staticlib.log; exit 1; }
+	@touch $@
