@@ -1,34 +1,33 @@
 -- Every record is accepted: the walk takes in its fields one after the other and yields the cluster and the former layout.
 -- Assumes nothing.
-use Prim.Native.Nat.{ℕ, zero, suc, _+_, _-_, _*_, _/_, _%_, _^_, _≤_, _<_}
+use Prim.Native.Nat.{ℕ, suc, _+_, _-_, _*_, _/_, _^_, _≤_, _<_}
 use mathlib.Core.Path.{_≡_, refl, sym, ap, ap₂, _∙_, subst}
-use mathlib.Core.Bool.{Bool, true, false, not, _||_}
+use mathlib.Core.Bool.{Bool, true, not, _||_}
 use mathlib.Core.Logic.{⊎-elim}
 use mathlib.Core.List.{List, [], _∷_, _++_, append-assoc, append-nil}
-use native.Mathlib.Nat.{add-zero}
 use native.Mathlib.Omega.{arith}
-use lib.Dec.{ltb, leb, eqb}
 use lib.ListN.{length, drop, getD, replicate, length-append, length-drop, replicate-append-replicate, List·getD-eq-default}
 use lib.Seq.{append-snoc}
 use borrow.Author.Tests.{le-ltb, lt-leb, ne-eqb}
 use Rattle.sums.proofs.Sum.{lt-or-ge}
 use Rattle.cluster.specs.declared.Node.{Node}
 use Rattle.cluster.specs.Limits.{mostBits, mostCopies, mostNodes}
-use Rattle.cluster.specs.Terms.{Topology, partitions, Layout, nodeAt, noNode, row, idsOf, mem, rising, risingFrom, IsFormer}
+use Rattle.cluster.specs.Terms.{Topology, partitions, Layout, noNode, row, idsOf, rising, risingFrom}
 use Rattle.cluster.specs.Faults.{Accepted}
-use Rattle.cluster.proofs.Lists.{rising-head, rising-tail, rising-cons, rising-none, rising-fresh}
-use Rattle.fields.specs.RecordField.{bytesOf, numberAt, field, fieldAt, ruleOf, legal, legalAs}
+use Rattle.cluster.proofs.Lists.{rising-head, rising-tail, rising-none, rising-fresh}
+use Rattle.fields.specs.RecordField.{bytesOf, field, fieldAt, ruleOf, legal}
 use Rattle.fields.specs.declared.Field.the-variants.{Body}
 use Rattle.fields.proofs.Numbers.{length-bytes, number-here}
 use Rattle.fields.proofs.RecordField.{legal-true, legal-any, length-field, body-here, rest-here, field-here}
-use Rattle.cluster_record.specs.RecordCluster.{bitsField, replicationField, redundancyField, nodeField, nodeFields, idBytes, rowField, rowFields, clusterRecord, FitsRecord, IsRecord}
-use Rattle.cluster_record.specs.RecordClusterFaults.{Item, BitsOf, ReplicationOf, RedundancyOf, OneNode, FormerRow, nodeIn, idsAt, itemIn, Reading, Outcome, beginning, allowedAfter, withItem, upTo, formerWith, readingWith, outside, lastOf, unordered, tooMany, faultIn, ended, walk, readCluster}
-use Rattle.cluster_record.proofs.Items.{item-bits, item-replication, item-redundancy, item-node, item-five, ids-snoc, snoc-rising, none-faults}
+use Rattle.cluster_record.specs.RecordCluster.{bitsField, replicationField, redundancyField, nodeField, nodeFields, idBytes, rowField, rowFields, clusterRecord, IsRecord}
+use Rattle.cluster_record.specs.RecordClusterFaults.{Item, BitsOf, ReplicationOf, RedundancyOf, OneNode, FormerRow, idsAt, itemIn, Reading, beginning, allowedAfter, withItem, upTo, formerWith, readingWith, outside, lastOf, unordered, tooMany, faultIn, ended, walk, readCluster}
+use Rattle.fields.proofs.Ids.{length-id-bytes}
+use Rattle.cluster_record.proofs.Items.{item-bits, item-replication, item-redundancy, item-node, item-five, none-faults}
 use Rattle.cluster_record.proofs.FieldFaults.{few-partitions}
-use Rattle.cluster_record.proofs.Rows.{upTo-full, length-upTo, length-next}
+use Rattle.cluster_record.proofs.Rows.{upTo-full, length-next}
 use Rattle.cluster_record.proofs.Walks.{walk-ends, walk-on}
 use Rattle.cluster_record.proofs.Readings.{Kind, number-next, node-next, row-next, kind-allowed}
-use Rattle.cluster_record.proofs.RecordBytes.{length-idBytes, ids-here, after-number, node-here}
+use Rattle.cluster_record.proofs.RecordBytes.{ids-here, after-number, node-here}
 
 -- The walk over s has come so far, and the bytes `rest` are left.
 record Reaches (s : List ℕ) (r : Reading) (rest : List ℕ) : Type 0 where
@@ -196,7 +195,7 @@ reach-rows s t F k ((i ∷ x) ∷ l) G p last a h n e w q =
     body = bytesOf 2 p ++ idBytes ids
 
     long : length body ≡ 2 + 4 * length ids
-    long = omega (arith, length-append (bytesOf 2 p) (idBytes ids), length-bytes 2 p, length-idBytes ids)
+    long = omega (arith, length-append (bytesOf 2 p) (idBytes ids), length-bytes 2 p, length-id-bytes ids)
 
     none : faultIn t (length G) (FormerRow p ids) ≡ 0
     none =

@@ -1,8 +1,8 @@
 -- The longest record, and that the first 9,937 bytes decide every reading.
 -- Assumes nothing.
-use Prim.Native.Nat.{ℕ, zero, suc, _+_, _-_, _*_, _/_, _^_, _≤_, _<_, min}
-use mathlib.Core.Path.{_≡_, refl, sym, ap, ap₂, _∙_, subst}
-use mathlib.Core.Bool.{Bool, true, false, not}
+use Prim.Native.Nat.{ℕ, zero, suc, _+_, _-_, _*_, _/_, _≤_, _<_, min}
+use mathlib.Core.Path.{_≡_, refl, sym, ap, ap₂, _∙_}
+use mathlib.Core.Bool.{not}
 use mathlib.Core.List.{List, [], _∷_, _++_}
 use mathlib.Core.Logic.{⊎-elim}
 use native.Mathlib.Omega.{arith}
@@ -16,22 +16,22 @@ use Rattle.sets.specs.Bits.{memberOf}
 use Rattle.cluster.specs.declared.Node.{Node}
 use Rattle.cluster.specs.Limits.{mostCopies, layoutCells}
 use Rattle.cluster.specs.TermsCells.{cellsOf}
-use Rattle.cluster.specs.Terms.{Topology, partitions, Layout, row, rising, IsFormer}
+use Rattle.cluster.specs.Terms.{Topology, Layout, row, rising, IsFormer}
 use Rattle.cluster.specs.Faults.{Accepted}
 use Rattle.cluster.proofs.Lists.{test-cases}
 use Rattle.fields.specs.RecordField.{numberOf, bytesOf, part, numberAt, field, fieldAt, ruleOf, legalAs, Whole}
-use Rattle.fields.specs.declared.Field.the-variants.{Body, Refused}
+use Rattle.fields.specs.declared.Field.the-variants.{Body}
 use Rattle.fields.proofs.Numbers.{length-bytes, number-there}
 use Rattle.fields.proofs.RecordField.{whole, length-field, lawful, legal-greatest, field-tag, field-length, field-whole}
 use Rattle.cluster_record.specs.RecordCluster.{bitsField, replicationField, redundancyField, nodeField, nodeFields, idBytes, rowField, rowFields, clusterRecord, longestRecord, decidingBytes}
-use Rattle.cluster_record.specs.RecordClusterFaults.{Item, BitsOf, ReplicationOf, RedundancyOf, OneNode, FormerRow, nodeIn, idsAt, itemIn, Reading, Outcome, beginning, allowedAfter, withItem, upTo, formerWith, readingWith, unordered, faultIn, refusedAt, ended, walk, readCluster}
+use Rattle.cluster_record.specs.RecordClusterFaults.{Item, BitsOf, ReplicationOf, RedundancyOf, OneNode, FormerRow, nodeIn, idsAt, itemIn, Reading, Outcome, beginning, allowedAfter, withItem, upTo, formerWith, readingWith, unordered, faultIn, refusedAt, walk, readCluster}
 use Rattle.cluster_record.specs.RecordClusterAnswer.{outcomeOf, answerOf, readAnswer, formerAfter}
 use Rattle.cluster_record.proofs.Items.{neither, item-node, item-five, faults-none}
 use Rattle.cluster_record.proofs.FieldFaults.{few-partitions, refused-some}
 use Rattle.cluster_record.proofs.Rows.{length-next}
 use Rattle.cluster_record.proofs.Walks.{walk-refused, walk-fault, walk-on, walk-holds}
 use Rattle.cluster_record.proofs.Readings.{Kind, number-next, node-next, row-next, kind, tag-range, one-byte, ten-bytes, row-bytes, Well, well-beginning, well-step, rows-few}
-use Rattle.cluster_record.proofs.RecordBytes.{length-idBytes}
+use Rattle.fields.proofs.Ids.{length-id-bytes}
 
 -- ---- the longest record
 
@@ -57,7 +57,7 @@ unfolding rowField
 length-row p [] h = omega arith
 length-row p (i ∷ l) h =
     let body = bytesOf 2 p ++ idBytes (i ∷ l) in
-    omega (arith, length-field 5 body, length-append (bytesOf 2 p) (idBytes (i ∷ l)), length-bytes 2 p, length-idBytes (i ∷ l))
+    omega (arith, length-field 5 body, length-append (bytesOf 2 p) (idBytes (i ∷ l)), length-bytes 2 p, length-id-bytes (i ∷ l))
 
 length-rows : (p : ℕ) (F : Layout) → ((q : ℕ) → q < length F → length (row F q) ≤ mostCopies) → length (rowFields p F) ≤ length F * 37
 unfolding rowFields

@@ -6,7 +6,7 @@ use mathlib.Core.List.{List, [], _∷_, _++_, append-assoc, append-nil}
 use mathlib.Core.Logic.{⊎-elim}
 use native.Mathlib.Nat.{add-zero}
 use native.Mathlib.Omega.{arith}
-use lib.ListN.{length, take, drop, getD, replicate, length-append, List·getD-eq-default}
+use lib.ListN.{length, take, drop, getD, replicate, List·getD-eq-default}
 use lib.Seq.{drop-drop, drop-append-seam, take-at, take-add}
 use Rattle.sums.proofs.Sum.{lt-or-ge}
 use Rattle.cluster.specs.declared.Node.{Node}
@@ -97,11 +97,6 @@ module _ (s : List ℕ) (b : Bytes s) where
       (ap (take (3 + len)) (field-back s at allowed exact tag start len e b) ∙ take-at (field tag body) (drop (start + len) s) (3 + len) long))
 
 -- ---- what was written, as values
-
-pub length-idBytes : (l : List ℕ) → length (idBytes l) ≡ 4 * length l
-unfolding idBytes
-length-idBytes [] = refl
-length-idBytes (i ∷ l) = omega (arith, length-append (bytesOf 4 i) (idBytes l), length-bytes 4 i, length-idBytes l)
 
 pub ids-here : (s rest : List ℕ) (l : List ℕ) (at : ℕ) → drop at s ≡ idBytes l ++ rest → ((j : ℕ) → getD l j 0 < 2 ^ 32) → idsAt s at (length l) ≡ l
 unfolding idBytes idsAt

@@ -2,13 +2,13 @@
 -- Assumes nothing.
 use Prim.Native.Nat.{ℕ, suc, _+_, _*_, _^_, _<_}
 use mathlib.Core.Path.{_≡_}
-use mathlib.Core.Bool.{true}
 use mathlib.Core.List.{List, [], _∷_, _++_}
 use lib.ListN.{getD}
 use Rattle.cluster.specs.Limits.{mostNodes, bufferRows}
 use Rattle.cluster.specs.declared.Node.{Node}
 use Rattle.cluster.specs.Terms.{Topology, Layout, nodeAt, row, IsFormer}
 use Rattle.cluster.specs.Faults.{Accepted}
+unfoldable pub use Rattle.fields.specs.RecordField.{idBytes}
 use Rattle.fields.specs.RecordField.{bytesOf, field}
 
 -- "1 bits (1 byte), 2 replication (1), 3 redundancy (1)"
@@ -29,11 +29,6 @@ nodeField n = field 4 (bytesOf 4 (n .id) ++ (bytesOf 2 (n .zone) ++ bytesOf 4 (n
 unfoldable pub nodeFields : List Node → List ℕ
 nodeFields [] = []
 nodeFields (n ∷ ns) = nodeField n ++ nodeFields ns
-
--- Ids, each in its four bytes.
-unfoldable pub idBytes : List ℕ → List ℕ
-idBytes [] = []
-idBytes (i ∷ l) = bytesOf 4 i ++ idBytes l
 
 -- "5 former row (2 + 4m: partition 2, then m rising ids, m from 1 to 8)"; "A partition without a row had no former copies."
 unfoldable pub rowField : ℕ → List ℕ → List ℕ

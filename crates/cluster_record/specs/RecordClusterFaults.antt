@@ -2,7 +2,7 @@
 -- document 01. "Box" in the papers is a node here.
 -- Assumes nothing.
 use Prim.Native.Nat.{ℕ, zero, suc, _+_, _-_, _/_}
-use mathlib.Core.Bool.{Bool, true, false, not, _||_}
+use mathlib.Core.Bool.{Bool, false, not, _||_}
 use mathlib.Core.List.{List, [], _∷_, _++_}
 use lib.Dec.{ltb, leb, eqb}
 use lib.ListN.{length, replicate}
@@ -12,6 +12,7 @@ use Rattle.cluster.specs.Limits.{mostBits, mostCopies, mostNodes}
 use Rattle.cluster.specs.declared.Node.{Node}
 use Rattle.cluster.specs.Terms.{Topology, topology, partitions, Layout, idsOf, mem, rising}
 use Rattle.cluster.specs.Faults.{noNodes}
+unfoldable pub use Rattle.fields.specs.RecordField.{idsAt}
 use Rattle.fields.specs.RecordField.{numberAt, fieldAt}
 use Rattle.fields.specs.declared.Field.{Field}
 use Rattle.fields.specs.declared.Field.the-variants.{Body, Refused}
@@ -29,11 +30,6 @@ pub data Item : Type 0 where
 -- "id 4, zone 2, capacity 4"
 unfoldable pub nodeIn : List ℕ → ℕ → Node
 nodeIn s start = record { id = numberAt s start 4; zone = numberAt s (start + 4) 2; capacity = numberAt s (start + 6) 4 }
-
--- The m ids from a byte on, four bytes each.
-unfoldable pub idsAt : List ℕ → ℕ → ℕ → List ℕ
-idsAt s at zero = []
-idsAt s at (suc m) = numberAt s at 4 ∷ idsAt s (at + 4) m
 
 -- The values in a body of s that begins at byte `start`, by the field's tag.
 unfoldable pub itemIn : List ℕ → ℕ → ℕ → ℕ → Item

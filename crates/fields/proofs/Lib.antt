@@ -1,3 +1,4 @@
 pub mod Numbers
 pub mod RecordField
 pub mod Written
+pub mod Ids

@@ -131,3 +131,15 @@ refusalOf (Refused refusal byte) = refusal
 abbrev pub placeOf : Field → ℕ
 placeOf (Body tag start len) = 0
 placeOf (Refused refusal byte) = byte
+
+-- ---- ids
+
+-- The m ids from a byte on, "id 4" bytes each.
+unfoldable pub idsAt : List ℕ → ℕ → ℕ → List ℕ
+idsAt s at zero = []
+idsAt s at (suc m) = numberAt s at 4 ∷ idsAt s (at + 4) m
+
+-- Ids as a record has them, four bytes each.
+unfoldable pub idBytes : List ℕ → List ℕ
+idBytes [] = []
+idBytes (i ∷ l) = bytesOf 4 i ++ idBytes l

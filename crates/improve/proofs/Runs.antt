@@ -3,19 +3,16 @@
 use Prim.Native.Nat.{ℕ, zero, suc, _+_, _≤_, _<_}
 use mathlib.Core.Path.{_≡_, refl, sym, ap, _∙_, subst}
 use mathlib.Core.Bool.{Bool, true, false, not, cond}
-use mathlib.Core.Logic.{_⊎_, inl, inr, ⊎-elim}
+use mathlib.Core.Logic.{⊎-elim}
 use native.Mathlib.Omega.{arith}
 use native.Mathlib.Numerals.{one-add}
 use Rattle.sums.proofs.Sum.{lt-or-ge}
+use Rattle.exchange.proofs.Levels.{true-or-false}
 use Rattle.improve.specs.Run.{Ran, later, after, run}
 
 -- A test is not both true and false.
 pub not-both : (b : Bool) → b ≡ true → b ≡ false → ⊥
 not-both b p q = let z : _≡_ {A = ℕ} 0 1 = cc in omega arith
-
-pub true-or-false : (b : Bool) → (b ≡ true) ⊎ (b ≡ false)
-true-or-false true = inl refl
-true-or-false false = inr refl
 
 module _ {A : Type 0} (improves : A → Bool) (next : A → A) where
   -- A run with allowance a from the state s: it made `steps` improvements, all that were possible, unless the allowance was spent.

@@ -1,16 +1,16 @@
 -- What the functions of improvement rest on, over plain lists and numbers: one step, the run's turns, the sum of shared pairs.
 -- Assumes nothing.
-use Prim.Native.Nat.{ℕ, suc, _+_, _-_, _*_, _^_, _≤_, _<_}
+use Prim.Native.Nat.{ℕ, suc, _+_, _-_, _^_, _≤_, _<_}
 use mathlib.Core.Path.{_≡_, refl, sym, ap, ap₂, _∙_, subst}
 use mathlib.Core.Bool.{Bool, true, false, not, cond, _&&_}
 use mathlib.Core.List.{List}
 use native.Mathlib.Omega.{arith}
 use native.Mathlib.Numerals.{add-one}
 use native.Mathlib.Nat.{sub-zero}
-use lib.Dec.{ltb, eqb}
+use lib.Dec.{eqb}
 use lib.ListN.{length, getD, replicate}
 use borrow.Author.Tests.{eq-eqb, ne-eqb}
-use Rattle.sums.specs.Sum.{sumTo, pick}
+use Rattle.sums.specs.Sum.{sumTo}
 use Rattle.sets.specs.Bits.{belowOf, countOf, meetOf}
 use Rattle.sets.proofs.Laws.{count-le, meet-lt}
 use Rattle.graph.specs.ModelArcs.{arcsOf}

@@ -7,6 +7,7 @@ use mathlib.Core.List.{List, [], _∷_, _++_}
 use lib.ListN.{length, getD}
 use Rattle.cluster.specs.Limits.{mostBits, mostCopies}
 use Rattle.cluster.specs.Terms.{Layout, row, rising}
+unfoldable pub use Rattle.fields.specs.RecordField.{idBytes}
 use Rattle.fields.specs.RecordField.{bytesOf, field}
 use Rattle.layout_record.specs.declared.Numbers.{Numbers}
 
@@ -55,11 +56,6 @@ numberFields n =
     ++ (field 7 (bytesOf 2 (n .distance))
     ++ (field 8 (bytesOf 1 (n .verdict))
     ++ field 9 (bytesOf 2 (n .improvements))))))
-
--- Ids, each in its four bytes.
-unfoldable pub idBytes : List ℕ → List ℕ
-idBytes [] = []
-idBytes (i ∷ l) = bytesOf 4 i ++ idBytes l
 
 -- "10 (2 + 4R: partition, R rising ids)"
 unfoldable pub rowField : ℕ → List ℕ → List ℕ

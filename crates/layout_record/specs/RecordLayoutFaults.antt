@@ -10,6 +10,7 @@ use Rattle.sets.specs.Bits.{withOf}
 use Rattle.cluster.specs.Limits.{mostBits, mostCopies, bufferRows, layoutCells}
 use Rattle.cluster.specs.Terms.{Layout, mem, rising}
 use Rattle.cluster.specs.TermsCells.{rowAt, idsIn, blank, formed}
+unfoldable pub use Rattle.fields.specs.RecordField.{idsAt}
 use Rattle.fields.specs.RecordField.{numberAt, fieldAt, refusalOf, placeOf}
 use Rattle.fields.specs.declared.Field.{Field}
 use Rattle.fields.specs.declared.Field.the-variants.{Body, Refused}
@@ -73,11 +74,6 @@ refusedAt refusal byte = record { refusal = refusal; byte = byte; numbers = noNu
 
 abbrev pub accepted : Numbers → Layout → Outcome
 accepted n L = record { refusal = 0; byte = 0; numbers = n; layout = L }
-
--- The m ids from a byte on, four bytes each.
-unfoldable pub idsAt : List ℕ → ℕ → ℕ → List ℕ
-idsAt s at zero = []
-idsAt s at (suc m) = numberAt s at 4 ∷ idsAt s (at + 4) m
 
 -- "4, a value outside its range (id 0 and partition at or above P included); 5, id not rising", "5 also for a row that isn't the next
 -- partition".

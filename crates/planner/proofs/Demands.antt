@@ -1,19 +1,19 @@
 -- Demand 3 of the planner, and what refusal 9 means: the theorems that a customer reads. Their statements are in the terms of document 01.
 -- Assumes nothing.
 use Prim.Native.Nat.{ℕ, suc, _+_, _≤_}
-use mathlib.Core.Path.{_≡_, refl, sym, subst}
+use mathlib.Core.Path.{_≡_, refl, subst}
 use mathlib.Core.Bool.{false}
 use native.Mathlib.Omega.{arith}
 use native.Mathlib.Nat.{le-antisymm}
-use Rattle.cluster.specs.Terms.{Topology, Layout, ValidAt, IsSize, IsFormer, distance}
+use Rattle.cluster.specs.Terms.{Topology, Layout, ValidAt, IsFormer, distance}
 use Rattle.cluster.specs.Faults.{Accepted}
 use Rattle.cluster.proofs.TieLayouts.{valid-of-within}
 use Rattle.sizing.specs.Model.{Fits32, sizeOf}
 use Rattle.sizing.proofs.Sizes.{size-none, none-size, size-largest}
 use Rattle.improve.specs.ModelImprove.{ranIn}
-use Rattle.planner.specs.Demand.{Demand3, Rules}
+use Rattle.planner.specs.Demand.{Demand3}
 use Rattle.planner.specs.ModelRun.{ranFrom, ranOf, planOf, bitsAt, startRows, layoutRows, farRows, improvesAt, nextAt}
-use Rattle.planner.proofs.Rules.{Machine, good, rules}
+use Rattle.planner.proofs.Rules.{good, rules}
 use Rattle.planner.proofs.Machines.{Good, start-good, machine}
 
 -- A cluster with a layout valid at size 1 has a size.

@@ -45,7 +45,8 @@ use Rattle.circuits.specs.ModelCircuits.{turnedOf, okOf, witnessOf}
 use Rattle.circuits.proofs.Improving.{ok-right, witness-graph, turned-length, held-cycle, turned-small, turned-better}
 use Rattle.improve.specs.ModelImprove.{arcsIn, cycleIn, improvesIn, nextIn}
 use Rattle.planner.specs.ModelRun.{bitsAt, matesOf, formerMasks, startRows, layoutRows, farRows, improvesAt, nextAt}
-use Rattle.improve.proofs.Runs.{true-or-false, not-both}
+use Rattle.exchange.proofs.Levels.{true-or-false}
+use Rattle.improve.proofs.Runs.{not-both}
 use Rattle.planner.proofs.Rules.{Machine}
 use Rattle.planner.proofs.GoodRows.{fm-bit, shared, same-weight, measure, far-is, near}
 pub use Rattle.planner.proofs.GoodRows.{Good, few-partitions, start-good, fm-long, far-fits}

@@ -3,7 +3,7 @@
 -- Assumes nothing.
 use Prim.Native.Nat.{ℕ, zero, suc, _≤_, _<_}
 use mathlib.Core.Path.{_≡_, refl, sym, ap, ap₂, _∙_}
-use mathlib.Core.Bool.{Bool, true, false, _&&_, _||_}
+use mathlib.Core.Bool.{Bool, _&&_, _||_}
 use mathlib.Core.List.{List, _++_}
 use native.Mathlib.Omega.{arith}
 use lib.Dec.{ltb, eqb}
@@ -11,14 +11,13 @@ use lib.ListN.{length, drop, replicate}
 use borrow.Author.Tests.{le-ltb}
 use Rattle.sums.specs.Sum.{pick}
 use Rattle.cells.proofs.Cells.{tab-cong}
-use Rattle.cluster.specs.Terms.{Topology, topology, partitions, Layout, idsOf, rising}
+use Rattle.cluster.specs.Terms.{Topology, topology, partitions, idsOf, rising}
 use Rattle.cluster.specs.TermsCells.{rowAt, idsIn, formed, rowsIn, cellsOf}
 use Rattle.cluster.specs.Faults.{faultOf, outOfRange}
 use Rattle.cluster.specs.declared.Cluster.{Cluster}
 use Rattle.sizing.specs.Model.{sizeOf}
 use Rattle.planner.specs.ModelRun.{planOf}
 use Rattle.planner.specs.TermsPlan.{formedRows, unusable, planRefusal, refusedWith, answered, plannedOf, assignmentAfter, scratchAfter}
-use Rattle.planner.specs.declared.Planned.{Planned}
 
 module _ (c d : Cluster) (nodes : topology c ≡ topology d) (few : c .count ≤ 32) (few′ : d .count ≤ 32) (f g : List ℕ) (whole : 2048 ≤ length f)
     (whole′ : 2048 ≤ length g) (rows : (p : ℕ) → p < partitions (topology c) → rowAt f p ≡ rowAt g p)

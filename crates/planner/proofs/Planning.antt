@@ -1,16 +1,16 @@
 -- The three ends of a planning call, over plain lists and numbers: refused, no layout, planned. Each gives the answer, the lent buffers and
 -- what is owed, as the contract has them.
 -- Assumes nothing.
-use Prim.Native.Nat.{ℕ, _≤_}
-use mathlib.Core.Path.{_≡_, refl, sym, ap, _∙_, subst}
-use mathlib.Core.Bool.{Bool, true, false}
+use Prim.Native.Nat.{ℕ}
+use mathlib.Core.Path.{_≡_, sym, ap, _∙_}
+use mathlib.Core.Bool.{Bool, false}
 use mathlib.Core.List.{List, _++_}
 use native.Mathlib.Omega.{arith}
 use lib.Dec.{eqb}
 use lib.ListN.{length, drop, replicate}
 use borrow.Author.Tests.{eq-eqb, ne-eqb}
 use Rattle.sums.specs.Sum.{pick}
-use Rattle.cluster.specs.Terms.{topology, Layout, ValidAt}
+use Rattle.cluster.specs.Terms.{topology}
 use Rattle.cluster.specs.TermsCells.{cellsOf}
 use Rattle.cluster.specs.Faults.{faultOf}
 use Rattle.cluster.specs.declared.Cluster.{Cluster}

@@ -1,17 +1,17 @@
 -- The refusals of planning, case by case, and what is there where nothing is refused.
 -- Assumes nothing.
-use Prim.Native.Nat.{ℕ, zero, suc, _*_, _≤_, _<_}
+use Prim.Native.Nat.{ℕ, zero, suc, _≤_, _<_}
 use mathlib.Core.Path.{_≡_, refl, sym, ap, ap₂, _∙_}
 use mathlib.Core.Bool.{Bool, true, false, _&&_, _||_}
 use mathlib.Core.List.{List}
 use native.Mathlib.Omega.{arith}
-use lib.Dec.{ltb, leb, eqb}
+use lib.Dec.{ltb, eqb}
 use lib.ListN.{length}
 use borrow.Author.Tests.{le-leb, lt-ltb, le-ltb, eq-eqb, ne-eqb, eqb-true, ltb-false}
 use Rattle.sums.specs.Sum.{pick}
 use Rattle.cluster.specs.Terms.{topology, partitions}
 use Rattle.cluster.specs.TermsCells.{rowAt, idsIn, formed}
-use Rattle.cluster.specs.RowScan.{illFormed, hasRow, idCount, rowIds}
+use Rattle.cluster.specs.RowScan.{illFormed, idCount, rowIds}
 use Rattle.cluster.specs.Faults.{faultOf}
 use Rattle.cluster.specs.declared.Cluster.{Cluster}
 use Rattle.cluster.proofs.Accepting.{accepted}
