@@ -10,7 +10,8 @@ use native.Mathlib.Omega.{arith}
 use lib.ListN.{length, take, drop, getD, set, length-append, length-set, length-map, List·getD-append}
 use lib.Seq.{drop-cons, set-at, getD-append-add, getD-set-same, getD-set-other, ext-getD}
 use Rattle.sums.proofs.Sum.{lt-or-ge}
-use Rattle.cells.specs.Cells.{tab, put}
+use Rattle.sums.specs.TermsSums.{tab}
+use Rattle.cells.specs.ModelCells.{put}
 
 module _ {A : Type 0} where
   pub length-tab : (f : ℕ → A) (n : ℕ) → length (tab f n) ≡ n

@@ -11,12 +11,13 @@ use lib.ListN.{length, getD}
 use lib.Pow.{pow-mono}
 use lib.Seq.{getD-set-same, getD-set-other}
 use borrow.Author.Tests.{lt-ltb, le-ltb}
-use Rattle.sums.specs.Sum.{sumTo, is}
+use Rattle.sums.specs.TermsSums.{sumTo}
+use Rattle.sums.specs.ModelSums.{is}
 use Rattle.sums.proofs.Sum.{lt-or-ge, eq-or-ne, is-eq, is-ne, is-le, is-one}
-use Rattle.sets.specs.Bits.{bit, withOf, withoutOf}
+use Rattle.sets.specs.ModelBits.{bit, withOf, withoutOf}
 use Rattle.sets.proofs.Laws.{bit-le, bit-high, bit-lt, bit-with, bit-without, with-lt}
-use Rattle.exchange.specs.Circuit.{turn}
-use Rattle.exchange.specs.Uncross.{Walk, Round}
+use Rattle.exchange.specs.ModelCircuit.{turn}
+use Rattle.exchange.specs.ModelUncross.{Walk, Round}
 use Rattle.exchange.proofs.Picked.{picked, picked-at, out-le, in-le}
 use Rattle.exchange.proofs.Circuit.{ends, exchange, sources-differ}
 use Rattle.circuits.specs.ModelCircuits.{bitsOf, exchanged, walkedOf}

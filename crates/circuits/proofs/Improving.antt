@@ -3,22 +3,21 @@
 -- Assumes nothing.
 use Prim.Native.Nat.{ℕ, suc, _+_, _^_, _≤_, _<_}
 use mathlib.Core.Path.{_≡_, refl, sym, ap, ap₂, _∙_, subst}
-use mathlib.Core.Bool.{Bool, true, false, _&&_, not, and-eq-true-iff, true≢false}
+use mathlib.Core.Bool.{Bool, true, false, _&&_, not, and-eq-true-iff, true≢false, cond}
 use mathlib.Core.List.{List}
 use mathlib.Core.Logic.{inl, inr}
 use native.Mathlib.Omega.{arith}
 use lib.Dec.{eqb, ltb}
 use lib.ListN.{length, getD}
 use borrow.Author.Tests.{eqb-true, eq-eqb, lt-ltb, le-ltb, not-true}
-use Rattle.sums.specs.Sum.{pick}
 use Rattle.sums.proofs.Sum.{sum-cong}
-use Rattle.sets.specs.Bits.{bit, memberOf, belowOf}
+use Rattle.sets.specs.ModelBits.{bit, memberOf, belowOf}
 use Rattle.sets.proofs.Laws.{bit-le, member-true, member-false, bit-true, bit-false}
-use Rattle.exchange.specs.Row.{Within, Exchange, copies}
-use Rattle.exchange.specs.Levels.{Cycle, back, cycleLength, outcome, IsCycle}
-use Rattle.exchange.specs.Circuit.{cost, turn, Allowed, Better}
-use Rattle.exchange.specs.Uncross.{Walk, Round, Right, improved}
-use Rattle.exchange.specs.Join.{ExchangeGraph, cycleWalk, nextLayout}
+use Rattle.exchange.specs.ModelRow.{Within, Exchange, copies}
+use Rattle.exchange.specs.ModelLevels.{Cycle, back, cycleLength, outcome, IsCycle}
+use Rattle.exchange.specs.ModelCircuit.{cost, Allowed, Better}
+use Rattle.exchange.specs.ModelUncross.{Walk, Round, Right, improved}
+use Rattle.exchange.specs.ModelJoin.{ExchangeGraph, cycleWalk, nextLayout}
 use Rattle.exchange.proofs.Search.{First, first-cases, outcome-cycle}
 use Rattle.exchange.proofs.Circuit.{cost-row, cost-store}
 use Rattle.exchange.proofs.Uncross.{uncross-circuit, improved-better}
@@ -26,7 +25,7 @@ use Rattle.exchange.proofs.Walk.{improved-same}
 use Rattle.exchange.proofs.Join.{graph-circuit}
 use Rattle.exchange.proofs.Agreeing.{SameLayout, better-cong}
 use Rattle.swaps.specs.ModelSwaps.{targetsOf}
-use Rattle.swaps.specs.Mates.{Mates}
+use Rattle.swaps.specs.ModelMates.{Mates}
 use Rattle.swaps.proofs.Fitting.{target-valid, valid-target}
 use Rattle.cycles.specs.ModelGraph.{graphOf, arcOf, weightOf}
 use Rattle.circuits.specs.ModelCircuits.{bitsOf, okOf, suitsOf, suitsAt, witnessOf, cycleOf, freedOf, walkedOf, turnedOf}
@@ -66,11 +65,11 @@ module _ (rows former : List ℕ) (P : ℕ) (mates arcs : List ℕ) (all z : ℕ
   turned-cases Q a b =
       go (ltb 32 m) (go (ltb 256 P) (go (ltb (length rows) P) (go (ltb (length former) P) (go (ltb (length arcs) 96) (or (ltb m (length nodes)))))))
     where
-      go : (t : Bool) {l : List ℕ} → Q l → Q (pick t rows l)
+      go : (t : Bool) {l : List ℕ} → Q l → Q (cond t rows l)
       go true h = a
       go false h = h
 
-      or : (t : Bool) → Q (pick t (walkedOf P (freedOf rows former P mates arcs all z nodes m) rows) rows)
+      or : (t : Bool) → Q (cond t (walkedOf P (freedOf rows former P mates arcs all z nodes m) rows) rows)
       or true = b
       or false = a
 

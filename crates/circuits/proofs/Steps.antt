@@ -2,7 +2,7 @@
 -- Assumes nothing.
 use Prim.Native.Nat.{ℕ, zero, suc, _+_, _-_, _≤_, _<_}
 use mathlib.Core.Path.{_≡_, refl, sym, ap, _∙_, subst}
-use mathlib.Core.Bool.{Bool, true, false}
+use mathlib.Core.Bool.{Bool, true, false, cond}
 use mathlib.Core.List.{List}
 use mathlib.Core.Logic.{⊎-elim}
 use native.Mathlib.Nat.{mul-one, zero-add}
@@ -12,12 +12,11 @@ use lib.Dec.{ltb}
 use lib.ListN.{length, getD, set, length-set}
 use lib.Seq.{getD-set-same, getD-set-other}
 use borrow.Author.Tests.{lt-ltb, le-ltb}
-use Rattle.sums.specs.Sum.{pick}
 use Rattle.sums.proofs.Sum.{lt-or-ge}
-use Rattle.sets.specs.Bits.{withOf, withoutOf}
-use Rattle.cells.specs.Cells.{put}
+use Rattle.sets.specs.ModelBits.{withOf, withoutOf}
+use Rattle.cells.specs.ModelCells.{put}
 use Rattle.cells.proofs.Cells.{put-more, length-put, getD-put-in, getD-put-out}
-use Rattle.exchange.specs.Uncross.{Walk, Same, partner, first, inner, outer, split, uncross}
+use Rattle.exchange.specs.ModelUncross.{Walk, Same, partner, first, inner, outer, split, uncross}
 use Rattle.exchange.proofs.Uncross.{skip-low, skip-high, wrap-low, wrap-end, first-pair}
 use Rattle.exchange.proofs.Walk.{uncross-stop, uncross-go, uncross-same, same-trans}
 use Rattle.circuits.specs.ModelCircuits.{bitsOf, okOf, witnessOf, witnessIn, walkIn, innerGains, cycleOf, freedOf, exchanged, walkedOf}
@@ -156,7 +155,7 @@ module _ (P : ℕ) (y q : ℕ → ℕ) (rows : List ℕ) where
   length-exchanged (suc i) = go (length-exchanged i) (ltb (q i) P)
     where
       go : length (exchanged P y q i rows) ≡ length rows → (b : Bool)
-          → length (pick b (set (exchanged P y q i rows) (q i) (withOf (withoutOf (getD (exchanged P y q i rows) (q i) 0) (y (suc i))) (y i))) (exchanged P y q i rows))
+          → length (cond b (set (exchanged P y q i rows) (q i) (withOf (withoutOf (getD (exchanged P y q i rows) (q i) 0) (y (suc i))) (y i))) (exchanged P y q i rows))
           ≡ length rows
       go e true = length-set (exchanged P y q i rows) (q i) (withOf (withoutOf (getD (exchanged P y q i rows) (q i) 0) (y (suc i))) (y i)) ∙ e
       go e false = e

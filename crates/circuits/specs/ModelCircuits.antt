@@ -4,9 +4,9 @@ use Prim.Native.Nat.{ℕ, zero, suc, _+_}
 use mathlib.Core.List.{List}
 use lib.ListN.{length, getD, set}
 use lib.Dec.{ltb}
-use Rattle.sums.specs.Sum.{pick}
-use Rattle.sets.specs.Bits.{withOf, withoutOf}
-use Rattle.exchange.specs.Uncross.{Walk, walk, uncross}
+use mathlib.Core.Bool.{cond}
+use Rattle.sets.specs.ModelBits.{withOf, withoutOf}
+use Rattle.exchange.specs.ModelUncross.{Walk, walk, uncross}
 pub use Rattle.walks.specs.ModelWalks.{bitsOf, suitsAt, walkIn, innerGains}
 unfoldable pub use Rattle.walks.specs.ModelWalks.{okOf, suitsOf, witnessOf}
 
@@ -28,7 +28,7 @@ unfoldable pub exchanged : ℕ → (ℕ → ℕ) → (ℕ → ℕ) → ℕ → L
 exchanged P y q zero rows = rows
 exchanged P y q (suc i) rows =
     let r = exchanged P y q i rows in
-    pick (ltb (q i) P) (set r (q i) (withOf (withoutOf (getD r (q i) 0) (y (suc i))) (y i))) r
+    cond (ltb (q i) P) (set r (q i) (withOf (withoutOf (getD r (q i) 0) (y (suc i))) (y i))) r
 
 -- The rows after the exchanges of a walk.
 abbrev pub walkedOf : ℕ → Walk → List ℕ → List ℕ
@@ -37,9 +37,9 @@ walkedOf P w rows = exchanged P (w .node) (w .partition) (w .len) rows
 -- The rows after the exchanges of a cycle that is freed of crossed pairs; the rows as they are, where a list is too short or there is too much.
 unfoldable pub turnedOf : List ℕ → List ℕ → ℕ → List ℕ → List ℕ → ℕ → ℕ → List ℕ → ℕ → List ℕ
 turnedOf rows former P mates arcs all z nodes m =
-    pick (ltb 32 m) rows
-    (pick (ltb 256 P) rows
-    (pick (ltb (length rows) P) rows
-    (pick (ltb (length former) P) rows
-    (pick (ltb (length arcs) 96) rows
-    (pick (ltb m (length nodes)) (walkedOf P (freedOf rows former P mates arcs all z nodes m) rows) rows)))))
+    cond (ltb 32 m) rows
+    (cond (ltb 256 P) rows
+    (cond (ltb (length rows) P) rows
+    (cond (ltb (length former) P) rows
+    (cond (ltb (length arcs) 96) rows
+    (cond (ltb m (length nodes)) (walkedOf P (freedOf rows former P mates arcs all z nodes m) rows) rows)))))

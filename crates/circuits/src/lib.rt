@@ -1,10 +1,10 @@
 // From a cycle of the exchange graph to the exchanges in the rows: each arc gets a partition in which it is an exchange, the circuit is freed of
 // crossed pairs, and its exchanges are made. A row is a set of nodes below 32.
 ghost use mathlib.Core.Path.{_≡_};
-ghost use Prim.Native.Nat.{ℕ, _+_, _-_, _≤_, _<_};
+ghost use Prim.Native.Nat.{_+_, _-_, _≤_, _<_};
 ghost use lib.ListN.{length, getD};
-ghost use Rattle.cells.specs.Cells.{put};
-ghost use Rattle.exchange.specs.Uncross.{split, uncross, Same};
+ghost use Rattle.cells.specs.ModelCells.{put};
+ghost use Rattle.exchange.specs.ModelUncross.{split, uncross, Same};
 ghost use Rattle.circuits.specs.ModelCircuits.{bitsOf, okOf, witnessIn, walkIn, freedOf, walkedOf, turnedOf};
 
 // The nodes of a walk into y, and the witnesses of its arcs into q.

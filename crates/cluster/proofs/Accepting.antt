@@ -2,7 +2,7 @@
 -- Assumes nothing.
 use Prim.Native.Nat.{ℕ, _≤_}
 use mathlib.Core.Path.{_≡_, refl, ap, _∙_}
-use mathlib.Core.Bool.{Bool, true, false, _||_, _&&_}
+use mathlib.Core.Bool.{Bool, true, false, _||_, _&&_, cond}
 use mathlib.Core.List.{List, [], _∷_}
 use native.Mathlib.Omega.{arith}
 use mathlib.Core.Logic.{⊎-elim}
@@ -10,16 +10,10 @@ use native.Mathlib.Nat.{eq-zero-or-pos}
 use lib.Dec.{ltb, eqb}
 use lib.ListN.{length, length-take}
 use borrow.Author.Tests.{ltb-true, ltb-false, eqb-false, le-ltb, ne-eqb}
-use Rattle.sums.specs.Sum.{pick}
-use Rattle.cluster.specs.Terms.{Topology, topology, idsOf, mem, risingFrom, rising}
-use Rattle.cluster.specs.Faults.{outOfRange, faultOf, Accepted}
+use Rattle.sums.proofs.Tests.{neither}
+use Rattle.cluster.specs.Terms.{Topology, topology, idsOf, mem, risingFrom, rising, outOfRange, faultOf}
+use Rattle.cluster.specs.TermsReading.{Accepted}
 use Rattle.cluster.specs.declared.Cluster.{Cluster}
-
--- Of a disjunction that is false both sides are.
-or-false : (a b : Bool) → a || b ≡ false → (a ≡ false) × (b ≡ false)
-or-false false false e = (refl, refl)
-or-false false true e = let z : _≡_ {A = ℕ} 0 1 = cc in absurd (omega arith)
-or-false true b e = let z : _≡_ {A = ℕ} 0 1 = cc in absurd (omega arith)
 
 -- Rising ids have no 0 among them.
 rising-no-zero : (k : ℕ) (l : List ℕ) → risingFrom k l ≡ true → mem 0 l ≡ false
@@ -35,11 +29,11 @@ rising-no-zero k (x ∷ xs) e = go (λ h. rising-no-zero x xs h) (ltb k x) refl 
 in-range : (t : Topology) → length (t .nodes) ≤ 32 → rising (idsOf (t .nodes)) ≡ true → outOfRange t ≡ false → Accepted t
 unfolding outOfRange
 in-range t few ids e =
-    let a = or-false _ _ e in
-    let b = or-false _ _ (a .0) in
-    let d = or-false _ _ (b .0) in
-    let f = or-false _ _ (d .0) in
-    let g = or-false _ _ (f .0) in
+    let a = neither _ _ e in
+    let b = neither _ _ (a .0) in
+    let d = neither _ _ (b .0) in
+    let f = neither _ _ (d .0) in
+    let g = neither _ _ (f .0) in
     record {
       bits = ltb-false 8 (t .bits) (g .0);
       replication = (pos (t .replication) (g .1), ltb-false 8 (t .replication) (f .1));
@@ -59,15 +53,15 @@ accepted c e = go (ltb 32 (c .count)) refl e
     t : Topology
     t = topology c
 
-    order : c .count ≤ 32 → outOfRange t ≡ false → (r : Bool) → rising (idsOf (t .nodes)) ≡ r → _≡_ {A = ℕ} (pick r 0 5) 0 → Accepted t
+    order : c .count ≤ 32 → outOfRange t ≡ false → (r : Bool) → rising (idsOf (t .nodes)) ≡ r → _≡_ {A = ℕ} (cond r 0 5) 0 → Accepted t
     order few range true q h = in-range t (omega (arith, length-take (c .count) (c .nodes))) q range
     order few range false q h = absurd (omega arith)
 
-    numbers : c .count ≤ 32 → (b : Bool) → outOfRange t ≡ b → _≡_ {A = ℕ} (pick b 4 (pick (rising (idsOf (t .nodes))) 0 5)) 0 → Accepted t
+    numbers : c .count ≤ 32 → (b : Bool) → outOfRange t ≡ b → _≡_ {A = ℕ} (cond b 4 (cond (rising (idsOf (t .nodes))) 0 5)) 0 → Accepted t
     numbers few true q h = absurd (omega arith)
     numbers few false q h = order few q (rising (idsOf (t .nodes))) refl h
 
-    go : (b : Bool) → ltb 32 (c .count) ≡ b → _≡_ {A = ℕ} (pick b 6 (pick (outOfRange t) 4 (pick (rising (idsOf (t .nodes))) 0 5))) 0 → Accepted t
+    go : (b : Bool) → ltb 32 (c .count) ≡ b → _≡_ {A = ℕ} (cond b 6 (cond (outOfRange t) 4 (cond (rising (idsOf (t .nodes))) 0 5))) 0 → Accepted t
     go true q h = absurd (omega arith)
     go false q h = numbers (ltb-false 32 (c .count) q) (outOfRange t) refl h
 
@@ -92,7 +86,7 @@ pub few-nodes : (c : Cluster) → faultOf c ≡ 0 → c .count ≤ 32
 unfolding faultOf
 few-nodes c e = go (ltb 32 (c .count)) refl e
   where
-    go : (b : Bool) → ltb 32 (c .count) ≡ b → _≡_ {A = ℕ} (pick b 6 (pick (outOfRange (topology c)) 4 (pick (rising (idsOf (topology c .nodes))) 0 5))) 0 → c .count ≤ 32
+    go : (b : Bool) → ltb 32 (c .count) ≡ b → _≡_ {A = ℕ} (cond b 6 (cond (outOfRange (topology c)) 4 (cond (rising (idsOf (topology c .nodes))) 0 5))) 0 → c .count ≤ 32
     go true q h = absurd (omega arith)
     go false q h = ltb-false 32 (c .count) q
 

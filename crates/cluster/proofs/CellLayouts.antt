@@ -3,17 +3,14 @@
 use Prim.Native.Nat.{ℕ, zero, suc, _+_, _-_, _*_, _/_, _%_, _≤_, _<_}
 use mathlib.Core.Path.{_≡_, refl, sym, ap, ap₂, _∙_}
 use mathlib.Core.List.{List, [], _∷_, _++_}
-use mathlib.Core.Bool.{true}
 use mathlib.Core.Logic.{⊎-elim}
 use native.Mathlib.Omega.{arith}
 use lib.ListN.{length, take, drop, getD, replicate, length-append, length-replicate, length-take, length-drop, List·getD-eq-default}
 use lib.Seq.{take-all, take-at, take-take, take-append-le, length-take-le, getD-take, getD-drop, ext-getD}
 use Rattle.sums.proofs.Sum.{lt-or-ge}
-use Rattle.cells.specs.Cells.{tab}
 use Rattle.cells.proofs.Cells.{length-tab, getD-tab, tab-cong, tab-getD}
-use Rattle.cluster.specs.Limits.{rowCells, bufferRows, layoutCells}
-use Rattle.cluster.specs.Terms.{Layout, row, rising}
-use Rattle.cluster.specs.TermsCells.{cellsOf, rowAt, idsIn, blank, formed, rowsIn, FitsCells, HoldsRows}
+use Rattle.cluster.specs.Terms.{rowCells, bufferRows, layoutCells, Layout, row, rising, cellsOf, rowAt, idsIn, blank, formed, rowsIn}
+use Rattle.cluster.specs.ModelRows.{FitsCells, HoldsRows}
 use Rattle.cluster.proofs.CellRows.{getD-zeros, zeros-blank, blank-cell, ids-length, formed-rising, formed-cell, rising-ids, rising-formed}
 
 -- ---- the rows of cells

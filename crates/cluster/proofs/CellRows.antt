@@ -3,19 +3,14 @@
 use Prim.Native.Nat.{ℕ, zero, suc, _-_, _≤_}
 use mathlib.Core.Path.{_≡_, refl, sym, ap, ap₂, _∙_}
 use mathlib.Core.List.{List, [], _∷_, _++_}
-use mathlib.Core.Bool.{Bool, true, false, _&&_, false≢true}
+use mathlib.Core.Bool.{true, _&&_}
 use native.Mathlib.Nat.{sub-zero}
 use native.Mathlib.Omega.{arith}
 use lib.Dec.{ltb, eqb, eqb·suc-zero}
 use lib.ListN.{length, getD, replicate}
 use borrow.Author.Tests.{ltb-true, eqb-true}
-use Rattle.cluster.specs.Terms.{risingFrom}
-use Rattle.cluster.specs.TermsCells.{idsIn, blank, formedFrom}
-
--- What two tests together tell.
-pub both : (a b : Bool) → a && b ≡ true → (a ≡ true) × (b ≡ true)
-both true b h = (refl, h)
-both false b h = absurd (false≢true h)
+use Rattle.sums.proofs.Tests.{both}
+use Rattle.cluster.specs.Terms.{risingFrom, idsIn, blank, formedFrom}
 
 -- Zeros after a list change no cell of it, read as 0 past the end.
 pub getD-zeros : (l : List ℕ) (n i : ℕ) → getD (l ++ replicate n 0) i 0 ≡ getD l i 0

@@ -4,16 +4,15 @@ use Prim.Native.Nat.{ℕ}
 use mathlib.Core.Path.{_≡_, refl}
 use mathlib.Core.Bool.{true, false}
 use mathlib.Core.List.{List, [], _∷_}
-use Rattle.sums.specs.Sum.{sumTo, one-if}
-use Rattle.cells.specs.Cells.{tab}
-use Rattle.cluster.specs.Terms.{Topology, mem, risingFrom, rising, different, zonesNamed, zonesOf, copiesIn, onlyIn, distance}
-use Rattle.cluster.specs.Tie.{firstIndex, zoneIndex, capAt, incidence, idsWhere, layoutOf}
+use native.Mathlib.Omega.{arith}
+use Rattle.sums.specs.TermsSums.{sumTo, one-if}
+use Rattle.cluster.specs.Terms.{Topology, mem, risingFrom, rising, different, zonesNamed, zonesOf, copiesIn, ValidAt, onlyIn, distance}
 use Rattle.cluster.specs.declared.Node.{Node}
 
-abbrev node : ℕ → ℕ → ℕ → Node
+abbrev pub node : ℕ → ℕ → ℕ → Node
 node i z c = record { id = i; zone = z; capacity = c }
 
-abbrev E : Topology
+abbrev pub E : Topology
 E = record { bits = 1; replication = 1; redundancy = 1; nodes = node 1 1 10 ∷ node 2 1 4 ∷ [] }
 
 abbrev H : Topology
@@ -22,13 +21,13 @@ H = record { bits = 0; replication = 1; redundancy = 1; nodes = node 1 1 10 ∷ 
 abbrev I : Topology
 I = record { bits = 0; replication = 1; redundancy = 1; nodes = node 1 1 5 ∷ node 2 1 5 ∷ [] }
 
-abbrev K : Topology
+abbrev pub K : Topology
 K = record { bits = 0; replication = 3; redundancy = 2; nodes = node 1 1 9 ∷ node 2 1 9 ∷ node 3 1 9 ∷ node 4 2 1 ∷ [] }
 
 abbrev row123 : List ℕ
 row123 = 1 ∷ 2 ∷ 3 ∷ []
 
-abbrev row124 : List ℕ
+abbrev pub row124 : List ℕ
 row124 = 1 ∷ 2 ∷ 4 ∷ []
 
 -- A row rises strictly, and has no id 0.
@@ -80,21 +79,6 @@ copies-E : copiesIn ((1 ∷ []) ∷ (1 ∷ []) ∷ []) 1 ≡ 2
 unfolding copiesIn mem one-if
 copies-E = refl
 
--- Node 3 of K lies in the zone that node 1 (index 0) names, and node 4 in a zone of its own.
-zone-index-K : tab (zoneIndex K) 4 ≡ 0 ∷ 0 ∷ 0 ∷ 3 ∷ []
-unfolding tab zoneIndex firstIndex
-zone-index-K = refl
-
--- The caps of E at size 5: 10 / 5, and 4 / 5.
-caps-E : tab (capAt E 5) 2 ≡ 2 ∷ 0 ∷ []
-unfolding tab capAt
-caps-E = refl
-
--- The bits of row 1 2 4, and the row of these bits.
-bits-124 : tab (incidence K (row124 ∷ []) 0) 4 ≡ 1 ∷ 1 ∷ 0 ∷ 1 ∷ []
-unfolding tab incidence mem one-if
-bits-124 = refl
-
-back-124 : layoutOf K (incidence K (row124 ∷ [])) ≡ row124 ∷ []
-unfolding tab incidence mem one-if layoutOf idsWhere
-back-124 = refl
+-- A layout of E with one row is valid at no size: E has two partitions.
+short-E : (s : ℕ) → ValidAt E ((1 ∷ []) ∷ []) s → ⊥
+short-E s v = absurd (omega (arith, v .partition-rows))

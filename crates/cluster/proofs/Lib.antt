@@ -4,10 +4,5 @@ pub mod RowScans
 pub mod Scans
 pub mod Accepting
 pub mod Lists
-pub mod TieRows
-pub mod TieZones
 pub mod Slots
-pub mod TieDistance
-pub mod TieLayouts
-pub mod Columns
 pub mod Examples

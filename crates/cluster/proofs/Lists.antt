@@ -10,29 +10,19 @@ use native.Mathlib.Omega.{arith}
 use lib.Dec.{ltb}
 use lib.ListN.{length, getD}
 use borrow.Author.Tests.{ltb-true, lt-ltb, eq-eqb, ne-eqb}
-use Rattle.sums.specs.Sum.{is, one-if}
+use Rattle.sums.specs.ModelSums.{is}
+use Rattle.sums.specs.TermsSums.{one-if}
 use Rattle.sums.proofs.Sum.{eq-or-ne, is-eq, is-ne, is-sym}
 use Rattle.cluster.specs.Terms.{mem, risingFrom, onlyIn}
-use Rattle.cluster.proofs.CellRows.{both}
+use Rattle.sums.proofs.Tests.{both, true-or-false}
 
 -- ---- tests
-
--- A test holds, or fails.
-pub test-cases : (b : Bool) → (b ≡ true) ⊎ (b ≡ false)
-test-cases true = inl refl
-test-cases false = inr refl
 
 -- Two tests each of which implies the other are equal.
 pub same-test : (a b : Bool) → (a ≡ true → b ≡ true) → (b ≡ true → a ≡ true) → a ≡ b
 same-test true b f g = sym (f refl)
 same-test false true f g = g refl
 same-test false false f g = refl
-
--- The indicator of a test is at most 1.
-pub one-if-le : (b : Bool) → one-if b ≤ 1
-unfolding one-if
-one-if-le true = omega arith
-one-if-le false = omega arith
 
 -- ---- members
 
@@ -111,7 +101,7 @@ rising-above k i (x ∷ xs) e m =
 
 -- What is not above k is no member of a list that rises from k.
 pub rising-fresh : (k i : ℕ) (l : List ℕ) → risingFrom k l ≡ true → i ≤ k → mem i l ≡ false
-rising-fresh k i l e h = ⊎-elim (λ m. absurd (omega (arith, rising-above k i l e m))) (λ f. f) (test-cases (mem i l))
+rising-fresh k i l e h = ⊎-elim (λ m. absurd (omega (arith, rising-above k i l e m))) (λ f. f) (true-or-false (mem i l))
 
 -- Two rising lists with the same members are equal.
 pub rising-same : (j k : ℕ) (l r : List ℕ) → risingFrom j l ≡ true → risingFrom k r ≡ true → ((i : ℕ) → mem i l ≡ mem i r) → l ≡ r

@@ -2,23 +2,22 @@
 -- Assumes nothing.
 use Prim.Native.Nat.{ℕ, suc, _+_, _-_, _*_, _≤_, _<_}
 use mathlib.Core.Path.{_≡_, refl, sym, ap, ap₂, _∙_}
-use mathlib.Core.Bool.{Bool, true, false, _&&_, and-false}
-use mathlib.Core.List.{List, [], _∷_}
+use mathlib.Core.Bool.{Bool, true, false, _&&_, and-false, cond}
+use mathlib.Core.List.{List}
 use native.Mathlib.Nat.{add-zero}
 use native.Mathlib.Omega.{arith}
-use lib.Dec.{ltb, leb, eqb}
+use lib.Dec.{ltb, leb}
 use lib.ListN.{length, take, drop, getD}
 use borrow.Author.Tests.{eq-eqb, ne-eqb, lt-ltb, le-ltb, le-leb, lt-leb}
-use Rattle.sums.specs.Sum.{pick}
 use Rattle.cells.proofs.Cells.{rest-cons}
-use Rattle.cluster.specs.Limits.{rowCells, bufferRows, layoutCells}
-use Rattle.cluster.specs.TermsCells.{rowAt, idsIn, blank, formedFrom, formed, HoldsRows}
-use Rattle.cluster.specs.RowScan.{illFormed, hasRow, idCount, rowIds, rowIsBlank}
-use Rattle.cluster.proofs.CellRows.{both, blank-ids, blank-formed}
+use Rattle.cluster.specs.Terms.{rowCells, bufferRows, layoutCells, rowAt, idsIn, blank, formedFrom, formed}
+use Rattle.cluster.specs.ModelRows.{HoldsRows, illFormed, hasRow, idCount, rowIds, rowIsBlank}
+use Rattle.sums.proofs.Tests.{both}
+use Rattle.cluster.proofs.CellRows.{blank-ids, blank-formed}
 
 -- What the scan of a row answers that has passed `count` ids, `last` the last of them, and has l before it.
 unfoldable pub scan : ℕ → ℕ → List ℕ → ℕ
-scan last count l = pick (formedFrom last l) (count + length (idsIn l)) illFormed
+scan last count l = cond (formedFrom last l) (count + length (idsIn l)) illFormed
 
 -- A row is asked by scanning it from its start.
 pub scan-start : (l : List ℕ) (a : ℕ) → idCount (take rowCells (drop a l)) ≡ scan 0 (a - a) (take (a + rowCells - a) (drop a l))
@@ -27,13 +26,13 @@ scan-start l a =
     let r : List ℕ = take rowCells (drop a l) in
     let e : length (idsIn r) ≡ a - a + length (idsIn r) = omega arith in
     let d : rowCells ≡ a + rowCells - a = omega arith in
-    ap (λ (n : ℕ). pick (formed r) n illFormed) e ∙ ap (λ (n : ℕ). scan 0 (a - a) (take n (drop a l))) d
+    ap (λ (n : ℕ). cond (formed r) n illFormed) e ∙ ap (λ (n : ℕ). scan 0 (a - a) (take n (drop a l))) d
 
 -- A scan that has only zeros before it has passed all ids.
 pub scan-blank : (last count : ℕ) (l : List ℕ) → blank l ≡ true → scan last count l ≡ count
 unfolding scan
 scan-blank last count l h =
-    ap₂ (λ (t : Bool) (r : List ℕ). pick t (count + length r) illFormed) (blank-formed last l h) (blank-ids l h) ∙ add-zero count
+    ap₂ (λ (t : Bool) (r : List ℕ). cond t (count + length r) illFormed) (blank-formed last l h) (blank-ids l h) ∙ add-zero count
 
 module _ (l : List ℕ) (n i : ℕ) (inside : i < n) (long : n ≤ length l) where
   -- A cell that is not 0: the cells are not blank.
@@ -94,8 +93,8 @@ module _ (cells : List ℕ) (p : ℕ) where
   unfolding rowIds idCount
   row-ids-formed h = go (hasRow cells p) (formed (rowAt cells p)) refl refl h
     where
-      go : (s t : Bool) → hasRow cells p ≡ s → formed (rowAt cells p) ≡ t → pick s (pick t (length (idsIn (rowAt cells p))) illFormed) illFormed < illFormed
-          → (hasRow cells p ≡ true) × (formed (rowAt cells p) ≡ true) × (length (idsIn (rowAt cells p)) ≡ pick s (pick t (length (idsIn (rowAt cells p))) illFormed) illFormed)
+      go : (s t : Bool) → hasRow cells p ≡ s → formed (rowAt cells p) ≡ t → cond s (cond t (length (idsIn (rowAt cells p))) illFormed) illFormed < illFormed
+          → (hasRow cells p ≡ true) × (formed (rowAt cells p) ≡ true) × (length (idsIn (rowAt cells p)) ≡ cond s (cond t (length (idsIn (rowAt cells p))) illFormed) illFormed)
       go true true d e k = (d, e, refl)
       go true false d e k = absurd (omega arith)
       go false t d e k = absurd (omega arith)
@@ -103,15 +102,15 @@ module _ (cells : List ℕ) (p : ℕ) where
   -- A row that is there and is rising ids followed by zeros is answered by the number of its ids.
   pub formed-row-ids : hasRow cells p ≡ true → formed (rowAt cells p) ≡ true → rowIds cells p ≡ length (idsIn (rowAt cells p))
   unfolding rowIds idCount
-  formed-row-ids d e = ap₂ (λ (s t : Bool). pick s (pick t (length (idsIn (rowAt cells p))) illFormed) illFormed) d e
+  formed-row-ids d e = ap₂ (λ (s t : Bool). cond s (cond t (length (idsIn (rowAt cells p))) illFormed) illFormed) d e
 
   -- A row that is not rising ids followed by zeros is answered by illFormed.
   pub ill-row-ids : formed (rowAt cells p) ≡ false → rowIds cells p ≡ illFormed
   unfolding rowIds idCount
   ill-row-ids e = go (hasRow cells p)
     where
-      go : (s : Bool) → pick s (pick (formed (rowAt cells p)) (length (idsIn (rowAt cells p))) illFormed) illFormed ≡ illFormed
-      go true = ap (λ (t : Bool). pick t (length (idsIn (rowAt cells p))) illFormed) e
+      go : (s : Bool) → cond s (cond (formed (rowAt cells p)) (length (idsIn (rowAt cells p))) illFormed) illFormed ≡ illFormed
+      go true = ap (λ (t : Bool). cond t (length (idsIn (rowAt cells p))) illFormed) e
       go false = refl
 
 -- Cells of a whole buffer have each of its rows.

@@ -1,17 +1,51 @@
--- The terms of document 01: layout, row, valid at a size, the size of a cluster, former layout, distance. They speak of the nodes in use
--- and of the first P rows alone, and quantify over all layouts. Every claim of this repository about planning, checking and records rests
--- on these definitions; they have to be right by reading. "Box" in the papers is a node here.
+-- The terms of document 01: its limits; cluster, layout, row, valid at a size, the size of a cluster, former layout, distance; how layouts stand
+-- in lent cells; the faults of a cluster in hand. They speak of the nodes in use and of the first P rows alone, and quantify over all layouts.
+-- Every claim of this repository about planning, checking and records rests on these definitions; they have to be right by reading. "Box" in
+-- the papers is a node here.
 -- Assumes nothing.
-use Prim.Native.Nat.{ℕ, _+_, _*_, _^_, _≤_, _<_}
+use Prim.Native.Nat.{ℕ, _+_, _*_, _^_, _/_, _%_, _≤_, _<_}
 use mathlib.Core.Path.{_≡_}
 use mathlib.Core.List.{List, [], _∷_, map}
-use mathlib.Core.Bool.{Bool, true, false, not, _&&_, _||_}
+use mathlib.Core.Bool.{Bool, true, false, not, cond, _&&_, _||_}
 use lib.Dec.{ltb, eqb}
-use lib.ListN.{length, take, getD}
-use Rattle.sums.specs.Sum.{sumTo, one-if, pick}
-use Rattle.cluster.specs.Limits.{mostCopies}
+use lib.ListN.{length, take, drop, getD}
+use Rattle.sums.specs.TermsSums.{sumTo, one-if, tab}
 use Rattle.cluster.specs.declared.Cluster.{Cluster}
 use Rattle.cluster.specs.declared.Node.{Node}
+
+-- ---- the limits, each named once for all definitions; the code's are the associated constants of `Cluster`
+
+-- "partition bits k (0 to 8), so P = 2^k partitions"
+abbrev pub mostBits : ℕ
+mostBits = 8
+
+-- "replication R (1 to 8)"
+abbrev pub mostCopies : ℕ
+mostCopies = 8
+
+-- "0 to 32 boxes"
+abbrev pub mostNodes : ℕ
+mostNodes = 32
+
+-- "eight to a partition"
+abbrev pub rowCells : ℕ
+rowCells = 8
+
+-- The rows of a buffer: one for each partition of a cluster with the most bits.
+abbrev pub bufferRows : ℕ
+bufferRows = 2 ^ mostBits
+
+-- "Former and assignment each take 2,048 cells of 32 bits"
+abbrev pub layoutCells : ℕ
+layoutCells = bufferRows * rowCells
+
+-- "Scratch takes 16,384 cells of 32 bits."
+abbrev pub scratchCells : ℕ
+scratchCells = 16384
+
+-- "a lent buffer of 64 cells": two for each node
+abbrev pub figureCells : ℕ
+figureCells = 2 * mostNodes
 
 -- ---- the cluster
 
@@ -75,7 +109,7 @@ different (x ∷ xs) = one-if (not (mem x xs)) + different xs
 -- The zones of the nodes that a row names.
 unfoldable pub zonesNamed : List Node → List ℕ → List ℕ
 zonesNamed [] r = []
-zonesNamed (n ∷ ns) r = pick (mem (n .id) r) (n .zone ∷ zonesNamed ns r) (zonesNamed ns r)
+zonesNamed (n ∷ ns) r = cond (mem (n .id) r) (n .zone ∷ zonesNamed ns r) (zonesNamed ns r)
 
 -- In how many zones the nodes of a row lie; a zone counts once.
 abbrev pub zonesOf : List Node → List ℕ → ℕ
@@ -122,3 +156,49 @@ onlyIn (x ∷ xs) r = one-if (not (mem x r)) + onlyIn xs r
 -- "The distance is the number of pairs (id, partition) standing in one of the two layouts and not in both, gone boxes included."
 unfoldable pub distance : Topology → Layout → Layout → ℕ
 distance t L F = sumTo (partitions t) (λ p. onlyIn (row L p) (row F p) + onlyIn (row F p) (row L p))
+
+-- ---- layouts in lent cells
+
+-- "eight to a partition, rising ids first, then zeros; rows from P on are zero": cell 8 p + j holds id j of row p, and 0 where there is none.
+unfoldable pub cellsOf : Layout → List ℕ
+cellsOf L = tab (λ c. getD (row L (c / rowCells)) (c % rowCells) 0) layoutCells
+
+-- The eight cells of row p.
+abbrev pub rowAt : List ℕ → ℕ → List ℕ
+rowAt cells p = take rowCells (drop (p * rowCells) cells)
+
+-- The ids of a row of cells: those before the first 0.
+unfoldable pub idsIn : List ℕ → List ℕ
+idsIn [] = []
+idsIn (x ∷ xs) = cond (eqb x 0) [] (x ∷ idsIn xs)
+
+-- Whether all cells are 0.
+unfoldable pub blank : List ℕ → Bool
+blank [] = true
+blank (x ∷ xs) = eqb x 0 && blank xs
+
+-- Whether cells are "rising ids followed by zeros", the first id above `last`.
+unfoldable pub formedFrom : ℕ → List ℕ → Bool
+formedFrom last [] = true
+formedFrom last (x ∷ xs) = cond (eqb x 0) (blank xs) (ltb last x && formedFrom x xs)
+
+abbrev pub formed : List ℕ → Bool
+formed l = formedFrom 0 l
+
+-- The first n rows of lent cells, as a layout.
+unfoldable pub rowsIn : ℕ → List ℕ → Layout
+rowsIn n cells = tab (λ p. idsIn (rowAt cells p)) n
+
+-- ---- the faults of a cluster in hand
+
+-- "bits, replication, redundancy or an id out of range": k 0 to 8, R 1 to 8, Z 1 to R, an id never 0.
+unfoldable pub outOfRange : Topology → Bool
+outOfRange t =
+    ltb mostBits (t .bits) || eqb (t .replication) 0 || ltb mostCopies (t .replication) || eqb (t .redundancy) 0
+    || ltb (t .replication) (t .redundancy) || mem 0 (idsOf (t .nodes))
+
+-- "6: more than 32 boxes. 4: bits, replication, redundancy or an id out of range. 5: ids not rising"; 0 where there is no fault.
+unfoldable pub faultOf : Cluster → ℕ
+faultOf c =
+    cond (ltb mostNodes (c .count)) 6
+    (cond (outOfRange (topology c)) 4 (cond (rising (idsOf (topology c .nodes))) 0 5))

@@ -1,9 +1,7 @@
 // The faults of a cluster in hand, over the nodes in use only.
 ghost use mathlib.Core.Path.{_≡_};
 ghost use Prim.Native.Nat.{_≤_};
-ghost use Rattle.cluster.specs.Limits.{mostNodes};
-ghost use Rattle.cluster.specs.Terms.{topology, idsOf, mem, rising};
-ghost use Rattle.cluster.specs.Faults.{outOfRange};
+ghost use Rattle.cluster.specs.Terms.{mostNodes, topology, idsOf, mem, rising, outOfRange};
 use super::Cluster;
 
 // Whether a used id is 0.

@@ -1,11 +1,11 @@
 // A cluster in hand: its limits, its nodes, and what makes it acceptable.
 ghost use mathlib.Core.Path.{_≡_};
-ghost use Rattle.cluster.specs.Faults.{noNodes, faultOf};
+ghost use Rattle.cluster.specs.TermsReading.{noNodes};
+ghost use Rattle.cluster.specs.Terms.{faultOf};
 
 mod faults;
 pub mod refusal;
 pub mod rows;
-pub mod zones;
 
 // A node ("box" in the papers): one storage box of the cluster.
 pub struct Node {

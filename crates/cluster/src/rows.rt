@@ -2,9 +2,8 @@
 ghost use mathlib.Core.Path.{_≡_};
 ghost use Prim.Native.Nat.{_+_, _-_, _≤_};
 ghost use lib.ListN.{length, take, drop};
-ghost use Rattle.cluster.specs.Limits.{rowCells};
-ghost use Rattle.cluster.specs.TermsCells.{blank};
-ghost use Rattle.cluster.specs.RowScan.{idCount, rowIds, rowIsBlank};
+ghost use Rattle.cluster.specs.Terms.{rowCells, blank};
+ghost use Rattle.cluster.specs.ModelRows.{idCount, rowIds, rowIsBlank};
 use super::Cluster;
 
 // The answer for a row that is not rising ids followed by zeros: one more than a row has cells.

@@ -1,12 +1,11 @@
 -- What `read_cluster` answers, by the length of the lent cells and the outcome.
 -- Assumes nothing.
 use Prim.Native.Nat.{ℕ, _≤_, _<_}
-use mathlib.Core.Path.{_≡_, refl, sym, ap, _∙_}
+use mathlib.Core.Path.{_≡_}
 use mathlib.Core.List.{List, _++_}
 use lib.ListN.{length, drop}
 use borrow.Author.Tests.{lt-ltb, le-ltb, eq-eqb, ne-eqb}
-use Rattle.cluster.specs.Limits.{layoutCells}
-use Rattle.cluster.specs.TermsCells.{cellsOf}
+use Rattle.cluster.specs.Terms.{layoutCells, cellsOf}
 use Rattle.cluster_record.specs.RecordClusterFaults.{refusedAt, readCluster}
 use Rattle.cluster_record.specs.RecordClusterAnswer.{outcomeOf, answerOf, readAnswer, formerAfter}
 

@@ -11,9 +11,8 @@ use lib.Seq.{append-snoc}
 use borrow.Author.Tests.{le-ltb, lt-leb, ne-eqb}
 use Rattle.sums.proofs.Sum.{lt-or-ge}
 use Rattle.cluster.specs.declared.Node.{Node}
-use Rattle.cluster.specs.Limits.{mostBits, mostCopies, mostNodes}
-use Rattle.cluster.specs.Terms.{Topology, partitions, Layout, noNode, row, idsOf, rising, risingFrom}
-use Rattle.cluster.specs.Faults.{Accepted}
+use Rattle.cluster.specs.Terms.{mostBits, mostCopies, mostNodes, Topology, partitions, Layout, noNode, row, idsOf, rising, risingFrom}
+use Rattle.cluster.specs.TermsReading.{Accepted}
 use Rattle.cluster.proofs.Lists.{rising-head, rising-tail, rising-none, rising-fresh}
 use Rattle.fields.specs.RecordField.{bytesOf, field, fieldAt, ruleOf, legal}
 use Rattle.fields.specs.declared.Field.the-variants.{Body}

@@ -1,29 +1,26 @@
 -- A cluster reading accepts exactly the records, and what it yields.
 -- Assumes nothing.
-use Prim.Native.Nat.{ℕ, _≤_, _<_}
-use mathlib.Core.Path.{_≡_, refl, sym, ap, ap₂, _∙_, subst}
-use mathlib.Core.Bool.{Bool, true, false}
-use mathlib.Core.List.{List, [], _++_}
+use Prim.Native.Nat.{ℕ, _≤_}
+use mathlib.Core.Path.{_≡_, sym, ap, ap₂, _∙_, subst}
+use mathlib.Core.Bool.{Bool, true, false, cond}
+use mathlib.Core.List.{List, _++_}
 use native.Mathlib.Omega.{arith}
 use lib.Dec.{ltb}
 use lib.ListN.{length, drop}
-use Rattle.sums.specs.Sum.{pick}
-use Rattle.cluster.specs.Limits.{mostBits, mostNodes, layoutCells}
+use Rattle.cluster.specs.Terms.{mostNodes, layoutCells, Topology, topology, partitions, Layout, IsFormer, cellsOf, rowsIn, faultOf}
 use Rattle.cluster.specs.declared.Cluster.{Cluster}
-use Rattle.cluster.specs.Terms.{Topology, topology, partitions, Layout, IsFormer}
-use Rattle.cluster.specs.TermsCells.{cellsOf, rowsIn, FitsCells}
-use Rattle.cluster.specs.Faults.{faultOf, Accepted}
+use Rattle.cluster.specs.ModelRows.{FitsCells}
+use Rattle.cluster.specs.TermsReading.{Accepted, slotsOf}
 use Rattle.cluster.proofs.Accepting.{no-fault}
 use Rattle.cluster.proofs.CellLayouts.{rowsIn-written}
-use Rattle.fields.specs.RecordField.{Bytes, fieldAt}
-use Rattle.fields.specs.declared.Field.the-variants.{Body}
+use Rattle.fields.specs.RecordField.{Bytes}
 use Rattle.fields.proofs.RecordField.{whole}
 use Rattle.cluster_record.specs.declared.ReadCluster.{ReadCluster}
 use Rattle.cluster_record.specs.RecordCluster.{IsRecord}
-use Rattle.cluster_record.specs.RecordClusterFaults.{Reading, Outcome, beginning, allowedAfter, itemIn, readingWith, faultIn, refusedAt, ended, upTo, walk, readCluster}
-use Rattle.cluster_record.specs.RecordClusterAnswer.{slotsOf, outcomeOf, answerOf, readAnswer, formerAfter}
+use Rattle.cluster_record.specs.RecordClusterFaults.{Reading, Outcome, beginning, allowedAfter, refusedAt, ended, upTo, readCluster}
+use Rattle.cluster_record.specs.RecordClusterAnswer.{outcomeOf, answerOf, readAnswer, formerAfter}
 use Rattle.cluster_record.proofs.FieldFaults.{few-partitions}
-use Rattle.cluster_record.proofs.Slots.{topology-slots}
+use Rattle.cluster.proofs.Slots.{topology-slots}
 use Rattle.cluster_record.proofs.Walks.{walk-holds}
 use Rattle.cluster_record.proofs.Readings.{kind, row-bytes, Well, well-beginning, well-step}
 use Rattle.cluster_record.proofs.Answers.{long-answer, accepted-former}
@@ -98,7 +95,7 @@ reads-accepted s =
     at-end : (r : Reading) → Well r → Accepted (ended s r .cluster)
     at-end r w = unfold ended in go (ltb (r .last) 3)
       where
-        go : (x : Bool) → Accepted (pick x (refusedAt 7 (length s)) (record { refusal = 0; byte = 0; cluster = r .cluster; former = upTo (partitions (r .cluster)) (r .former) }) .cluster)
+        go : (x : Bool) → Accepted (cond x (refusedAt 7 (length s)) (record { refusal = 0; byte = 0; cluster = r .cluster; former = upTo (partitions (r .cluster)) (r .former) }) .cluster)
         go true = none
         go false = w .accepted
 
@@ -122,6 +119,6 @@ pub answer-yields : (s former : List ℕ) → Yielded (readAnswer s former .clus
 unfolding readAnswer answerOf outcomeOf
 answer-yields s former = go (ltb (length former) layoutCells)
   where
-    go : (x : Bool) → Yielded (slotsOf (pick x (refusedAt 8 0) (readCluster s) .cluster))
+    go : (x : Bool) → Yielded (slotsOf (cond x (refusedAt 8 0) (readCluster s) .cluster))
     go true = yielded (refusedAt 8 0 .cluster) (unfold beginning in well-beginning .accepted)
     go false = yielded (readCluster s .cluster) (reads-accepted s)

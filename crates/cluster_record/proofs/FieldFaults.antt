@@ -1,8 +1,8 @@
 -- The faults of a field by its tag, over plain numbers.
 -- Assumes nothing.
-use Prim.Native.Nat.{ℕ, zero, suc, _+_, _-_, _*_, _/_, _%_, _^_, _≤_, _<_}
+use Prim.Native.Nat.{ℕ, _+_, _-_, _*_, _/_, _%_, _^_, _≤_}
 use mathlib.Core.Path.{_≡_, refl, sym, ap, ap₂, _∙_, subst}
-use mathlib.Core.Bool.{Bool, true, false, _||_, not}
+use mathlib.Core.Bool.{Bool, true, false, _||_, not, cond}
 use mathlib.Core.List.{List}
 use native.Mathlib.Nat.{one-mul, mod-eq-of-lt}
 use native.Mathlib.Omega.{arith}
@@ -10,15 +10,13 @@ use lib.Dec.{ltb, leb, eqb}
 use lib.ListN.{length}
 use lib.Pow.{pow-mono}
 use borrow.Author.Tests.{le-ltb}
-use Rattle.sums.specs.Sum.{pick}
-use Rattle.cluster.specs.Limits.{mostBits, mostCopies, mostNodes}
+use Rattle.cluster.specs.Terms.{mostBits, mostCopies, mostNodes, Topology, partitions, idsOf, mem, rising}
 use Rattle.cluster.specs.declared.Node.{Node}
-use Rattle.cluster.specs.Terms.{Topology, partitions, idsOf, mem, rising}
-use Rattle.sets.specs.Bits.{memberOf}
+use Rattle.sets.specs.ModelBits.{memberOf}
 use Rattle.fields.specs.RecordField.{numberAt, has, legalAs, judged, fieldAt}
 use Rattle.fields.specs.declared.Field.{Field}
 use Rattle.fields.specs.declared.Field.the-variants.{Body, Refused}
-use Rattle.cluster_record.specs.RecordClusterFaults.{Item, nodeIn, idsAt, itemIn, lastOf, outside, unordered, tooMany, faultIn}
+use Rattle.cluster_record.specs.RecordClusterFaults.{nodeIn, idsAt, itemIn, lastOf, outside, unordered, tooMany, faultIn}
 use Rattle.cluster_record.proofs.Items.{below-one, item-bits, item-replication, item-redundancy, item-node, item-row}
 
 -- There are at most 256 partitions.
@@ -44,7 +42,7 @@ refused-some s at allowed exact refusal byte e = subst (Fine at) e (go (not (has
     len : ℕ
     len = numberAt s (at + 1) 2
 
-    go : (a b c d : Bool) → Fine at (pick a (Refused 1 at) (pick b (Refused 2 at) (pick c (Refused 3 at) (pick d (Refused 1 at) (Body tag (at + 3) len)))))
+    go : (a b c d : Bool) → Fine at (cond a (Refused 1 at) (cond b (Refused 2 at) (cond c (Refused 3 at) (cond d (Refused 1 at) (Body tag (at + 3) len)))))
     go true b c d = (omega arith, refl)
     go false true c d = (omega arith, refl)
     go false false true d = (omega arith, refl)
@@ -60,35 +58,35 @@ node-read s start a b c x y z =
     ∙ ap (λ (k : ℕ). record { id = numberAt s start 4; zone = numberAt s (start + 4) 2; capacity = k }) z
 
 module _ (t : Topology) (next : ℕ) (s : List ℕ) (tag start len : ℕ) where
-  pub bits-fault : (v r : ℕ) → tag ≡ 1 → v ≡ numberAt s start 1 → r ≡ pick (ltb v 0 || ltb mostBits v) 4 0 → r ≡ faultIn t next (itemIn s tag start len)
+  pub bits-fault : (v r : ℕ) → tag ≡ 1 → v ≡ numberAt s start 1 → r ≡ cond (ltb v 0 || ltb mostBits v) 4 0 → r ≡ faultIn t next (itemIn s tag start len)
   unfolding faultIn outside unordered tooMany
   bits-fault v r e d f =
-      f ∙ (ap (λ (b : Bool). pick (b || ltb mostBits v) 4 0) (le-ltb v 0 (omega arith))
-      ∙ (ap (λ (k : ℕ). pick (ltb mostBits k) 4 0) d ∙ ap (faultIn t next) (sym (item-bits s start len tag e))))
+      f ∙ (ap (λ (b : Bool). cond (b || ltb mostBits v) 4 0) (le-ltb v 0 (omega arith))
+      ∙ (ap (λ (k : ℕ). cond (ltb mostBits k) 4 0) d ∙ ap (faultIn t next) (sym (item-bits s start len tag e))))
 
-  pub replication-fault : (v r : ℕ) → tag ≡ 2 → v ≡ numberAt s start 1 → r ≡ pick (ltb v 1 || ltb mostCopies v) 4 0 → r ≡ faultIn t next (itemIn s tag start len)
+  pub replication-fault : (v r : ℕ) → tag ≡ 2 → v ≡ numberAt s start 1 → r ≡ cond (ltb v 1 || ltb mostCopies v) 4 0 → r ≡ faultIn t next (itemIn s tag start len)
   unfolding faultIn outside unordered tooMany
   replication-fault v r e d f =
-      f ∙ (ap (λ (b : Bool). pick (b || ltb mostCopies v) 4 0) (below-one v)
-      ∙ (ap (λ (k : ℕ). pick (eqb k 0 || ltb mostCopies k) 4 0) d ∙ ap (faultIn t next) (sym (item-replication s start len tag e))))
+      f ∙ (ap (λ (b : Bool). cond (b || ltb mostCopies v) 4 0) (below-one v)
+      ∙ (ap (λ (k : ℕ). cond (eqb k 0 || ltb mostCopies k) 4 0) d ∙ ap (faultIn t next) (sym (item-replication s start len tag e))))
 
-  pub redundancy-fault : (v r : ℕ) → tag ≡ 3 → v ≡ numberAt s start 1 → r ≡ pick (ltb v 1 || ltb (t .replication) v) 4 0 → r ≡ faultIn t next (itemIn s tag start len)
+  pub redundancy-fault : (v r : ℕ) → tag ≡ 3 → v ≡ numberAt s start 1 → r ≡ cond (ltb v 1 || ltb (t .replication) v) 4 0 → r ≡ faultIn t next (itemIn s tag start len)
   unfolding faultIn outside unordered tooMany
   redundancy-fault v r e d f =
-      f ∙ (ap (λ (b : Bool). pick (b || ltb (t .replication) v) 4 0) (below-one v)
-      ∙ (ap (λ (k : ℕ). pick (eqb k 0 || ltb (t .replication) k) 4 0) d ∙ ap (faultIn t next) (sym (item-redundancy s start len tag e))))
+      f ∙ (ap (λ (b : Bool). cond (b || ltb (t .replication) v) 4 0) (below-one v)
+      ∙ (ap (λ (k : ℕ). cond (eqb k 0 || ltb (t .replication) k) 4 0) d ∙ ap (faultIn t next) (sym (item-redundancy s start len tag e))))
 
   pub node-fault : (id last count r : ℕ) → tag ≡ 4 → id ≡ numberAt s start 4 → last ≡ lastOf 0 (idsOf (t .nodes)) → count ≡ length (t .nodes)
-      → r ≡ pick (eqb id 0) 4 (pick (leb id last) 5 (pick (leb mostNodes count) 6 0)) → r ≡ faultIn t next (itemIn s tag start len)
+      → r ≡ cond (eqb id 0) 4 (cond (leb id last) 5 (cond (leb mostNodes count) 6 0)) → r ≡ faultIn t next (itemIn s tag start len)
   unfolding faultIn outside unordered tooMany nodeIn
   node-fault id last count r e d l n f =
-      f ∙ (ap₂ (λ (x y : ℕ). pick (eqb id 0) 4 (pick (leb id x) 5 (pick (leb mostNodes y) 6 0))) l n
-      ∙ (ap (λ (x : ℕ). pick (eqb x 0) 4 (pick (leb x (lastOf 0 (idsOf (t .nodes)))) 5 (pick (leb mostNodes (length (t .nodes))) 6 0))) d
+      f ∙ (ap₂ (λ (x y : ℕ). cond (eqb id 0) 4 (cond (leb id x) 5 (cond (leb mostNodes y) 6 0))) l n
+      ∙ (ap (λ (x : ℕ). cond (eqb x 0) 4 (cond (leb x (lastOf 0 (idsOf (t .nodes)))) 5 (cond (leb mostNodes (length (t .nodes))) 6 0))) d
       ∙ ap (faultIn t next) (sym (item-node s start len tag e))))
 
   pub row-fault : (r : ℕ) → (tag ≡ 1 → ⊥) → (tag ≡ 2 → ⊥) → (tag ≡ 3 → ⊥) → (tag ≡ 4 → ⊥)
-      → r ≡ pick (leb (partitions t) (numberAt s start 2) || mem 0 (idsAt s (start + 2) ((len - 2) / 4))) 4
-      (pick (ltb (numberAt s start 2) next || not (rising (idsAt s (start + 2) ((len - 2) / 4)))) 5 0)
+      → r ≡ cond (leb (partitions t) (numberAt s start 2) || mem 0 (idsAt s (start + 2) ((len - 2) / 4))) 4
+      (cond (ltb (numberAt s start 2) next || not (rising (idsAt s (start + 2) ((len - 2) / 4)))) 5 0)
       → r ≡ faultIn t next (itemIn s tag start len)
   unfolding faultIn outside unordered tooMany
   row-fault r a b c d f = f ∙ ap (faultIn t next) (sym (item-row s start len tag a b c d))

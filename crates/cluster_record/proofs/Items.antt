@@ -2,7 +2,7 @@
 -- Assumes nothing.
 use Prim.Native.Nat.{ℕ, zero, suc, _+_, _-_, _/_, _≤_, _<_}
 use mathlib.Core.Path.{_≡_, refl, sym, ap, _∙_}
-use mathlib.Core.Bool.{Bool, true, false, _||_}
+use mathlib.Core.Bool.{Bool, true, false, cond}
 use mathlib.Core.List.{List, [], _∷_, _++_}
 use mathlib.Core.Logic.{⊎-elim}
 use native.Mathlib.Omega.{arith}
@@ -10,7 +10,6 @@ use lib.Dec.{ltb, eqb}
 use lib.ListN.{length, take, getD}
 use lib.Seq.{take-suc}
 use borrow.Author.Tests.{lt-ltb, le-ltb, eq-eqb, ne-eqb}
-use Rattle.sums.specs.Sum.{pick}
 use Rattle.sums.proofs.Sum.{eq-or-ne}
 use Rattle.cluster.specs.declared.Node.{Node}
 use Rattle.cluster.specs.Terms.{Topology, Layout, noNode, idsOf, risingFrom}
@@ -24,12 +23,6 @@ use Rattle.cluster_record.specs.RecordClusterFaults.{Item, BitsOf, Repli
 -- Below 1 is 0.
 pub below-one : (k : ℕ) → ltb k 1 ≡ eqb k 0
 below-one k = ⊎-elim (λ e. lt-ltb k 1 (omega arith) ∙ sym (eq-eqb k 0 e)) (λ n. le-ltb k 1 (omega arith) ∙ sym (ne-eqb k 0 n)) (eq-or-ne k 0)
-
--- Of a disjunction that is false both sides are.
-pub neither : (a b : Bool) → a || b ≡ false → (a ≡ false) × (b ≡ false)
-neither false false e = (refl, refl)
-neither false true e = let z : _≡_ {A = ℕ} 0 1 = cc in absurd (omega arith)
-neither true b e = let z : _≡_ {A = ℕ} 0 1 = cc in absurd (omega arith)
 
 -- ---- the values by the tag
 
@@ -112,7 +105,7 @@ snoc-rising k (y ∷ l) x h =
 -- ---- the faults
 
 -- Where no fault is found every test has failed,
-pub no-fault : (a b c : Bool) → _≡_ {A = ℕ} (pick a 4 (pick b 5 (pick c 6 0))) 0 → (a ≡ false) × (b ≡ false) × (c ≡ false)
+pub no-fault : (a b c : Bool) → _≡_ {A = ℕ} (cond a 4 (cond b 5 (cond c 6 0))) 0 → (a ≡ false) × (b ≡ false) × (c ≡ false)
 no-fault true b c e = absurd (omega arith)
 no-fault false true c e = absurd (omega arith)
 no-fault false false true e = absurd (omega arith)

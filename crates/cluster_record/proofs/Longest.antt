@@ -2,7 +2,7 @@
 -- Assumes nothing.
 use Prim.Native.Nat.{ℕ, zero, suc, _+_, _-_, _*_, _/_, _≤_, _<_, min}
 use mathlib.Core.Path.{_≡_, refl, sym, ap, ap₂, _∙_}
-use mathlib.Core.Bool.{not}
+use mathlib.Core.Bool.{not, cond}
 use mathlib.Core.List.{List, [], _∷_, _++_}
 use mathlib.Core.Logic.{⊎-elim}
 use native.Mathlib.Omega.{arith}
@@ -10,15 +10,12 @@ use lib.Dec.{ltb, eqb}
 use lib.ListN.{length, take, drop, replicate, length-append, length-take}
 use lib.Seq.{take-take, take-all}
 use borrow.Author.Tests.{ltb-false}
-use Rattle.sums.specs.Sum.{pick}
 use Rattle.sums.proofs.Sum.{lt-or-ge}
-use Rattle.sets.specs.Bits.{memberOf}
+use Rattle.sets.specs.ModelBits.{memberOf}
 use Rattle.cluster.specs.declared.Node.{Node}
-use Rattle.cluster.specs.Limits.{mostCopies, layoutCells}
-use Rattle.cluster.specs.TermsCells.{cellsOf}
-use Rattle.cluster.specs.Terms.{Topology, Layout, row, rising, IsFormer}
-use Rattle.cluster.specs.Faults.{Accepted}
-use Rattle.cluster.proofs.Lists.{test-cases}
+use Rattle.cluster.specs.Terms.{mostCopies, layoutCells, cellsOf, Topology, Layout, row, rising, IsFormer}
+use Rattle.cluster.specs.TermsReading.{Accepted}
+use Rattle.sums.proofs.Tests.{true-or-false, neither}
 use Rattle.fields.specs.RecordField.{numberOf, bytesOf, part, numberAt, field, fieldAt, ruleOf, legalAs, Whole}
 use Rattle.fields.specs.declared.Field.the-variants.{Body}
 use Rattle.fields.proofs.Numbers.{length-bytes, number-there}
@@ -26,7 +23,7 @@ use Rattle.fields.proofs.RecordField.{whole, length-field, lawful, legal-greate
 use Rattle.cluster_record.specs.RecordCluster.{bitsField, replicationField, redundancyField, nodeField, nodeFields, idBytes, rowField, rowFields, clusterRecord, longestRecord, decidingBytes}
 use Rattle.cluster_record.specs.RecordClusterFaults.{Item, BitsOf, ReplicationOf, RedundancyOf, OneNode, FormerRow, nodeIn, idsAt, itemIn, Reading, Outcome, beginning, allowedAfter, withItem, upTo, formerWith, readingWith, unordered, faultIn, refusedAt, walk, readCluster}
 use Rattle.cluster_record.specs.RecordClusterAnswer.{outcomeOf, answerOf, readAnswer, formerAfter}
-use Rattle.cluster_record.proofs.Items.{neither, item-node, item-five, faults-none}
+use Rattle.cluster_record.proofs.Items.{item-node, item-five, faults-none}
 use Rattle.cluster_record.proofs.FieldFaults.{few-partitions, refused-some}
 use Rattle.cluster_record.proofs.Rows.{length-next}
 use Rattle.cluster_record.proofs.Walks.{walk-refused, walk-fault, walk-on, walk-holds}
@@ -194,9 +191,9 @@ module _ (s : List ℕ) (n : ℕ) where
       field-whole u at allowed 0 hu (ap (memberOf allowed) a ∙ t) (ap₂ (legalAs 0) a b ∙ l) (omega arith)
       ∙ (ap₂ (λ (x y : ℕ). Body x (at + 3) y) a b ∙ sym (field-whole s at allowed 0 hs t l (omega arith))))
       (λ l. field-length u at allowed 0 hu (ap (memberOf allowed) a ∙ t) (ap₂ (legalAs 0) a b ∙ l) ∙ sym (field-length s at allowed 0 hs t l))
-      (test-cases (legalAs 0 tag len)))
+      (true-or-false (legalAs 0 tag len)))
       (λ t. field-tag u at allowed 0 hu (ap (memberOf allowed) a ∙ t) ∙ sym (field-tag s at allowed 0 hs t))
-      (test-cases (memberOf allowed tag))
+      (true-or-false (memberOf allowed tag))
     where
       short-rule : (tag : ℕ) → 1 ≤ tag → tag ≤ 5 → ruleOf tag .greatest ≤ 34
       short-rule zero a b = absurd (omega arith)
@@ -289,8 +286,8 @@ pub first-answer : (s former : List ℕ) (n : ℕ) → decidingBytes ≤ n
 first-answer s former n h = let e = first-bytes s n h in (answer e, cells e)
   where
     answer : readCluster (take n s) ≡ readCluster s → readAnswer (take n s) former ≡ readAnswer s former
-    answer e = unfold readAnswer outcomeOf in ap (λ (o : Outcome). answerOf (pick (ltb (length former) layoutCells) (refusedAt 8 0) o)) e
+    answer e = unfold readAnswer outcomeOf in ap (λ (o : Outcome). answerOf (cond (ltb (length former) layoutCells) (refusedAt 8 0) o)) e
 
     cells : readCluster (take n s) ≡ readCluster s → formerAfter (take n s) former ≡ formerAfter s former
     cells e = unfold formerAfter outcomeOf in
-        ap (λ (o : Outcome). let x = pick (ltb (length former) layoutCells) (refusedAt 8 0) o in pick (eqb (x .refusal) 0) (cellsOf (x .former) ++ drop layoutCells former) former) e
+        ap (λ (o : Outcome). let x = cond (ltb (length former) layoutCells) (refusedAt 8 0) o in cond (eqb (x .refusal) 0) (cellsOf (x .former) ++ drop layoutCells former) former) e

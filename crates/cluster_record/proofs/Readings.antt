@@ -1,29 +1,28 @@
 -- What was read so far: which tags come next, and what holds of every reading that no fault has ended.
 -- Assumes nothing.
-use Prim.Native.Nat.{ℕ, zero, suc, _+_, _-_, _*_, _/_, _%_, _^_, _≤_, _<_}
+use Prim.Native.Nat.{ℕ, zero, suc, _+_, _-_, _*_, _/_, _%_, _≤_, _<_}
 use mathlib.Core.Path.{_≡_, refl, sym, ap, ap₂, _∙_, subst}
-use mathlib.Core.Bool.{Bool, true, false, not, _||_}
-use mathlib.Core.List.{List, [], _∷_, _++_}
-use mathlib.Core.Logic.{_⊎_, inl, inr, ⊎-elim}
+use mathlib.Core.Bool.{true, not}
+use mathlib.Core.List.{List, [], _∷_}
+use mathlib.Core.Logic.{_⊎_, ⊎-elim}
 use native.Mathlib.Omega.{arith}
 use lib.Dec.{ltb, leb, eqb}
-use lib.ListN.{length, getD, length-append}
+use lib.ListN.{length, length-append}
 use borrow.Author.Tests.{ltb-false, leb-false, eqb-false, not-false, lt-ltb, le-ltb}
-use Rattle.sums.specs.Sum.{pick}
 use Rattle.sums.proofs.Sum.{lt-or-ge}
-use Rattle.sets.specs.Bits.{bit, memberOf, withOf}
+use Rattle.sets.specs.ModelBits.{memberOf, withOf}
 use Rattle.sets.proofs.Laws.{bit-true, bit-with-same, bit-with-other}
-use Rattle.cluster.specs.Limits.{mostBits, mostCopies, mostNodes, rowCells, bufferRows}
+use Rattle.cluster.specs.Terms.{mostBits, mostCopies, mostNodes, bufferRows, partitions, Layout, row, idsOf, mem, rising}
 use Rattle.cluster.specs.declared.Node.{Node}
-use Rattle.cluster.specs.Terms.{Topology, partitions, Layout, row, idsOf, mem, rising, IsFormer}
-use Rattle.cluster.specs.Faults.{Accepted}
+use Rattle.cluster.specs.TermsReading.{Accepted}
 use Rattle.cluster.proofs.Lists.{rising-none}
 use Rattle.fields.specs.RecordField.{ruleOf, numberAt, Whole}
 use Rattle.fields.proofs.RecordField.{with-tag, no-tag}
 use Rattle.cluster_record.specs.RecordClusterFaults.{Item, BitsOf, ReplicationOf, RedundancyOf, OneNode, FormerRow, nodeIn, idsAt, itemIn, Reading, beginning, allowedAfter, withItem, upTo, formerWith, readingWith, outside, lastOf, unordered, tooMany, faultIn}
-use Rattle.cluster_record.proofs.Items.{neither, item-bits, item-replication, item-redundancy, item-node, item-five, length-ids, ids-snoc, rising-snoc, faults-none}
+use Rattle.sums.proofs.Tests.{neither}
+use Rattle.cluster_record.proofs.Items.{item-bits, item-replication, item-redundancy, item-node, item-five, length-ids, ids-snoc, rising-snoc, faults-none}
 use Rattle.cluster_record.proofs.FieldFaults.{few-partitions}
-use Rattle.cluster_record.proofs.Rows.{every-snoc, row-upTo, length-next, length-upTo}
+use Rattle.cluster_record.proofs.Rows.{every-snoc, row-upTo, length-next}
 
 -- ---- the tags allowed next
 

@@ -1,19 +1,16 @@
 -- Rows that are padded with empty ones, one row more, and the cells of both.
 -- Assumes nothing.
 use Prim.Native.Nat.{ℕ, zero, suc, _+_, _-_, _*_, _/_, _%_, _≤_, _<_}
-use mathlib.Core.Path.{_≡_, refl, sym, ap, ap₂, _∙_, subst}
+use mathlib.Core.Path.{_≡_, refl, sym, ap, ap₂, _∙_}
 use mathlib.Core.List.{List, [], _∷_, _++_}
-use mathlib.Core.Logic.{_⊎_, inl, inr, ⊎-elim}
-use native.Mathlib.Nat.{add-zero}
+use mathlib.Core.Logic.{_⊎_, ⊎-elim}
 use native.Mathlib.Omega.{arith}
 use lib.ListN.{length, getD, replicate, length-append, length-replicate, List·getD-append, List·getD-eq-default}
 use lib.Seq.{getD-append-add, getD-at, ext-getD}
 use Rattle.sums.proofs.Sum.{lt-or-ge}
-use Rattle.cells.specs.Cells.{put}
+use Rattle.cells.specs.ModelCells.{put}
 use Rattle.cells.proofs.Cells.{length-put, getD-put-in, getD-put-out}
-use Rattle.cluster.specs.Limits.{rowCells, bufferRows, layoutCells}
-use Rattle.cluster.specs.Terms.{Layout, row}
-use Rattle.cluster.specs.TermsCells.{cellsOf}
+use Rattle.cluster.specs.Terms.{rowCells, bufferRows, layoutCells, Layout, row, cellsOf}
 use Rattle.cluster.proofs.CellLayouts.{length-cellsOf, getD-cellsOf}
 use Rattle.fields.specs.RecordField.{numberAt}
 use Rattle.cluster_record.specs.RecordClusterFaults.{Item, idsAt, itemIn, upTo, formerWith}

@@ -1,24 +1,16 @@
 -- A cluster in its slots, with what a field says.
 -- Assumes nothing.
-use Prim.Native.Nat.{ℕ, zero, suc, _+_, _-_, _≤_, _<_}
-use mathlib.Core.Path.{_≡_, refl, sym, ap, ap₂, _∙_}
+use Prim.Native.Nat.{ℕ, suc, _+_, _-_, _<_}
+use mathlib.Core.Path.{_≡_, sym, ap, ap₂, _∙_}
 use mathlib.Core.List.{List, [], _∷_, _++_, append-assoc}
 use native.Mathlib.Omega.{arith}
-use lib.ListN.{length, take, set, replicate, length-append, length-replicate}
-use lib.Seq.{take-append-seam, set-append-seam}
-use Rattle.cluster.specs.Limits.{mostNodes}
+use lib.ListN.{length, set, replicate, length-append}
+use lib.Seq.{set-append-seam}
+use Rattle.cluster.specs.Terms.{mostNodes, Topology, noNode}
 use Rattle.cluster.specs.declared.Cluster.{Cluster}
 use Rattle.cluster.specs.declared.Node.{Node}
-use Rattle.cluster.specs.Terms.{Topology, topology, noNode}
 use Rattle.cluster_record.specs.RecordClusterFaults.{BitsOf, ReplicationOf, RedundancyOf, OneNode, withItem}
-use Rattle.cluster_record.specs.RecordClusterAnswer.{slotsOf}
-
--- The nodes in use are those of the cluster.
-pub topology-slots : (t : Topology) → topology (slotsOf t) ≡ t
-unfolding slotsOf
-topology-slots t =
-    ap (λ (l : List Node). record { bits = t .bits; replication = t .replication; redundancy = t .redundancy; nodes = l })
-    (take-append-seam (t .nodes) (replicate (mostNodes - length (t .nodes)) noNode))
+use Rattle.cluster.specs.TermsReading.{slotsOf}
 
 module _ (t : Topology) (c : Cluster) (e : c ≡ slotsOf t) where
   pub slots-bits : (k : ℕ) → record { bits = k; replication = c .replication; redundancy = c .redundancy; count = c .count; nodes = c .nodes } ≡ slotsOf (withItem t (BitsOf k))

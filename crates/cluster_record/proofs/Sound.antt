@@ -2,24 +2,23 @@
 -- Assumes nothing.
 use Prim.Native.Nat.{ℕ, zero, suc, _+_, _-_, _*_, _/_, _^_, _≤_, _<_}
 use mathlib.Core.Path.{_≡_, refl, sym, ap, ap₂, _∙_, subst}
-use mathlib.Core.Bool.{Bool, true, false, not}
+use mathlib.Core.Bool.{Bool, true, false, not, cond}
 use mathlib.Core.List.{List, [], _∷_, _++_, append-assoc, append-nil}
 use native.Mathlib.Omega.{arith}
 use lib.Dec.{ltb, eqb}
 use lib.ListN.{length, take, getD}
 use lib.Seq.{take-all}
 use borrow.Author.Tests.{ltb-false}
-use Rattle.sums.specs.Sum.{pick}
 use Rattle.cluster.specs.declared.Node.{Node}
-use Rattle.cluster.specs.Limits.{mostCopies}
-use Rattle.cluster.specs.Terms.{Topology, partitions, Layout, nodeAt, noNode, row, rising, mem, IsFormer}
+use Rattle.cluster.specs.Terms.{mostCopies, Topology, partitions, Layout, noNode, rising}
 use Rattle.fields.specs.RecordField.{bytesOf, Bytes, part, numberAt, field, fieldAt, Whole}
 use Rattle.fields.specs.declared.Field.the-variants.{Body}
 use Rattle.fields.proofs.Numbers.{bytes-there, number-at-lt, part-append}
 use Rattle.fields.proofs.RecordField.{whole}
 use Rattle.cluster_record.specs.RecordCluster.{bitsField, replicationField, redundancyField, nodeField, nodeFields, idBytes, rowField, rowFields, clusterRecord, FitsRecord, IsRecord}
-use Rattle.cluster_record.specs.RecordClusterFaults.{Item, BitsOf, ReplicationOf, RedundancyOf, OneNode, FormerRow, nodeIn, idsAt, itemIn, Reading, Outcome, beginning, allowedAfter, withItem, upTo, formerWith, readingWith, unordered, faultIn, refusedAt, ended, walk, readCluster}
-use Rattle.cluster_record.proofs.Items.{neither, item-node, item-five, length-ids, faults-none}
+use Rattle.cluster_record.specs.RecordClusterFaults.{Item, BitsOf, ReplicationOf, RedundancyOf, OneNode, FormerRow, nodeIn, idsAt, itemIn, Reading, Outcome, beginning, allowedAfter, withItem, upTo, formerWith, readingWith, unordered, faultIn, refusedAt, ended, readCluster}
+use Rattle.sums.proofs.Tests.{neither}
+use Rattle.cluster_record.proofs.Items.{item-node, item-five, length-ids, faults-none}
 use Rattle.cluster_record.proofs.FieldFaults.{refused-some}
 use Rattle.cluster_record.proofs.Rows.{every-snoc, row-upTo, length-upTo}
 use Rattle.cluster_record.proofs.Walks.{walk-holds}
@@ -40,8 +39,8 @@ fits-item : (s : List ℕ) → Bytes s → (tag start len : ℕ) → FitsItem (i
 unfolding itemIn nodeIn
 fits-item s b tag start len = go (eqb tag 1) (eqb tag 2) (eqb tag 3) (eqb tag 4)
   where
-    go : (w x y z : Bool) → FitsItem (pick w (BitsOf (numberAt s start 1)) (pick x (ReplicationOf (numberAt s start 1)) (pick y (RedundancyOf (numberAt s start 1))
-        (pick z (OneNode (nodeIn s start)) (FormerRow (numberAt s start 2) (idsAt s (start + 2) ((len - 2) / 4)))))))
+    go : (w x y z : Bool) → FitsItem (cond w (BitsOf (numberAt s start 1)) (cond x (ReplicationOf (numberAt s start 1)) (cond y (RedundancyOf (numberAt s start 1))
+        (cond z (OneNode (nodeIn s start)) (FormerRow (numberAt s start 2) (idsAt s (start + 2) ((len - 2) / 4)))))))
     go true x y z = tt
     go false true y z = tt
     go false false true z = tt
@@ -249,7 +248,7 @@ unfolding ended
 accepts-end s at r q h = go (ltb (r .last) 3) refl
   where
     go : (x : Bool) → ltb (r .last) 3 ≡ x
-        → Accepts s (pick x (refusedAt 7 (length s)) (record { refusal = 0; byte = 0; cluster = r .cluster; former = upTo (partitions (r .cluster)) (r .former) }))
+        → Accepts s (cond x (refusedAt 7 (length s)) (record { refusal = 0; byte = 0; cluster = r .cluster; former = upTo (partitions (r .cluster)) (r .former) }))
     go true e z = absurd (omega arith)
     go false e z = sound-end s at r q h (ltb-false (r .last) 3 e)
 

@@ -1,29 +1,27 @@
 -- What the walk over the fields has in hand at a byte: what was read so far, as a cluster in its slots and rows in their cells.
 -- Assumes nothing.
-use Prim.Native.Nat.{ℕ, zero, suc, _+_, _-_, _*_, _/_, _≤_, _<_}
+use Prim.Native.Nat.{ℕ, _+_, _-_, _/_, _≤_, _<_}
 use mathlib.Core.Path.{_≡_, refl, sym, ap, ap₂, _∙_, subst}
-use mathlib.Core.List.{List, [], _∷_, _++_}
+use mathlib.Core.List.{List}
 use native.Mathlib.Omega.{arith}
 use lib.Dec.{leb, ltb}
-use lib.ListN.{length, replicate, length-append}
+use lib.ListN.{length, replicate}
 use borrow.Author.Tests.{ltb-false, leb-false, lt-ltb, le-ltb}
-use Rattle.cluster.specs.Limits.{mostBits, mostNodes, bufferRows, layoutCells}
+use Rattle.cluster.specs.Terms.{mostBits, mostNodes, bufferRows, layoutCells, Topology, topology, partitions, Layout, mem, rising, cellsOf}
 use Rattle.cluster.specs.declared.Cluster.{Cluster}
-use Rattle.cluster.specs.Terms.{Topology, topology, partitions, Layout, mem, rising}
-use Rattle.cluster.specs.TermsCells.{cellsOf}
-use Rattle.cluster.specs.Faults.{noNodes}
+use Rattle.cluster.specs.TermsReading.{noNodes, slotsOf}
 use Rattle.cluster.proofs.CellLayouts.{length-cellsOf}
 use mathlib.Core.Bool.{not}
 use Rattle.fields.specs.RecordField.{numberAt, fieldAt, Whole}
-use Rattle.fields.specs.declared.Field.{Field}
 use Rattle.fields.specs.declared.Field.the-variants.{Body, Refused}
 use Rattle.fields.proofs.RecordField.{whole}
-use Rattle.cluster_record.specs.RecordClusterFaults.{Item, OneNode, FormerRow, nodeIn, idsAt, itemIn, Reading, Outcome, beginning, allowedAfter, withItem, formerWith, readingWith, outside, unordered, tooMany, faultIn, refusedAt, ended, walk, readCluster}
-use Rattle.cluster_record.specs.RecordClusterAnswer.{slotsOf, answerOf}
-use Rattle.cluster_record.proofs.Items.{neither, item-node, item-five, faults-none}
+use Rattle.cluster_record.specs.RecordClusterFaults.{OneNode, FormerRow, nodeIn, idsAt, itemIn, Reading, Outcome, beginning, allowedAfter, withItem, formerWith, readingWith, outside, unordered, tooMany, faultIn, refusedAt, ended, walk, readCluster}
+use Rattle.cluster_record.specs.RecordClusterAnswer.{answerOf}
+use Rattle.sums.proofs.Tests.{neither}
+use Rattle.cluster_record.proofs.Items.{item-node, item-five, faults-none}
 use Rattle.cluster_record.proofs.FieldFaults.{few-partitions, refused-some}
 use Rattle.cluster_record.proofs.Rows.{cells-none, cells-upTo}
-use Rattle.cluster_record.proofs.Slots.{topology-slots}
+use Rattle.cluster.proofs.Slots.{topology-slots}
 use Rattle.cluster_record.proofs.Walks.{walk-ends, walk-refused, walk-fault, walk-on}
 use Rattle.cluster_record.proofs.Readings.{Kind, kind, tag-range, row-bytes, ten-bytes, Well, well-beginning, well-step}
 

@@ -2,14 +2,12 @@
 -- Assumes nothing.
 use Prim.Native.Nat.{ℕ, zero, suc, _+_, _-_, _≤_, _<_}
 use mathlib.Core.Path.{_≡_, refl, sym, ap, _∙_, subst}
-use mathlib.Core.Bool.{Bool}
+use mathlib.Core.Bool.{Bool, cond}
 use mathlib.Core.List.{List}
 use mathlib.Core.Logic.{⊎-elim}
 use native.Mathlib.Omega.{arith}
-use lib.Dec.{leb, eqb}
 use lib.ListN.{length}
 use borrow.Author.Tests.{le-leb, lt-leb, eq-eqb, ne-eqb}
-use Rattle.sums.specs.Sum.{pick}
 use Rattle.sums.proofs.Sum.{lt-or-ge, eq-or-ne}
 use Rattle.fields.specs.RecordField.{fieldAt}
 use Rattle.fields.specs.declared.Field.{Field}
@@ -26,7 +24,7 @@ module _ (s : List ℕ) (at k : ℕ) (r : Reading) where
       go : (k : ℕ) → walk k s at r ≡ ended s r
       go zero = refl
       go (suc k) =
-          ap (λ (b : Bool). pick b (ended s r) (afterField (λ next q. walk k s next q) s at r (fieldAt s at (allowedAfter (r .last)) 0)))
+          ap (λ (b : Bool). cond b (ended s r) (afterField (λ next q. walk k s next q) s at r (fieldAt s at (allowedAfter (r .last)) 0)))
           (le-leb (length s) at h)
 
   module _ (more : at < length s) (enough : length s ≤ at + k) where
@@ -36,7 +34,7 @@ module _ (s : List ℕ) (at k : ℕ) (r : Reading) where
     walk-field =
         let e : k ≡ suc (k - 1) = omega arith in
         ap (λ (j : ℕ). walk j s at r) e
-        ∙ ap (λ (b : Bool). pick b (ended s r) (afterField (λ next q. walk (k - 1) s next q) s at r (fieldAt s at (allowedAfter (r .last)) 0)))
+        ∙ ap (λ (b : Bool). cond b (ended s r) (afterField (λ next q. walk (k - 1) s next q) s at r (fieldAt s at (allowedAfter (r .last)) 0)))
         (lt-leb (length s) at more)
 
     -- A field that cannot be taken whole ends the walk.
@@ -55,7 +53,7 @@ module _ (s : List ℕ) (at k : ℕ) (r : Reading) where
       walk-fault h =
           let n = faultIn (r .cluster) (length (r .former)) (itemIn s tag start len) in
           walk-body
-          ∙ ap (λ (b : Bool). pick b (walk (k - 1) s (start + len) (readingWith r tag (itemIn s tag start len))) (refusedAt n at)) (ne-eqb n 0 h)
+          ∙ ap (λ (b : Bool). cond b (walk (k - 1) s (start + len) (readingWith r tag (itemIn s tag start len))) (refusedAt n at)) (ne-eqb n 0 h)
 
       -- and one without a fault is taken in, and the walk goes on after it.
       pub walk-on : faultIn (r .cluster) (length (r .former)) (itemIn s tag start len) ≡ 0
@@ -64,7 +62,7 @@ module _ (s : List ℕ) (at k : ℕ) (r : Reading) where
       walk-on h =
           let n = faultIn (r .cluster) (length (r .former)) (itemIn s tag start len) in
           walk-body
-          ∙ ap (λ (b : Bool). pick b (walk (k - 1) s (start + len) (readingWith r tag (itemIn s tag start len))) (refusedAt n at)) (eq-eqb n 0 h)
+          ∙ ap (λ (b : Bool). cond b (walk (k - 1) s (start + len) (readingWith r tag (itemIn s tag start len))) (refusedAt n at)) (eq-eqb n 0 h)
 
 -- What holds at every byte that the walk comes to, and of every way in which it can end, holds of its outcome.
 module _ (s : List ℕ) (Q : ℕ → Reading → Type 0) (A : Outcome → Type 0)

@@ -4,10 +4,9 @@ use Prim.Native.Nat.{ℕ, suc, _+_, _*_, _^_, _<_}
 use mathlib.Core.Path.{_≡_}
 use mathlib.Core.List.{List, [], _∷_, _++_}
 use lib.ListN.{getD}
-use Rattle.cluster.specs.Limits.{mostNodes, bufferRows}
+use Rattle.cluster.specs.Terms.{mostNodes, bufferRows, Topology, Layout, nodeAt, row, IsFormer}
 use Rattle.cluster.specs.declared.Node.{Node}
-use Rattle.cluster.specs.Terms.{Topology, Layout, nodeAt, row, IsFormer}
-use Rattle.cluster.specs.Faults.{Accepted}
+use Rattle.cluster.specs.TermsReading.{Accepted}
 unfoldable pub use Rattle.fields.specs.RecordField.{idBytes}
 use Rattle.fields.specs.RecordField.{bytesOf, field}
 

@@ -2,16 +2,14 @@
 -- document 01. "Box" in the papers is a node here.
 -- Assumes nothing.
 use Prim.Native.Nat.{ℕ, zero, suc, _+_, _-_, _/_}
-use mathlib.Core.Bool.{Bool, false, not, _||_}
+use mathlib.Core.Bool.{Bool, false, not, _||_, cond}
 use mathlib.Core.List.{List, [], _∷_, _++_}
 use lib.Dec.{ltb, leb, eqb}
 use lib.ListN.{length, replicate}
-use Rattle.sums.specs.Sum.{pick}
-use Rattle.sets.specs.Bits.{withOf}
-use Rattle.cluster.specs.Limits.{mostBits, mostCopies, mostNodes}
+use Rattle.sets.specs.ModelBits.{withOf}
+use Rattle.cluster.specs.Terms.{mostBits, mostCopies, mostNodes, Topology, topology, partitions, Layout, idsOf, mem, rising}
 use Rattle.cluster.specs.declared.Node.{Node}
-use Rattle.cluster.specs.Terms.{Topology, topology, partitions, Layout, idsOf, mem, rising}
-use Rattle.cluster.specs.Faults.{noNodes}
+use Rattle.cluster.specs.TermsReading.{noNodes}
 unfoldable pub use Rattle.fields.specs.RecordField.{idsAt}
 use Rattle.fields.specs.RecordField.{numberAt, fieldAt}
 use Rattle.fields.specs.declared.Field.{Field}
@@ -34,10 +32,10 @@ nodeIn s start = record { id = numberAt s start 4; zone = numberAt s (start + 4)
 -- The values in a body of s that begins at byte `start`, by the field's tag.
 unfoldable pub itemIn : List ℕ → ℕ → ℕ → ℕ → Item
 itemIn s tag start len =
-    pick (eqb tag 1) (BitsOf (numberAt s start 1))
-    (pick (eqb tag 2) (ReplicationOf (numberAt s start 1))
-    (pick (eqb tag 3) (RedundancyOf (numberAt s start 1))
-    (pick (eqb tag 4) (OneNode (nodeIn s start))
+    cond (eqb tag 1) (BitsOf (numberAt s start 1))
+    (cond (eqb tag 2) (ReplicationOf (numberAt s start 1))
+    (cond (eqb tag 3) (RedundancyOf (numberAt s start 1))
+    (cond (eqb tag 4) (OneNode (nodeIn s start))
     -- "2 + 4m: partition 2, then m rising ids"
     (FormerRow (numberAt s start 2) (idsAt s (start + 2) ((len - 2) / 4))))))
 
@@ -55,8 +53,8 @@ beginning = record { last = 0; cluster = topology noNodes; former = [] }
 -- "1 bits, 2 replication, 3 redundancy, once each in this order; then 4 box; then 5 former row": the set of the tags allowed next.
 unfoldable pub allowedAfter : ℕ → ℕ
 allowedAfter last =
-    pick (ltb last 3) (withOf 0 (last + 1))
-    (pick (ltb last 5) (withOf (withOf 0 4) 5) (withOf 0 5))
+    cond (ltb last 3) (withOf 0 (last + 1))
+    (cond (ltb last 5) (withOf (withOf 0 4) 5) (withOf 0 5))
 
 -- A cluster with what a field says.
 unfoldable pub withItem : Topology → Item → Topology
@@ -114,7 +112,7 @@ tooMany t (FormerRow p ids) = false
 
 -- The first fault of what a field says; 0 where there is none.
 unfoldable pub faultIn : Topology → ℕ → Item → ℕ
-faultIn t next i = pick (outside t i) 4 (pick (unordered t next i) 5 (pick (tooMany t i) 6 0))
+faultIn t next i = cond (outside t i) 4 (cond (unordered t next i) 5 (cond (tooMany t i) 6 0))
 
 -- ---- the walk
 
@@ -132,14 +130,14 @@ refusedAt refusal byte = record { refusal = refusal; byte = byte; cluster = topo
 -- At the end of the bytes: "7: the end comes before field 3 is read; the byte given is the record's length." Else the record is accepted.
 unfoldable pub ended : List ℕ → Reading → Outcome
 ended s r =
-    pick (ltb (r .last) 3) (refusedAt 7 (length s))
+    cond (ltb (r .last) 3) (refusedAt 7 (length s))
     (record { refusal = 0; byte = 0; cluster = r .cluster; former = upTo (partitions (r .cluster)) (r .former) })
 
 -- "field by field, the first fault decides", with the byte at which the field begins; without fault the reading goes on after the field.
 unfoldable pub afterField : (ℕ → Reading → Outcome) → List ℕ → ℕ → Reading → Field → Outcome
 afterField go s at r (Refused refusal byte) = refusedAt refusal byte
 afterField go s at r (Body tag start len) =
-    pick (eqb (faultIn (r .cluster) (length (r .former)) (itemIn s tag start len)) 0)
+    cond (eqb (faultIn (r .cluster) (length (r .former)) (itemIn s tag start len)) 0)
     (go (start + len) (readingWith r tag (itemIn s tag start len)))
     (refusedAt (faultIn (r .cluster) (length (r .former)) (itemIn s tag start len)) at)
 
@@ -147,7 +145,7 @@ afterField go s at r (Body tag start len) =
 unfoldable pub walk : ℕ → List ℕ → ℕ → Reading → Outcome
 walk zero s at r = ended s r
 walk (suc k) s at r =
-    pick (leb (length s) at) (ended s r)
+    cond (leb (length s) at) (ended s r)
     (afterField (λ next q. walk k s next q) s at r (fieldAt s at (allowedAfter (r .last)) 0))
 
 -- Reading the record s into a buffer that is long enough.

@@ -1,13 +1,11 @@
 // The faults of what a field says, in the paper's order: a value outside its range, an id or partition not rising, too
 // many nodes; 0 where there is none.
 ghost use mathlib.Core.Path.{_≡_};
-ghost use mathlib.Core.Bool.{_||_};
+ghost use mathlib.Core.Bool.{_||_, cond};
 ghost use Prim.Native.Nat.{_+_, _≤_, _<_};
 ghost use lib.Dec.{ltb, leb, eqb};
 ghost use lib.ListN.{length};
-ghost use Rattle.sums.specs.Sum.{pick};
-ghost use Rattle.cluster.specs.Limits.{mostBits, mostNodes};
-ghost use Rattle.cluster.specs.Terms.{topology, idsOf};
+ghost use Rattle.cluster.specs.Terms.{mostBits, mostNodes, topology, idsOf};
 ghost use Rattle.cluster_record.specs.RecordClusterFaults.{itemIn, lastOf, faultIn};
 use super::row_faults;
 use cluster::Cluster;
@@ -15,7 +13,7 @@ use cluster::refusal;
 
 // Of a number from `least` to `most`.
 fn number_fault(least: u32, most: u32, value: u32) -> u32
-    ensures { λ r. ⌜ r ≡ pick (ltb value least || ltb most value) 4 0 ⌝ }
+    ensures { λ r. ⌜ r ≡ cond (ltb value least || ltb most value) 4 0 ⌝ }
 {
     if value < least {
         return refusal::RANGE;
@@ -40,7 +38,7 @@ fn last_id(c: Cluster) -> u32
 
 // Of a node's id, after nodes the last of which has the id `last`.
 fn node_fault(count: usize, last: u32, id: u32) -> u32
-    ensures { λ r. ⌜ r ≡ pick (eqb id 0) 4 (pick (leb id last) 5 (pick (leb mostNodes count) 6 0)) ⌝ }
+    ensures { λ r. ⌜ r ≡ cond (eqb id 0) 4 (cond (leb id last) 5 (cond (leb mostNodes count) 6 0)) ⌝ }
 {
     if id == 0 {
         return refusal::RANGE;

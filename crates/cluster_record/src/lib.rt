@@ -1,8 +1,7 @@
 // Reading a cluster record: bytes to a cluster and the cells of its former layout.
 ghost use mathlib.Core.Path.{_≡_};
-ghost use lib.ListN.{length, replicate};
-ghost use Rattle.cluster.specs.Limits.{layoutCells};
-ghost use Rattle.cluster.specs.TermsCells.{cellsOf};
+ghost use lib.ListN.{replicate};
+ghost use Rattle.cluster.specs.Terms.{layoutCells, cellsOf};
 ghost use Rattle.cluster_record.specs.RecordClusterFaults.{allowedAfter, refusedAt, readCluster};
 ghost use Rattle.cluster_record.specs.RecordClusterAnswer.{answerOf, readAnswer, formerAfter};
 use cluster::Cluster;

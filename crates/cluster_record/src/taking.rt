@@ -3,13 +3,11 @@ ghost use mathlib.Core.Path.{_≡_};
 ghost use mathlib.Core.List.{_++_};
 ghost use Prim.Native.Nat.{ℕ, _+_, _-_, _*_, _/_, _≤_, _<_};
 ghost use lib.ListN.{length, drop};
-ghost use Rattle.cells.specs.Cells.{put};
-ghost use Rattle.cluster.specs.Limits.{mostNodes, rowCells, bufferRows, layoutCells};
-ghost use Rattle.cluster.specs.Terms.{Topology, Layout};
-ghost use Rattle.cluster.specs.TermsCells.{cellsOf};
+ghost use Rattle.cells.specs.ModelCells.{put};
+ghost use Rattle.cluster.specs.Terms.{mostNodes, rowCells, bufferRows, layoutCells, Topology, Layout, cellsOf};
 ghost use Rattle.fields.specs.RecordField.{numberAt};
 ghost use Rattle.cluster_record.specs.RecordClusterFaults.{itemIn, withItem, formerWith};
-ghost use Rattle.cluster_record.specs.RecordClusterAnswer.{slotsOf};
+ghost use Rattle.cluster.specs.TermsReading.{slotsOf};
 use cluster::Cluster;
 use cluster::Node;
 

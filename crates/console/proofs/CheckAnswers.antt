@@ -1,8 +1,8 @@
 -- What check and figures answer through C, from what each call on the way answers.
 -- Assumes nothing.
 use Prim.Native.Nat.{ℕ, _/_, _%_, _^_, _≤_, _<_}
-use mathlib.Core.Path.{_≡_, refl, sym, ap, _∙_}
-use mathlib.Core.List.{List, [], _∷_, _++_}
+use mathlib.Core.Path.{_≡_, ap, _∙_}
+use mathlib.Core.List.{List, [], _∷_}
 use lib.ListN.{length}
 use borrow.Author.Tests.{lt-ltb, le-ltb, eq-eqb, ne-eqb}
 use Rattle.cluster_record.specs.declared.ReadCluster.{ReadCluster}
@@ -10,7 +10,7 @@ use Rattle.layouts.specs.TermsCheck.{fault, checkOf}
 use Rattle.layouts.specs.TermsFigures.{figuresOf, figuresIn}
 use Rattle.layouts.specs.declared.check.Checked.{Checked}
 use Rattle.layouts.specs.declared.figures.Figured.{Figured}
-use Rattle.console.specs.TermsConsole.{halves, answered, reading, checked, checkRefusal, checkAnswer, figured, figuresLeft, figuresRefusal, figuresAfter, figuresAnswer}
+use Rattle.console.specs.TermsConsole.{answered, reading, checked, checkRefusal, checkAnswer, figured, figuresLeft, figuresRefusal, figuresAfter, figuresAnswer}
 
 module _ (r : ReadCluster) (assignment : List ℕ) (size : ℕ) where
   pub checked-refused : (r .refusal ≡ 0 → ⊥) → fault (r .refusal) 0 ≡ checked r assignment size

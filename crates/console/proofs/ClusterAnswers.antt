@@ -1,14 +1,15 @@
 -- What reading a cluster answers through C, from what each call on the way answers.
 -- Assumes nothing.
 use Prim.Native.Nat.{ℕ, _-_, _/_, _%_, _^_, _≤_, _<_}
-use mathlib.Core.Path.{_≡_, refl, sym, ap, _∙_, subst}
+use mathlib.Core.Path.{_≡_, sym, ap, _∙_, subst}
 use mathlib.Core.List.{List, [], _∷_, _++_}
 use native.Mathlib.Omega.{arith}
 use lib.ListN.{length, take, drop, replicate, length-append, length-replicate}
 use lib.Seq.{drop-drop}
 use borrow.Author.Tests.{lt-ltb, le-ltb}
 use Rattle.cluster.specs.Terms.{Topology, noNode}
-use Rattle.cluster_record.specs.RecordClusterAnswer.{slotsOf, outcomeOf, answerOf, readAnswer, formerAfter}
+use Rattle.cluster.specs.TermsReading.{slotsOf}
+use Rattle.cluster_record.specs.RecordClusterAnswer.{outcomeOf, answerOf, readAnswer, formerAfter}
 use Rattle.cluster_record.specs.declared.ReadCluster.{ReadCluster}
 use Rattle.cluster_record.proofs.Answers.{long-answer}
 use Rattle.console.specs.TermsConsole.{answered, reading, nodeCells, clusterNumbers, readClusterRefusal, readClusterFormer, readClusterAnswer}

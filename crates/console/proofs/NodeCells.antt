@@ -6,7 +6,7 @@ use mathlib.Core.List.{List, [], _∷_, _++_, append-assoc, append-nil}
 use native.Mathlib.Numerals.{add-one}
 use native.Mathlib.Omega.{arith}
 use lib.ListN.{length, take, drop, getD, set, length-append, length-drop, take-append-drop}
-use lib.Seq.{length-take-le, take-suc, take-at, take-all, drop-append-add, drop-drop, sets, sets-eq}
+use lib.Seq.{length-take-le, take-suc, take-at, take-all, drop-append-add, drop-drop, sets-eq}
 use Rattle.cluster.specs.declared.Node.{Node}
 use Rattle.cluster.specs.Terms.{noNode}
 use Rattle.console.specs.TermsConsole.{nodeCells}

@@ -1,15 +1,15 @@
 -- What planning answers through C, from what each call on the way answers.
 -- Assumes nothing.
 use Prim.Native.Nat.{ℕ, _/_, _%_, _^_, _≤_, _<_}
-use mathlib.Core.Path.{_≡_, refl, sym, ap, _∙_}
-use mathlib.Core.Bool.{Bool, true, false}
+use mathlib.Core.Path.{_≡_, refl, ap, _∙_}
+use mathlib.Core.Bool.{Bool, true, false, cond}
 use mathlib.Core.List.{List, [], _∷_, _++_, append-nil}
 use native.Mathlib.Omega.{arith}
 use lib.Dec.{eqb}
-use lib.ListN.{length, drop, replicate, length-replicate, drop-of-length-le}
+use lib.ListN.{length, replicate, length-replicate, drop-of-length-le}
 use borrow.Author.Tests.{lt-ltb, le-ltb, eq-eqb, ne-eqb, eqb-true}
-use Rattle.sums.specs.Sum.{pick, one-if}
-use Rattle.cluster.specs.TermsCells.{cellsOf}
+use Rattle.sums.specs.TermsSums.{one-if}
+use Rattle.cluster.specs.Terms.{cellsOf}
 use Rattle.cluster_record.specs.RecordClusterFaults.{readCluster}
 use Rattle.cluster_record.specs.RecordClusterAnswer.{answerOf, readAnswer, formerAfter}
 use Rattle.cluster_record.specs.declared.ReadCluster.{ReadCluster}
@@ -36,10 +36,10 @@ module _ (r : ReadCluster) (former : List ℕ) (allowance : ℕ) (assignment scr
   planned-read e p a z e-p e-a e-z = let t = eq-eqb (r .refusal) 0 e in (simp t e-p, simp t e-a, simp t e-z)
 
 -- What is chosen only for an accepted reading need be the same only for that.
-chosen : {A : Type 0} (h : List ℕ → A) (x : A) (f g : List ℕ) (n : ℕ) → (n ≡ 0 → f ≡ g) → pick (eqb n 0) (h f) x ≡ pick (eqb n 0) (h g) x
+chosen : {A : Type 0} (h : List ℕ → A) (x : A) (f g : List ℕ) (n : ℕ) → (n ≡ 0 → f ≡ g) → cond (eqb n 0) (h f) x ≡ cond (eqb n 0) (h g) x
 chosen {A} h x f g n e = go (eqb n 0) refl
   where
-    go : (b : Bool) → eqb n 0 ≡ b → pick b (h f) x ≡ pick b (h g) x
+    go : (b : Bool) → eqb n 0 ≡ b → cond b (h f) x ≡ cond b (h g) x
     go true q = ap h (e (eqb-true n 0 q))
     go false q = refl
 

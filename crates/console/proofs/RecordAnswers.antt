@@ -1,10 +1,9 @@
 -- What reading and writing records answer through C, from what each call on the way answers.
 -- Assumes nothing.
 use Prim.Native.Nat.{ℕ, _/_, _%_, _^_, _≤_, _<_}
-use mathlib.Core.Path.{_≡_, refl, sym, ap, _∙_}
-use mathlib.Core.List.{List, [], _∷_, _++_}
-use lib.ListN.{length, take, drop}
-use lib.Seq.{drop-drop}
+use mathlib.Core.Path.{_≡_, ap, _∙_}
+use mathlib.Core.List.{List, [], _∷_}
+use lib.ListN.{length}
 use borrow.Author.Tests.{lt-ltb, le-ltb}
 use Rattle.layout_record.specs.RecordLayoutAnswer.{readAnswer as readLayoutOf, assignmentAfter, writeAnswer, outAfter}
 use Rattle.layout_record.specs.declared.Numbers.{Numbers}

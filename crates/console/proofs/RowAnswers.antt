@@ -1,17 +1,15 @@
 -- What showing a row answers through C: the eight cells, copied.
 -- Assumes nothing.
 use Prim.Native.Nat.{ℕ, _*_, _≤_, _<_}
-use mathlib.Core.Path.{_≡_, refl, sym, ap, _∙_}
-use mathlib.Core.Bool.{Bool, true, false}
-use mathlib.Core.List.{List, [], _∷_, _++_}
+use mathlib.Core.Path.{_≡_, refl, ap, _∙_}
+use mathlib.Core.Bool.{Bool, true, false, cond}
+use mathlib.Core.List.{List, [], _++_}
 use native.Mathlib.Omega.{arith}
 use lib.Dec.{ltb, leb, eqb}
-use lib.ListN.{length, take, drop, length-drop}
+use lib.ListN.{length, drop, length-drop}
 use lib.Seq.{length-take-le}
 use borrow.Author.Tests.{lt-ltb, le-ltb, ltb-false, leb-false}
-use Rattle.sums.specs.Sum.{pick}
-use Rattle.cluster.specs.Limits.{rowCells, bufferRows, layoutCells}
-use Rattle.cluster.specs.TermsCells.{rowAt}
+use Rattle.cluster.specs.Terms.{rowCells, bufferRows, layoutCells, rowAt}
 use Rattle.layouts.specs.TermsShow.{shown, showCode}
 use Rattle.console.specs.TermsConsole.{answered, rowRefusal, rowAfter}
 use Rattle.console.proofs.Answered.{answered-long}
@@ -23,8 +21,8 @@ module _ (cells : List ℕ) (p : ℕ) (row : List ℕ) where
 
   -- The row taken from cells that are there, or nothing, by the two tests.
   go : 8 ≤ length row → (a : Bool) → ltb (length cells) layoutCells ≡ a → (b : Bool) → leb bufferRows p ≡ b
-      → answered (length (pick a [] (pick b [] (rowAt cells p)))) (pick a [] (pick b [] (rowAt cells p))) row
-      ≡ pick (eqb (pick a 8 (pick b 4 0)) 0) (rowAt cells p ++ drop rowCells row) row
+      → answered (length (cond a [] (cond b [] (rowAt cells p)))) (cond a [] (cond b [] (rowAt cells p))) row
+      ≡ cond (eqb (cond a 8 (cond b 4 0)) 0) (rowAt cells p ++ drop rowCells row) row
   go h true e b f = answered-long 0 [] row (omega arith)
   go h false e true f = answered-long 0 [] row (omega arith)
   go h false e false f =

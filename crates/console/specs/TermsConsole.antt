@@ -5,9 +5,9 @@ use Prim.Native.Nat.{ℕ, _/_, _%_, _^_}
 use mathlib.Core.List.{List, [], _∷_, _++_}
 use lib.Dec.{ltb, eqb}
 use lib.ListN.{length, drop}
-use Rattle.sums.specs.Sum.{pick, one-if}
-use Rattle.cluster.specs.Limits.{rowCells}
-use Rattle.cluster.specs.TermsCells.{rowAt, cellsOf}
+use mathlib.Core.Bool.{cond}
+use Rattle.sums.specs.TermsSums.{one-if}
+use Rattle.cluster.specs.Terms.{rowCells, rowAt, cellsOf}
 use Rattle.cluster.specs.declared.Node.{Node}
 use Rattle.cluster_record.specs.RecordClusterFaults.{readCluster}
 use Rattle.cluster_record.specs.RecordClusterAnswer.{answerOf, readAnswer, formerAfter}
@@ -31,7 +31,7 @@ halves x = x / 2 ^ 32 ∷ x % 2 ^ 32 ∷ []
 
 -- What is answered, or left in a lent slice, where the cells `answer` are at least n; with fewer the first of the two.
 abbrev pub unlessShort : {A : Type 0} → ℕ → List ℕ → A → A → A
-unlessShort n answer short x = pick (ltb (length answer) n) short x
+unlessShort n answer short x = cond (ltb (length answer) n) short x
 
 -- Lent cells that take n numbers: these from cell 0 on, the rest kept; with fewer than n cells nothing is touched.
 unfoldable pub answered : ℕ → List ℕ → List ℕ → List ℕ
@@ -84,7 +84,7 @@ reading s = answerOf (readCluster s)
 
 -- "reading's refusals come before the operation's": r is the reading.
 unfoldable pub checked : ReadCluster → List ℕ → ℕ → Checked
-checked r assignment size = pick (eqb (r .refusal) 0) (checkOf (r .cluster) assignment size) (fault (r .refusal) 0)
+checked r assignment size = cond (eqb (r .refusal) 0) (checkOf (r .cluster) assignment size) (fault (r .refusal) 0)
 
 unfoldable pub checkRefusal : List ℕ → List ℕ → ℕ → List ℕ → ℕ
 checkRefusal s assignment size answer = unlessShort 3 answer 8 (checked (reading s) assignment size .refusal)
@@ -97,10 +97,10 @@ checkAnswer s assignment size answer =
 -- The same of the figures.
 unfoldable pub figured : ReadCluster → List ℕ → ℕ → List ℕ → Figured
 figured r assignment size figures =
-    pick (eqb (r .refusal) 0) (figuresOf (r .cluster) assignment size figures) (record { refusal = r .refusal; place = 0; hope = 0 })
+    cond (eqb (r .refusal) 0) (figuresOf (r .cluster) assignment size figures) (record { refusal = r .refusal; place = 0; hope = 0 })
 
 unfoldable pub figuresLeft : ReadCluster → List ℕ → ℕ → List ℕ → List ℕ
-figuresLeft r assignment size figures = pick (eqb (r .refusal) 0) (figuresIn (r .cluster) assignment size figures) figures
+figuresLeft r assignment size figures = cond (eqb (r .refusal) 0) (figuresIn (r .cluster) assignment size figures) figures
 
 unfoldable pub figuresRefusal : List ℕ → List ℕ → ℕ → List ℕ → List ℕ → ℕ
 figuresRefusal s assignment size figures answer = unlessShort 5 answer 8 (figured (reading s) assignment size figures .refusal)
@@ -123,16 +123,16 @@ formerIn s = cellsOf (readCluster s .former)
 -- The same of planning: r is the reading, `former` the cells of its former layout; of scratch only its length matters.
 unfoldable pub planned : ReadCluster → List ℕ → ℕ → ℕ → ℕ → Planned
 planned r former allowance assignment scratch =
-    pick (eqb (r .refusal) 0) (plannedOf (r .cluster) former allowance assignment scratch) (refusedWith (r .refusal))
+    cond (eqb (r .refusal) 0) (plannedOf (r .cluster) former allowance assignment scratch) (refusedWith (r .refusal))
 
 -- "assignment and scratch as planning lays down; kept when reading refuses"
 unfoldable pub plannedAssignment : ReadCluster → List ℕ → ℕ → List ℕ → ℕ → List ℕ
 plannedAssignment r former allowance assignment scratch =
-    pick (eqb (r .refusal) 0) (assignmentPlanned (r .cluster) former allowance assignment scratch) assignment
+    cond (eqb (r .refusal) 0) (assignmentPlanned (r .cluster) former allowance assignment scratch) assignment
 
 unfoldable pub plannedScratch : ReadCluster → List ℕ → ℕ → List ℕ → List ℕ
 plannedScratch r former assignment scratch =
-    pick (eqb (r .refusal) 0) (scratchAfter (r .cluster) former assignment scratch) scratch
+    cond (eqb (r .refusal) 0) (scratchAfter (r .cluster) former assignment scratch) scratch
 
 unfoldable pub planRefusal : List ℕ → ℕ → List ℕ → List ℕ → List ℕ → ℕ
 planRefusal s allowance assignment scratch answer =
@@ -159,7 +159,7 @@ rowRefusal assignment p row = unlessShort rowCells row 8 (showCode assignment p)
 
 -- "takes the row's eight cells; refused, row keeps what was lent"
 unfoldable pub rowAfter : List ℕ → ℕ → List ℕ → List ℕ
-rowAfter assignment p row = pick (eqb (rowRefusal assignment p row) 0) (rowAt assignment p ++ drop rowCells row) row
+rowAfter assignment p row = cond (eqb (rowRefusal assignment p row) 0) (rowAt assignment p ++ drop rowCells row) row
 
 -- ---- writing a layout
 

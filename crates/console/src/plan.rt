@@ -1,7 +1,7 @@
 // Plans, made through C.
 ghost use mathlib.Core.Path.{_≡_};
 ghost use lib.ListN.{length};
-ghost use Rattle.sums.specs.Sum.{one-if};
+ghost use Rattle.sums.specs.TermsSums.{one-if};
 ghost use Rattle.console.specs.TermsConsole.{planned, plannedAssignment, plannedScratch, planRefusal, planAssignment, planScratch, planAnswer};
 use super::answers;
 use cluster::Cluster;

@@ -13,18 +13,19 @@ use lib.Dec.{ltb, eqb}
 use lib.ListN.{length, getD, set, take, drop}
 use lib.Seq.{getD-take, getD-drop}
 use borrow.Author.Tests.{lt-ltb, le-ltb}
-use Rattle.sums.specs.Sum.{is}
+use Rattle.sums.specs.ModelSums.{is}
 use Rattle.sums.proofs.Sum.{lt-or-ge, is-eq}
-use Rattle.cells.specs.Cells.{put}
+use Rattle.cells.specs.ModelCells.{put}
 use Rattle.cells.proofs.Cells.{getD-put-in, put-cong}
-use Rattle.sets.specs.Bits.{bit, memberOf, withOf, leastOf}
+use Rattle.sets.specs.ModelBits.{bit, memberOf, withOf, leastOf}
 use Rattle.sets.proofs.Laws.{bit-le, bit-zero, bit-true, bit-false, bit-with, bit-without, least-some, least-at}
-use Rattle.exchange.specs.Levels as levels
-use Rattle.exchange.specs.Levels.{Graph, Outcome, Potential, Cycle, fell, back, way, closes, firstFrom, search-from, outcome, cycleLength}
-use Rattle.exchange.proofs.Levels.{from-node, true-or-false}
+use Rattle.exchange.specs.ModelLevels as levels
+use Rattle.exchange.specs.ModelLevels.{Graph, Outcome, Potential, Cycle, fell, back, way, closes, firstFrom, search-from, outcome, cycleLength}
+use Rattle.exchange.proofs.Levels.{from-node}
+use Rattle.sums.proofs.Tests.{true-or-false}
 use Rattle.exchange.proofs.Search.{open-next, Closing, closing, first-is-none, first-some, first-none, first-cases, way-next, way-stays, way-self, way-le, back-next, back-fell, back-node}
 use Rattle.cycles.specs.ModelFound.{endLength, endWalk}
-use Rattle.cycles.specs.Turns.{before, closer, trail, trailLength}
+use Rattle.cycles.specs.ModelTurns.{before, closer, trail, trailLength}
 use Rattle.cycles.proofs.Parts.{before-fallen, before-stayed}
 use Rattle.cycles.proofs.States.{State, Next}
 

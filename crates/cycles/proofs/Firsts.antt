@@ -5,7 +5,7 @@ use mathlib.Core.Path.{_≡_, sym, ap, _∙_}
 use mathlib.Core.Bool.{Bool, true, false, cond}
 use native.Mathlib.Numerals.{add-one}
 use native.Mathlib.Omega.{arith}
-use Rattle.exchange.specs.Levels.{firstFrom}
+use Rattle.exchange.specs.ModelLevels.{firstFrom}
 
 module _ (t : ℕ → Bool) (n i : ℕ) where
   one-more : i < n → firstFrom t (n - i) i ≡ cond (t i) i (firstFrom t (n - (i + 1)) (i + 1))

@@ -1,7 +1,7 @@
 -- What the search's answer means: no cycle is found where there is a potential, and what is found is a simple negative cycle.
 -- Assumes nothing.
-use Prim.Native.Nat.{ℕ, zero, suc, _+_, _-_, _*_, _≤_, _<_}
-use mathlib.Core.Path.{_≡_, refl, sym, ap, ap₂, _∙_, subst}
+use Prim.Native.Nat.{ℕ, suc, _+_, _-_, _≤_, _<_}
+use mathlib.Core.Path.{_≡_, refl, sym, ap, ap₂, _∙_}
 use mathlib.Core.Bool.{Bool, true, false, cond, _&&_, false≢true}
 use mathlib.Core.List.{List}
 use mathlib.Core.Logic.{_⊎_, inl, inr, ⊎-elim}
@@ -10,13 +10,12 @@ use native.Mathlib.Omega.{arith}
 use lib.Dec.{leb}
 use lib.ListN.{length, getD}
 use borrow.Author.Tests.{le-leb, leb-true}
-use Rattle.sums.specs.Sum.{sumTo}
 use Rattle.sums.proofs.Sum.{lt-or-ge, sum-cong}
-use Rattle.cells.specs.Cells.{put}
+use Rattle.cells.specs.ModelCells.{put}
 use Rattle.cells.proofs.Cells.{length-put, getD-put-in, getD-put-out}
-use Rattle.exchange.specs.Levels.{Graph, Outcome, Potential, Cycle, dist, back, outcome, cycleLength, IsPotential, IsCycle}
-use Rattle.exchange.proofs.Levels.{true-or-false}
-use Rattle.exchange.proofs.Search.{Stands, outcome-stands, Closing}
+use Rattle.exchange.specs.ModelLevels.{Graph, Outcome, Potential, Cycle, dist, back, outcome, cycleLength, IsPotential, IsCycle}
+use Rattle.sums.proofs.Tests.{true-or-false}
+use Rattle.exchange.proofs.Search.{Stands, outcome-stands}
 use Rattle.cycles.specs.ModelGraph.{graphOf}
 use Rattle.cycles.specs.ModelFound.{searchable, endLength, endWalk, foundLength, foundWalk}
 

@@ -1,6 +1,6 @@
 -- An offer of one distance to the members of a set, member by member.
 -- Assumes nothing.
-use Prim.Native.Nat.{ℕ, zero, suc, _+_, _-_, _*_, _≤_, _<_}
+use Prim.Native.Nat.{ℕ, _-_, _≤_, _<_}
 use mathlib.Core.Path.{_≡_, refl, sym, ap, _∙_, subst}
 use mathlib.Core.Bool.{Bool, true, false, cond, _&&_}
 use mathlib.Core.List.{List}
@@ -10,12 +10,12 @@ use lib.Dec.{ltb, eqb}
 use lib.ListN.{length, getD, set}
 use lib.Seq.{getD-set-same, getD-set-other}
 use borrow.Author.Tests.{lt-ltb, le-ltb}
-use Rattle.sums.specs.Sum.{one-if}
-use Rattle.sums.proofs.Sum.{lt-or-ge, eq-or-ne}
-use Rattle.sets.specs.Bits.{bit, withOf, withoutOf, leastOf, countOf}
+use Rattle.sums.specs.TermsSums.{one-if}
+use Rattle.sums.proofs.Sum.{eq-or-ne}
+use Rattle.sets.specs.ModelBits.{bit, withOf, withoutOf, leastOf, countOf}
 use Rattle.sets.proofs.Laws.{bit-le, bit-zero, bit-with-same, bit-with-other, bit-without, bit-without-same, bit-without-other, least-some, least-at, least-taken}
-use Rattle.exchange.specs.Levels.{Fall}
-use Rattle.cycles.specs.Turns.{Held, Turns, offered}
+use Rattle.exchange.specs.ModelLevels.{Fall}
+use Rattle.cycles.specs.ModelTurns.{Held, Turns, offered}
 
 -- An offer that is not made changes nothing.
 pub offered-not : (c u : ℕ) (f : Fall) → offered 0 c u f ≡ f

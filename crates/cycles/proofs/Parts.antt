@@ -10,11 +10,11 @@ use native.Mathlib.Omega.{arith}
 use lib.Dec.{eqb}
 use lib.ListN.{getD, set}
 use borrow.Author.Tests.{eq-eqb, ne-eqb}
-use Rattle.cells.specs.Cells.{put}
+use Rattle.cells.specs.ModelCells.{put}
 use Rattle.cells.proofs.Cells.{put-next}
-use Rattle.sets.specs.Bits.{memberOf, withoutOf}
-use Rattle.exchange.specs.Levels.{firstFrom}
-use Rattle.cycles.specs.Turns.{before, closer, trail, trailLength}
+use Rattle.sets.specs.ModelBits.{memberOf, withoutOf}
+use Rattle.exchange.specs.ModelLevels.{firstFrom}
+use Rattle.cycles.specs.ModelTurns.{before, closer, trail, trailLength}
 use Rattle.cycles.proofs.Firsts.{first-hit, first-miss, first-end}
 
 -- ---- ways

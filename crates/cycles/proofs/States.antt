@@ -1,30 +1,27 @@
 -- What a search holds at a level, and how a sweep, the ways that grow and the trace back lead from it to the next level or to the end.
 -- Assumes nothing.
-use Prim.Native.Nat.{ℕ, zero, suc, _+_, _-_, _*_, _≤_, _<_, min, max}
-use mathlib.Core.Path.{_≡_, refl, sym, ap, ap₂, _∙_, subst}
-use mathlib.Core.Bool.{Bool, true, false, cond, _&&_, false≢true}
+use Prim.Native.Nat.{ℕ, zero, suc, _+_, _-_, _*_, _≤_, _<_}
+use mathlib.Core.Path.{_≡_, refl, sym, ap, _∙_, subst}
+use mathlib.Core.Bool.{Bool, true, false}
 use mathlib.Core.List.{List}
-use mathlib.Core.Logic.{_⊎_, inl, inr, ⊎-elim}
+use mathlib.Core.Logic.{_⊎_, ⊎-elim}
 use native.Mathlib.Nat.{mul-one, zero-add}
 use native.Mathlib.Numerals.{add-one}
 use native.Mathlib.Omega.{arith}
-use lib.Dec.{ltb, eqb}
+use lib.Dec.{eqb}
 use lib.ListN.{length, getD}
-use borrow.Author.Tests.{lt-ltb, le-ltb, eq-eqb, ne-eqb, ltb-true, eqb-true}
-use Rattle.sums.specs.Sum.{one-if, is}
+use Rattle.sums.specs.TermsSums.{one-if}
 use Rattle.sums.proofs.Sum.{lt-or-ge}
-use Rattle.cells.specs.Cells.{put}
+use Rattle.cells.specs.ModelCells.{put}
 use Rattle.cells.proofs.Cells.{getD-put-in}
-use Rattle.sets.specs.Bits.{bit, memberOf, withOf, withoutOf, meetOf, belowOf, leastOf}
-use Rattle.sets.proofs.Laws.{bit-le, bit-zero, bit-true, member-true, member-false, bit-meet, meet-lt, bit-below, bit-below-not, bit-with, bit-without, least-some, least-at}
-use Rattle.exchange.specs.Levels as levels
-use Rattle.exchange.specs.Levels.{Graph, Fall, Outcome, Potential, Cycle, relax, scan, level, fell, back, closes, firstFrom, search-from, outcome, cycleLength}
-use Rattle.exchange.proofs.Levels.{level-skip, dist-room, dist-le, fell-lt, from-node, true-or-false}
-use Rattle.exchange.proofs.Search.{Open, open-zero, open-next, Closing, closing, first-is-none, first-some, first-none, first-cases, way-next, way-stays, way-self, way-le, back-next, back-fell, back-node}
+use Rattle.sets.specs.ModelBits.{bit, memberOf, withOf, belowOf}
+use Rattle.sets.proofs.Laws.{bit-zero, bit-true, bit-below, bit-with}
+use Rattle.exchange.specs.ModelLevels as levels
+use Rattle.exchange.specs.ModelLevels.{Graph, Fall, relax, scan, level, fell}
+use Rattle.exchange.proofs.Levels.{level-skip, dist-room, dist-le, fell-lt}
+use Rattle.exchange.proofs.Search.{Open, open-zero}
 use Rattle.cycles.specs.ModelGraph.{graphOf}
-use Rattle.cycles.specs.ModelFound.{endLength, endWalk}
-use Rattle.cycles.specs.Turns.{Held, Descended, before, closer, trail, trailLength}
-use Rattle.cycles.proofs.Parts.{before-fallen, before-stayed}
+use Rattle.cycles.specs.ModelTurns.{Held, Descended}
 
 -- ---- tests that agree
 

@@ -1,7 +1,7 @@
 -- A look at the arcs of a node is three offers, and a sweep is a scan at every node.
 -- Assumes nothing.
 use Prim.Native.Nat.{ℕ, zero, suc, _+_, _-_, _*_, _≤_, _<_, max}
-use mathlib.Core.Path.{_≡_, refl, sym, ap, ap₂, _∙_, subst}
+use mathlib.Core.Path.{_≡_, refl, sym, ap, _∙_, subst}
 use mathlib.Core.Bool.{Bool, true, false, cond, _&&_}
 use mathlib.Core.List.{List, _++_}
 use mathlib.Core.Logic.{⊎-elim}
@@ -11,13 +11,13 @@ use lib.Dec.{ltb, eqb}
 use lib.ListN.{length, getD, take, List·getD-append}
 use lib.Seq.{length-take-le, getD-append-add, getD-take}
 use borrow.Author.Tests.{lt-ltb, le-ltb, eq-eqb}
-use Rattle.sums.specs.Sum.{one-if}
+use Rattle.sums.specs.TermsSums.{one-if}
 use Rattle.sums.proofs.Sum.{lt-or-ge}
-use Rattle.sets.specs.Bits.{bit, memberOf, meetOf, belowOf}
+use Rattle.sets.specs.ModelBits.{bit, memberOf, meetOf, belowOf}
 use Rattle.sets.proofs.Laws.{bit-le, bit-zero, bit-meet, bit-below, bit-below-not}
-use Rattle.exchange.specs.Levels.{Graph, Fall, relax, scan}
+use Rattle.exchange.specs.ModelLevels.{Fall, relax, scan}
 use Rattle.cycles.specs.ModelGraph.{graphOf, arcOf, weightOf}
-use Rattle.cycles.specs.Turns.{Held, Turns, Swept, Descended, offered}
+use Rattle.cycles.specs.ModelTurns.{Held, Turns, Swept, Descended, offered}
 use Rattle.cycles.proofs.Offers.{offered-not, offered-less, offered-more}
 
 -- What was offered stands no higher.

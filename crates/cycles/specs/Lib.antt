@@ -1,3 +1,3 @@
 pub mod ModelGraph
 pub mod ModelFound
-pub mod Turns
+pub mod ModelTurns

@@ -5,8 +5,8 @@ use mathlib.Core.Bool.{Bool, cond, _&&_}
 use mathlib.Core.List.{List}
 use lib.Dec.{leb}
 use lib.ListN.{length}
-use Rattle.cells.specs.Cells.{put}
-use Rattle.exchange.specs.Levels.{Graph, Outcome, Potential, Cycle, back, outcome, cycleLength}
+use Rattle.cells.specs.ModelCells.{put}
+use Rattle.exchange.specs.ModelLevels.{Graph, Outcome, Potential, Cycle, back, outcome, cycleLength}
 use Rattle.cycles.specs.ModelGraph.{graphOf}
 
 -- Whether there is something to search, and room for the walk.

@@ -5,8 +5,8 @@ use Prim.Native.Nat.{ℕ, _+_, max}
 use mathlib.Core.Bool.{cond}
 use mathlib.Core.List.{List}
 use lib.ListN.{getD}
-use Rattle.sets.specs.Bits.{bit, memberOf}
-use Rattle.exchange.specs.Levels.{Graph}
+use Rattle.sets.specs.ModelBits.{bit, memberOf}
+use Rattle.exchange.specs.ModelLevels.{Graph}
 
 -- 1 where one of the three masks of u has v.
 unfoldable pub arcOf : List ℕ → ℕ → ℕ → ℕ

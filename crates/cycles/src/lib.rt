@@ -3,12 +3,12 @@ ghost use mathlib.Core.Path.{_≡_};
 ghost use mathlib.Core.Bool.{true};
 ghost use Prim.Native.Nat.{ℕ, _+_, _≤_, _<_};
 ghost use lib.ListN.{length, getD};
-ghost use Rattle.cells.specs.Cells.{put};
-ghost use Rattle.sets.specs.Bits.{bit, memberOf, withOf};
-ghost use Rattle.exchange.specs.Levels.{relax, outcome};
+ghost use Rattle.cells.specs.ModelCells.{put};
+ghost use Rattle.sets.specs.ModelBits.{bit, memberOf, withOf};
+ghost use Rattle.exchange.specs.ModelLevels.{relax, outcome};
 ghost use Rattle.cycles.specs.ModelFound.{endLength, endWalk, foundLength, foundWalk};
 ghost use Rattle.cycles.specs.ModelGraph.{graphOf};
-ghost use Rattle.cycles.specs.Turns.{offered, Turns, Swept, Descended, before, closer, trail, trailLength};
+ghost use Rattle.cycles.specs.ModelTurns.{offered, Turns, Swept, Descended, before, closer, trail, trailLength};
 
 // Offers distance c from node u to the members of m, where all stand at top or below. The members that take it are set in fell, which is returned.
 fn offer(top: u32, m: u32, c: u32, u: u32, fell: u32, next: &mut [u32], row: &mut [u32]) -> u32

@@ -8,7 +8,7 @@ use native.Mathlib.Nat.{two-pow-succ, pow-zero}
 use native.Mathlib.Omega.{arith}
 use lib.Pow.{pow-pos}
 use Rattle.sums.proofs.Sum.{lt-or-ge}
-use Rattle.dealing.specs.Bisect.{bisectFrom, bisect, Largest}
+use Rattle.dealing.specs.ModelBisect.{bisectFrom, bisect, Largest}
 
 -- A test that every number from 1 up passes which is below one that passes it.
 abbrev pub Falling : (ℕ → Bool) → Type 0

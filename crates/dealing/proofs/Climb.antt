@@ -5,9 +5,10 @@ use mathlib.Core.Path.{_≡_, sym, ap, _∙_}
 use mathlib.Core.Logic.{⊎-elim}
 use native.Mathlib.Nat.{add-zero, mul-le-mul-left}
 use native.Mathlib.Omega.{arith}
-use Rattle.sums.specs.Sum.{sumTo, is}
+use Rattle.sums.specs.TermsSums.{sumTo}
+use Rattle.sums.specs.ModelSums.{is}
 use Rattle.sums.proofs.Sum.{eq-or-ne, is-times, not-times, sum-cong, sum-le, sum-swap, sum-is}
-use Rattle.dealing.specs.Deal.{inZone, pour, zoned}
+use Rattle.dealing.specs.ModelDeal.{inZone, pour, zoned}
 
 -- A rising function.
 abbrev pub Rising : (ℕ → ℕ) → Type 0

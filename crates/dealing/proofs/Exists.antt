@@ -7,10 +7,11 @@ use native.Mathlib.Nat.{mul-comm, mul-one}
 use native.Mathlib.Omega.{arith}
 use lib.Dec.{leb}
 use borrow.Author.Tests.{leb-true, le-leb}
-use Rattle.sums.specs.Sum.{sumTo, is}
+use Rattle.sums.specs.TermsSums.{sumTo}
+use Rattle.sums.specs.ModelSums.{is}
 use Rattle.sums.proofs.Sum.{sum-cong, sum-le, sum-const, sum-scale, sum-swap}
-use Rattle.exchange.specs.Row.{zoneCount, cover, Within, copies}
-use Rattle.dealing.specs.Deal.{inZone, Fits, fits, given, start, dealt}
+use Rattle.exchange.specs.ModelRow.{zoneCount, cover, Within, copies}
+use Rattle.dealing.specs.ModelDeal.{inZone, Fits, fits, given, start, dealt}
 use Rattle.dealing.proofs.Climb.{inZone-le}
 use Rattle.dealing.proofs.Turns.{turns, turns-whole}
 use Rattle.dealing.proofs.Line.{among-le, zoneCount-inZone, line, line-copies, line-row, line-cover, line-end}

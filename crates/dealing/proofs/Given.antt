@@ -5,9 +5,9 @@ use Prim.Native.Nat.{ℕ, _+_, _-_, _*_, _≤_, _<_, min}
 use mathlib.Core.Path.{_≡_, sym, _∙_}
 use native.Mathlib.Nat.{mul-le-mul-right}
 use native.Mathlib.Omega.{arith}
-use Rattle.sums.specs.Sum.{sumTo}
+use Rattle.sums.specs.TermsSums.{sumTo}
 use Rattle.sums.proofs.Sum.{sum-cong, sum-le, sum-add}
-use Rattle.dealing.specs.Deal.{inZone, pour, zoned, first, more, given}
+use Rattle.dealing.specs.ModelDeal.{inZone, pour, zoned, first, more, given}
 use Rattle.dealing.proofs.Climb.{pour-le, pour-sum, zones-sum, inZone-le, zoned-sum}
 
 module _ (P N R : ℕ) (zone cap : ℕ → ℕ) where

@@ -9,10 +9,11 @@ use native.Mathlib.Nat.{zero-add, mul-zero, mul-one, mul-comm, add-mul-div-right
 use native.Mathlib.Omega.{arith}
 use lib.Dec.{ltb}
 use borrow.Author.Tests.{ltb-true, ltb-false}
-use Rattle.sums.specs.Sum.{sumTo, is, one-if}
+use Rattle.sums.specs.TermsSums.{sumTo, one-if}
+use Rattle.sums.specs.ModelSums.{is}
 use Rattle.sums.proofs.Sum.{eq-or-ne, is-times, not-times, sum-cong, sum-le, sum-add, sum-scale, sum-upto}
-use Rattle.exchange.specs.Row.{zoneCount, cover, copies}
-use Rattle.dealing.specs.Deal.{inZone, light, heavy, zoneStart, start, among}
+use Rattle.exchange.specs.ModelRow.{zoneCount, cover, copies}
+use Rattle.dealing.specs.ModelDeal.{inZone, light, heavy, zoneStart, start, among}
 use Rattle.dealing.proofs.Climb.{climb, climb-sum, climb-none, zones-sum}
 use Rattle.dealing.proofs.Turns.{turns, turns-rising, turns-none, turns-round, turns-among, turns-sum, turns-ge}
 

@@ -6,10 +6,10 @@ use native.Mathlib.Nat.{one-le-mul}
 use native.Mathlib.Omega.{arith}
 use lib.Pow.{pow-pos, pow-lt}
 use Rattle.sums.proofs.Sum.{lt-or-ge, sum-le, sum-zero}
-use Rattle.exchange.specs.Row.{Within}
-use Rattle.dealing.specs.Deal.{Fits, fits, dealt}
-use Rattle.dealing.specs.Bisect.{Largest}
-use Rattle.dealing.specs.Size.{bestSize, Caps, Best}
+use Rattle.exchange.specs.ModelRow.{Within}
+use Rattle.dealing.specs.ModelDeal.{Fits, fits, dealt}
+use Rattle.dealing.specs.ModelBisect.{Largest}
+use Rattle.dealing.specs.ModelSize.{bestSize, Caps, Best}
 use Rattle.dealing.proofs.Bisect.{bisect-largest}
 use Rattle.dealing.proofs.Exists.{fits-true, true-fits, fits-rising, needed, enough}
 

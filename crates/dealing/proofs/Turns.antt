@@ -8,9 +8,9 @@ use native.Mathlib.Omega.{arith}
 use lib.Arith.{digits-div, digits-mod}
 use lib.Dec.{ltb}
 use borrow.Author.Tests.{lt-ltb, le-ltb}
-use Rattle.sums.specs.Sum.{sumTo, one-if}
+use Rattle.sums.specs.TermsSums.{sumTo, one-if}
 use Rattle.sums.proofs.Sum.{lt-or-ge, sum-add, sum-const}
-use Rattle.dealing.specs.Deal.{among}
+use Rattle.dealing.specs.ModelDeal.{among}
 use Rattle.dealing.proofs.Climb.{Rising}
 
 -- How many k < x have k % P equal to p.

@@ -1,3 +1,3 @@
-pub mod Deal
-pub mod Bisect
-pub mod Size
+pub mod ModelDeal
+pub mod ModelBisect
+pub mod ModelSize

@@ -9,7 +9,7 @@ use native.Mathlib.Omega.{arith}
 use lib.ListN.{length}
 use Rattle.sums.proofs.Sum.{eq-or-ne}
 use Rattle.cluster.specs.Terms.{Topology, partitions, idsOf, mem, risingFrom, rising, Layout, row, ValidAt}
-use Rattle.cluster.proofs.CellRows.{both}
+use Rattle.sums.proofs.Tests.{both}
 use Rattle.cluster.proofs.Lists.{mem-head, mem-tail, mem-none, mem-cases, rising-tail, rising-above}
 use Rattle.examples.specs.ModelExamples.{every, choices, before, layoutsOf, candidates}
 

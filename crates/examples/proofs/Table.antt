@@ -8,10 +8,10 @@ use mathlib.Core.List.{List, [], _∷_}
 use native.Mathlib.Omega.{arith}
 use lib.Dec.{leb, eqb}
 use borrow.Author.Tests.{leb-true, eqb-true, eq-eqb, not-true}
-use Rattle.sums.specs.Sum.{sumTo, one-if}
+use Rattle.sums.specs.TermsSums.{sumTo, one-if}
 use Rattle.sums.proofs.Sum.{lt-or-ge}
 use Rattle.cluster.specs.Terms.{Topology, idsOf, mem, risingFrom, rising, different, zonesNamed, Layout, copiesIn, ValidAt, onlyIn, distance}
-use Rattle.cluster.proofs.CellRows.{both}
+use Rattle.sums.proofs.Tests.{both}
 use Rattle.examples.specs.TermsExamples.{Rows, HasRows, Outcome, no-layout, planned, Comes, Example, Holds, table, EveryHolds, Table}
 use Rattle.examples.specs.ModelExamples.{every, some, implies, choices, before, layoutsOf, candidates, rowTest, nodeTest, validTest, acceptedTest, formerRowTest, formerTest, sameRow, sameLayout, rowsTest, nearest, agrees, outcomeTest, passes}
 use Rattle.examples.proofs.Listing.{candidate}

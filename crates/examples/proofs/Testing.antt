@@ -10,10 +10,9 @@ use native.Mathlib.Omega.{arith}
 use lib.Dec.{ltb, leb, eqb}
 use lib.ListN.{length, getD}
 use borrow.Author.Tests.{ltb-true, lt-ltb, leb-true, le-leb, eqb-true, eq-eqb}
-use Rattle.cluster.specs.Limits.{mostBits, mostCopies, mostNodes}
-use Rattle.cluster.specs.Terms.{Topology, partitions, noNode, nodeAt, idsOf, mem, rising, zonesOf, Layout, row, copiesIn, ValidRow, ValidAt, IsFormer}
-use Rattle.cluster.specs.Faults.{Accepted}
-use Rattle.cluster.proofs.CellRows.{both}
+use Rattle.cluster.specs.Terms.{mostBits, mostCopies, mostNodes, Topology, partitions, noNode, nodeAt, idsOf, mem, rising, zonesOf, Layout, row, copiesIn, ValidRow, ValidAt, IsFormer}
+use Rattle.cluster.specs.TermsReading.{Accepted}
+use Rattle.sums.proofs.Tests.{both}
 use Rattle.cluster.proofs.Lists.{mem-head, mem-tail, mem-none, mem-cases}
 use Rattle.examples.specs.TermsExamples.{Rows, unnamed, named, HasRows}
 use Rattle.examples.specs.ModelExamples.{every, rowTest, nodeTest, validTest, acceptedTest, formerRowTest, formerTest, sameRow, sameLayout, rowsTest}

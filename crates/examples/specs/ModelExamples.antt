@@ -6,8 +6,7 @@ use mathlib.Core.Bool.{Bool, true, false, not, _&&_, _||_}
 use mathlib.Core.List.{List, [], _∷_, _++_, map}
 use lib.Dec.{ltb, leb, eqb}
 use lib.ListN.{length}
-use Rattle.cluster.specs.Limits.{mostBits, mostCopies, mostNodes}
-use Rattle.cluster.specs.Terms.{Topology, partitions, idsOf, mem, rising, zonesOf, Layout, copiesIn, distance}
+use Rattle.cluster.specs.Terms.{mostBits, mostCopies, mostNodes, Topology, partitions, idsOf, mem, rising, zonesOf, Layout, copiesIn, distance}
 use Rattle.cluster.specs.declared.Node.{Node}
 use Rattle.examples.specs.TermsExamples.{Rows, unnamed, named, Outcome, no-layout, planned, Example}
 

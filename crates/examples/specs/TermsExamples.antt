@@ -7,7 +7,7 @@ use mathlib.Core.Path.{_≡_}
 use mathlib.Core.List.{List, [], _∷_}
 use lib.ListN.{replicate}
 use Rattle.cluster.specs.Terms.{Topology, Layout, ValidAt, IsSize, IsFormer, distance}
-use Rattle.cluster.specs.Faults.{Accepted}
+use Rattle.cluster.specs.TermsReading.{Accepted}
 use Rattle.cluster.specs.declared.Node.{Node}
 
 -- ---- what an example says

@@ -6,14 +6,15 @@ use mathlib.Core.Path.{_≡_, refl, sym, ap, ap₂, _∙_}
 use mathlib.Core.Bool.{Bool}
 use mathlib.Core.Logic.{inl, inr, ⊎-elim}
 use native.Mathlib.Omega.{arith}
-use Rattle.sums.specs.Sum.{sumTo, is}
+use Rattle.sums.specs.TermsSums.{sumTo}
+use Rattle.sums.specs.ModelSums.{is}
 use Rattle.sums.proofs.Sum.{sum-cong}
-use Rattle.exchange.specs.Row.{zoneCount, cover, Valid, swap, copies, weigh, Within, Agree, Exchange}
-use Rattle.exchange.specs.Swap.{fits}
-use Rattle.exchange.specs.Circuit.{Allowed, Better, turn}
-use Rattle.exchange.specs.Uncross.{Walk, uncross, improved, Right}
-use Rattle.exchange.specs.Join.{Heaviest, ExchangeGraph}
-use Rattle.exchange.specs.Levels.{Graph}
+use Rattle.exchange.specs.ModelRow.{zoneCount, cover, Valid, swap, copies, weigh, Within, Agree, Exchange}
+use Rattle.exchange.specs.ModelSwap.{fits}
+use Rattle.exchange.specs.ModelCircuit.{Allowed, Better, turn}
+use Rattle.exchange.specs.ModelUncross.{Walk, uncross, improved, Right}
+use Rattle.exchange.specs.ModelJoin.{Heaviest, ExchangeGraph}
+use Rattle.exchange.specs.ModelLevels.{Graph}
 
 -- Rows with the same bits.
 abbrev pub SameRow : ℕ → (ℕ → ℕ) → (ℕ → ℕ) → Type 0

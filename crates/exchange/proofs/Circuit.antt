@@ -8,11 +8,12 @@ use mathlib.Core.Logic.{⊎-elim}
 use native.Mathlib.Nat.{mul-le-mul-right}
 use native.Mathlib.Omega.{arith}
 use borrow.Author.Tests.{lt-ltb, le-ltb}
-use Rattle.sums.specs.Sum.{sumTo, is, hits}
+use Rattle.sums.specs.TermsSums.{sumTo}
+use Rattle.sums.specs.ModelSums.{is, hits}
 use Rattle.sums.proofs.Sum.{lt-or-ge, is-le, is-one, sum-le, sum-balance, sum-const, sum-swap, sum-first, sum-none, sum-is, sum-witness}
 use Rattle.sums.proofs.Count.{two-bits, pigeonhole}
-use Rattle.exchange.specs.Row.{Valid, Within, Agree, Exchange, swap, copies, weigh}
-use Rattle.exchange.specs.Circuit.{cost, costs, Circuit, Crossed, Uncrossed, Better, turn}
+use Rattle.exchange.specs.ModelRow.{Valid, Within, Agree, Exchange, swap, copies, weigh}
+use Rattle.exchange.specs.ModelCircuit.{cost, costs, Circuit, Crossed, Uncrossed, Better, turn}
 use Rattle.exchange.proofs.Picked.{picked, picked-at, out-le, several-at, several-sum}
 use Rattle.exchange.proofs.Several.{several-valid}
 

@@ -8,12 +8,12 @@ use mathlib.Core.Logic.{⊎-elim}
 use native.Mathlib.Omega.{arith}
 use borrow.Author.Tests.{lt-ltb, le-ltb}
 use Rattle.sums.proofs.Sum.{lt-or-ge, sum-cong, sum-const}
-use Rattle.exchange.specs.Row.{Within}
-use Rattle.exchange.specs.Prices.{Potential as LayoutPotential}
-use Rattle.exchange.specs.Circuit.{cost, Allowed, Circuit, Better}
-use Rattle.exchange.specs.Levels.{Graph, Outcome, Potential, Cycle, back, cycleLength, outcome, dist, IsPotential, IsCycle}
-use Rattle.exchange.specs.Uncross.{Right, improved}
-use Rattle.exchange.specs.Join.{ExchangeGraph, cycleWalk, improves, nextLayout, Heaviest, Settles}
+use Rattle.exchange.specs.ModelRow.{Within}
+use Rattle.exchange.specs.ModelPrices.{Potential as LayoutPotential}
+use Rattle.exchange.specs.ModelCircuit.{cost, Allowed, Circuit, Better}
+use Rattle.exchange.specs.ModelLevels.{Graph, Outcome, Potential, Cycle, back, cycleLength, outcome, dist, IsPotential, IsCycle}
+use Rattle.exchange.specs.ModelUncross.{Right, improved}
+use Rattle.exchange.specs.ModelJoin.{ExchangeGraph, cycleWalk, improves, nextLayout, Heaviest, Settles}
 use Rattle.exchange.proofs.Circuit.{ends}
 use Rattle.exchange.proofs.Prices.{potential-best}
 use Rattle.exchange.proofs.Search.{Stands, outcome-stands, outcome-cycle}

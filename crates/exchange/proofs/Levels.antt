@@ -9,14 +9,10 @@ use native.Mathlib.Omega.{arith}
 use lib.Dec.{ltb, eqb}
 use borrow.Author.Tests.{ltb-true, ltb-false, eqb-true, eqb-false}
 use Rattle.sums.proofs.Sum.{lt-or-ge}
-use Rattle.exchange.specs.Levels.{Graph, Fall, relax, scan, level, dist, from, fell}
+use Rattle.sums.proofs.Tests.{true-or-false}
+use Rattle.exchange.specs.ModelLevels.{Graph, Fall, relax, scan, level, dist, from, fell}
 
 -- ---- one scan
-
--- A test holds, or not.
-pub true-or-false : (b : Bool) → (b ≡ true) ⊎ (b ≡ false)
-true-or-false true = inl refl
-true-or-false false = inr refl
 
 -- A look at the arc from u, from f to r: the arc passes, offers less, and is taken; or all stays, and if it passes, it offers no less.
 abbrev pub Looked : Graph → (ℕ → ℕ) → ℕ → ℕ → Bool → Fall → Fall → Type 0

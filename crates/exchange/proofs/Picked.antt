@@ -6,7 +6,8 @@ use mathlib.Core.Path.{_≡_, sym, ap, ap₂, _∙_}
 use mathlib.Core.Logic.{⊎-elim}
 use native.Mathlib.Nat.{mul-one, zero-mul, mul-assoc, add-mul, mul-le-mul-right}
 use native.Mathlib.Omega.{arith}
-use Rattle.sums.specs.Sum.{sumTo, is}
+use Rattle.sums.specs.TermsSums.{sumTo}
+use Rattle.sums.specs.ModelSums.{is}
 use Rattle.sums.proofs.Sum.{lt-or-ge, is-eq, is-le, is-one, sum-cong, sum-le, sum-add, sum-scale, sum-scale-right, sum-swap, sum-is, sum-term}
 use Rattle.sums.proofs.Count.{bit-times, bit-both, sum-pos, two-bits}
 

@@ -6,11 +6,12 @@ use mathlib.Core.Path.{_≡_, refl, sym, ap, _∙_}
 use mathlib.Core.Logic.{⊎-elim}
 use native.Mathlib.Nat.{mul-le-mul-left, mul-le-mul-right, mul-add, mul-assoc}
 use native.Mathlib.Omega.{arith}
-use Rattle.sums.specs.Sum.{sumTo, maxTo}
+use Rattle.sums.specs.TermsSums.{sumTo}
+use Rattle.sums.specs.ModelSums.{maxTo}
 use Rattle.sums.proofs.Sum.{lt-or-ge, sum-cong, sum-le, sum-add, sum-scale-right, sum-const, sum-swap}
 use Rattle.sums.proofs.Count.{max-ge, max-le}
-use Rattle.exchange.specs.Row.{Valid, swap, copies, weigh, Within, Agree}
-use Rattle.exchange.specs.Prices.{Prices, Potential}
+use Rattle.exchange.specs.ModelRow.{Valid, swap, copies, weigh, Within, Agree}
+use Rattle.exchange.specs.ModelPrices.{Prices, Potential}
 use Rattle.exchange.proofs.RowOptimum.{row-optimum}
 
 -- ---- one row

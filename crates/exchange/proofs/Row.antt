@@ -5,10 +5,11 @@ use mathlib.Core.Path.{_≡_, refl, sym, ap, _∙_}
 use mathlib.Core.Logic.{⊎-elim}
 use native.Mathlib.Nat.{mul-one, one-mul, add-mul, mul-assoc}
 use native.Mathlib.Omega.{arith}
-use Rattle.sums.specs.Sum.{sumTo, is}
+use Rattle.sums.specs.TermsSums.{sumTo}
+use Rattle.sums.specs.ModelSums.{is}
 use Rattle.sums.proofs.Sum.{is-eq, is-ne, is-cases, sum-cong, sum-add, sum-scale, sum-scale-right, sum-swap, sum-is, sum-term}
-use Rattle.exchange.specs.Row.{zoneCount, cover, Valid, swap}
-use Rattle.exchange.specs.Swap.{fits}
+use Rattle.exchange.specs.ModelRow.{zoneCount, cover, Valid, swap}
+use Rattle.exchange.specs.ModelSwap.{fits}
 
 -- ---- zones of a row
 

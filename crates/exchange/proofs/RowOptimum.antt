@@ -5,11 +5,12 @@ use mathlib.Core.Path.{_≡_, refl, ap}
 use mathlib.Core.Logic.{⊎-elim}
 use native.Mathlib.Nat.{mul-le-mul-left, mul-add, mul-comm}
 use native.Mathlib.Omega.{arith}
-use Rattle.sums.specs.Sum.{sumTo, maxTo}
+use Rattle.sums.specs.TermsSums.{sumTo}
+use Rattle.sums.specs.ModelSums.{maxTo}
 use Rattle.sums.proofs.Sum.{lt-or-ge, is-eq, is-cases, sum-le, sum-add, sum-scale, sum-scale-right}
 use Rattle.sums.proofs.Count.{max-ge, max-le}
-use Rattle.exchange.specs.Row.{zoneCount, cover, Valid, swap}
-use Rattle.exchange.specs.Swap.{fits}
+use Rattle.exchange.specs.ModelRow.{zoneCount, cover, Valid, swap}
+use Rattle.exchange.specs.ModelSwap.{fits}
 use Rattle.exchange.proofs.Row.{sum-zones, fits-valid}
 
 -- ---- zone by zone

@@ -8,10 +8,11 @@ use mathlib.Core.Logic.{_⊎_, inl, inr, ⊎-elim}
 use native.Mathlib.Omega.{arith}
 use lib.Dec.{ltb, eqb}
 use borrow.Author.Tests.{ltb-true, ltb-false, eqb-true, eqb-false, eq-eqb}
-use Rattle.sums.specs.Sum.{sumTo, is}
+use Rattle.sums.specs.TermsSums.{sumTo}
+use Rattle.sums.specs.ModelSums.{is}
 use Rattle.sums.proofs.Sum.{lt-or-ge, is-eq, is-one, is-le}
 use Rattle.sums.proofs.Count.{pigeonhole}
-use Rattle.exchange.specs.Levels.{Graph, Outcome, Potential, Cycle, level, dist, from, fell, back, way, closes, firstFrom, search-from, outcome, cycleLength, IsPotential, IsCycle}
+use Rattle.exchange.specs.ModelLevels.{Graph, Outcome, Potential, Cycle, level, dist, from, fell, back, way, closes, firstFrom, search-from, outcome, cycleLength, IsPotential, IsCycle}
 use Rattle.exchange.proofs.Levels.{Parent, parent, relaxed, from-node, fell-lt, stayed-eq, stayed-from, dist-mono}
 
 -- ---- the first index that passes a test

@@ -6,11 +6,12 @@ use mathlib.Core.Path.{_≡_, ap, ap₂, _∙_}
 use mathlib.Core.Logic.{⊎-elim}
 use native.Mathlib.Nat.{mul-one, mul-le-mul-left, mul-le-mul-right}
 use native.Mathlib.Omega.{arith}
-use Rattle.sums.specs.Sum.{sumTo, is}
+use Rattle.sums.specs.TermsSums.{sumTo}
+use Rattle.sums.specs.ModelSums.{is}
 use Rattle.sums.proofs.Sum.{lt-or-ge, is-eq, is-le, is-one, is-cases, sum-le, sum-add}
 use Rattle.sums.proofs.Count.{bit-times, bit-both, two-bits}
-use Rattle.exchange.specs.Row.{Valid, swap, zoneCount, cover}
-use Rattle.exchange.specs.Swap.{fits}
+use Rattle.exchange.specs.ModelRow.{Valid, swap, zoneCount, cover}
+use Rattle.exchange.specs.ModelSwap.{fits}
 use Rattle.exchange.proofs.Row.{fits-valid, valid-fits}
 use Rattle.exchange.proofs.Picked.{picked, several, picked-at, picked-pos, picked-le, picked-total, out-le, in-le, out-sum-le, several-bit, several-sum, several-size}
 

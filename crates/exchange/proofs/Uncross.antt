@@ -8,11 +8,11 @@ use native.Mathlib.Nat.{add-mul}
 use native.Mathlib.Omega.{arith}
 use lib.Dec.{ltb, eqb}
 use borrow.Author.Tests.{ltb-true, ltb-false, lt-ltb, le-ltb, le-leb, lt-leb, eqb-true, eq-eqb}
-use Rattle.sums.specs.Sum.{sumTo}
+use Rattle.sums.specs.TermsSums.{sumTo}
 use Rattle.sums.proofs.Sum.{lt-or-ge, eq-or-ne, sum-cong, sum-part, sum-but-one}
-use Rattle.exchange.specs.Row.{Within}
-use Rattle.exchange.specs.Circuit.{cost, Allowed, Crossed, Uncrossed, Better}
-use Rattle.exchange.specs.Uncross.{Walk, crosses, partner, first, skip, wrap, part, inner, outer, walk-costs, split, uncross, improved, Round, Right}
+use Rattle.exchange.specs.ModelRow.{Within}
+use Rattle.exchange.specs.ModelCircuit.{cost, Allowed, Crossed, Uncrossed, Better}
+use Rattle.exchange.specs.ModelUncross.{Walk, crosses, partner, first, skip, wrap, part, inner, outer, walk-costs, split, uncross, improved, Round, Right}
 use Rattle.exchange.proofs.Search.{first-cases, first-some, first-none}
 use Rattle.exchange.proofs.Circuit.{cost-row, exchange, turn-better}
 

@@ -8,11 +8,12 @@ use mathlib.Core.Logic.{⊎-elim}
 use native.Mathlib.Omega.{arith}
 use lib.Dec.{ltb, eqb}
 use borrow.Author.Tests.{lt-ltb, le-ltb}
-use Rattle.sums.specs.Sum.{sumTo, is, one-if}
+use Rattle.sums.specs.TermsSums.{sumTo, one-if}
+use Rattle.sums.specs.ModelSums.{is}
 use Rattle.sums.proofs.Sum.{lt-or-ge, sum-cong}
-use Rattle.exchange.specs.Levels.{firstFrom}
-use Rattle.exchange.specs.Circuit.{cost, turn}
-use Rattle.exchange.specs.Uncross.{Walk, walk, Same, crosses, partner, first, skip, wrap, part, inner, outer, walk-costs, split, uncross, improved}
+use Rattle.exchange.specs.ModelLevels.{firstFrom}
+use Rattle.exchange.specs.ModelCircuit.{cost, turn}
+use Rattle.exchange.specs.ModelUncross.{Walk, walk, Same, crosses, partner, first, skip, wrap, part, inner, outer, walk-costs, split, uncross, improved}
 use Rattle.exchange.proofs.Uncross.{skip-le, wrap-low, wrap-end, first-pair}
 
 -- ---- the steps

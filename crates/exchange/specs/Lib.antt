@@ -1,7 +1,7 @@
-pub mod Row
-pub mod Circuit
-pub mod Uncross
-pub mod Swap
-pub mod Prices
-pub mod Levels
-pub mod Join
+pub mod ModelRow
+pub mod ModelCircuit
+pub mod ModelUncross
+pub mod ModelSwap
+pub mod ModelPrices
+pub mod ModelLevels
+pub mod ModelJoin

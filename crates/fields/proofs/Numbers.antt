@@ -2,7 +2,7 @@
 -- Assumes nothing.
 use Prim.Native.Nat.{ℕ, zero, suc, _+_, _-_, _*_, _/_, _%_, _^_, _≤_, _<_}
 use mathlib.Core.Path.{_≡_, refl, sym, ap, ap₂, _∙_, subst}
-use mathlib.Core.Bool.{Bool, true, false}
+use mathlib.Core.Bool.{Bool, true, false, cond}
 use mathlib.Core.List.{List, [], _∷_, _++_}
 use mathlib.Core.Logic.{⊎-elim}
 use native.Mathlib.Nat.{add-zero, add-comm, suc-add, add-mul, zero-mul, zero-add, mul-one, mul-assoc, mul-comm, mul-le-mul-right, mod-lt, mod-eq-of-lt, div-add-mod', div-lt-iff-lt-mul, div-div-eq-div-mul, mul-add-div-right, mul-add-mod-self-right, div-eq-of-lt, pow-suc}
@@ -11,7 +11,6 @@ use lib.ListN.{length, take, drop, getD, length-append, length-drop, List·getD-
 use lib.Seq.{getD-drop, take-add, drop-drop, drop-cons, take-at, length-take-le, drop-append-seam}
 use lib.Pow.{pow-add}
 use borrow.Author.Tests.{leb-true, leb-false, le-leb, lt-leb}
-use Rattle.sums.specs.Sum.{pick}
 use Rattle.sums.proofs.Sum.{lt-or-ge}
 use Rattle.fields.specs.RecordField.{numberOf, bytesOf, Bytes, part, has, numberAt}
 
@@ -147,12 +146,12 @@ bytes-join (x ∷ l) m a b (suc i) = bytes-join l m (λ j. a (suc j)) b i
 -- The number at a byte, where its bytes are there.
 pub number-there : (s : List ℕ) (at w : ℕ) → at + w ≤ length s → numberAt s at w ≡ numberOf (part s at w)
 unfolding numberAt
-number-there s at w h = ap (λ (t : Bool). pick t (numberOf (part s at w)) 0) (has-true (length s) at w h)
+number-there s at w h = ap (λ (t : Bool). cond t (numberOf (part s at w)) 0) (has-true (length s) at w h)
 
 -- The number at a byte, where its bytes are not all there.
 pub number-none : (s : List ℕ) (at w : ℕ) → length s < at + w → numberAt s at w ≡ 0
 unfolding numberAt
-number-none s at w h = ap (λ (t : Bool). pick t (numberOf (part s at w)) 0) (has-false (length s) at w h)
+number-none s at w h = ap (λ (t : Bool). cond t (numberOf (part s at w)) 0) (has-false (length s) at w h)
 
 -- A number of v + w bytes from those of v and of w bytes.
 pub number-split : (s : List ℕ) (at v w : ℕ) → at + (v + w) ≤ length s → numberAt s at (v + w) ≡ numberAt s at v * 256 ^ w + numberAt s (at + v) w

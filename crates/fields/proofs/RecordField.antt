@@ -14,10 +14,9 @@ use lib.ListN.{length, take, drop, getD, length-append, length-drop, take-append
 use lib.Seq.{drop-cons, drop-drop, getD-drop, drop-append-seam, drop-at}
 use borrow.Author.Tests.{leb-true, le-leb, ltb-true, eqb-true, ne-eqb, eq-eqb}
 use Rattle.sums.proofs.Sum.{lt-or-ge, is-cases}
-use Rattle.sets.specs.Bits.{bit, memberOf, withOf}
+use Rattle.sets.specs.ModelBits.{bit, memberOf, withOf}
 use Rattle.sets.proofs.Laws.{bit-high, bit-zero, bit-with, bit-true, member-true, with-lt}
-use Rattle.cluster.proofs.Lists.{test-cases}
-use Rattle.cluster.proofs.CellRows.{both}
+use Rattle.sums.proofs.Tests.{true-or-false, both}
 use Rattle.fields.specs.RecordField.{bytesOf, Bytes, part, numberAt, field, noLength, rules, ruleOf, legal, legalAs, judged, fieldAt, Whole, Within}
 use Rattle.fields.specs.declared.Rule.{Rule}
 use Rattle.fields.specs.declared.Field.{Field}
@@ -95,7 +94,7 @@ legal-none tag len e =
     ⊎-elim
     (λ t. absurd
     (omega (arith, subst (λ (r : Rule). r .least ≤ len) e (legal-least tag len t), subst (λ (r : Rule). len ≤ r .greatest) e (legal-greatest tag len t))))
-    (λ f. f) (test-cases (legal tag len))
+    (λ f. f) (true-or-false (legal tag len))
 
 -- Legal where no one length is asked for.
 pub legal-any : (tag len : ℕ) → legalAs 0 tag len ≡ legal tag len
@@ -185,8 +184,8 @@ known s at allowed exact =
     (λ l. ⊎-elim (λ short. subst (Known s at allowed exact) (sym (field-body s at allowed exact head t l short)) (tt, tt))
     (λ long. subst (Known s at allowed exact) (sym (field-whole s at allowed exact head t l long)) (whole-is tag len t l long, (refl, refl)))
     (lt-or-ge (length s) (at + 3 + len)))
-    (λ l. subst (Known s at allowed exact) (sym (field-length s at allowed exact head t l)) (tt, tt)) (test-cases (legalAs exact tag len)))
-    (λ t. subst (Known s at allowed exact) (sym (field-tag s at allowed exact head t)) (tt, tt)) (test-cases (memberOf allowed tag)))
+    (λ l. subst (Known s at allowed exact) (sym (field-length s at allowed exact head t l)) (tt, tt)) (true-or-false (legalAs exact tag len)))
+    (λ t. subst (Known s at allowed exact) (sym (field-tag s at allowed exact head t)) (tt, tt)) (true-or-false (memberOf allowed tag)))
     (lt-or-ge (length s) (at + 3))
   where
     whole-is : (tag len : ℕ) → memberOf allowed tag ≡ true → legalAs exact tag len ≡ true → at + 3 + len ≤ length s → Whole (length s) at allowed exact tag (at + 3) len

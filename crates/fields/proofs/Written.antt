@@ -2,14 +2,13 @@
 -- Assumes nothing.
 use Prim.Native.Nat.{ℕ, _+_, _/_, _%_, _^_, _≤_, _<_}
 use mathlib.Core.Path.{_≡_, refl, sym, ap, ap₂, _∙_}
-use mathlib.Core.Bool.{Bool}
+use mathlib.Core.Bool.{Bool, cond}
 use mathlib.Core.List.{List, [], _∷_, _++_, append-assoc}
 use mathlib.Core.Logic.{⊎-elim}
 use native.Mathlib.Nat.{div-one}
 use native.Mathlib.Omega.{arith}
 use lib.ListN.{length, take, drop, set, length-append, length-drop}
 use lib.Seq.{take-at, drop-append-add, drop-drop, length-take-le, sets-eq}
-use Rattle.sums.specs.Sum.{pick}
 use Rattle.sums.proofs.Sum.{lt-or-ge}
 use Rattle.fields.specs.RecordField.{bytesOf, written, over}
 use Rattle.fields.proofs.Numbers.{has-true, has-false, length-bytes, bytes-append}
@@ -17,12 +16,12 @@ use Rattle.fields.proofs.Numbers.{has-true, has-false, length-bytes, by
 -- What fits is written.
 pub written-fits : (s : List ℕ) (at : ℕ) (l : List ℕ) → at + length l ≤ length s → written s at l ≡ take at s ++ l ++ drop (at + length l) s
 unfolding written
-written-fits s at l h = ap (λ (t : Bool). pick t (take at s ++ l ++ drop (at + length l) s) s) (has-true (length s) at (length l) h)
+written-fits s at l h = ap (λ (t : Bool). cond t (take at s ++ l ++ drop (at + length l) s) s) (has-true (length s) at (length l) h)
 
 -- What does not fit is not written.
 pub written-not : (s : List ℕ) (at : ℕ) (l : List ℕ) → length s < at + length l → written s at l ≡ s
 unfolding written
-written-not s at l h = ap (λ (t : Bool). pick t (take at s ++ l ++ drop (at + length l) s) s) (has-false (length s) at (length l) h)
+written-not s at l h = ap (λ (t : Bool). cond t (take at s ++ l ++ drop (at + length l) s) s) (has-false (length s) at (length l) h)
 
 -- Of no record nothing is left in a buffer.
 pub over-none : (s : List ℕ) → over [] s ≡ s

@@ -3,12 +3,11 @@
 -- Assumes nothing.
 use Prim.Native.Nat.{ℕ, zero, suc, _+_, _-_, _*_, _/_, _%_, _^_, _≤_, _<_}
 use mathlib.Core.Path.{_≡_}
-use mathlib.Core.Bool.{Bool, true, not, _&&_, _||_}
+use mathlib.Core.Bool.{Bool, true, not, _&&_, _||_, cond}
 use mathlib.Core.List.{List, [], _∷_, _++_}
 use lib.Dec.{leb, eqb}
 use lib.ListN.{length, take, drop, getD}
-use Rattle.sums.specs.Sum.{pick}
-use Rattle.sets.specs.Bits.{memberOf}
+use Rattle.sets.specs.ModelBits.{memberOf}
 use Rattle.fields.specs.declared.Rule.{Rule}
 use Rattle.fields.specs.declared.Field.{Field}
 use Rattle.fields.specs.declared.Field.the-variants.{Body, Refused}
@@ -37,11 +36,11 @@ has n at w = leb (at + w) n
 
 -- The number in the w bytes of s from byte `at` on; 0 where s does not have them all.
 unfoldable pub numberAt : List ℕ → ℕ → ℕ → ℕ
-numberAt s at w = pick (has (length s) at w) (numberOf (part s at w)) 0
+numberAt s at w = cond (has (length s) at w) (numberOf (part s at w)) 0
 
 -- s with the bytes l in the place of its own from byte `at` on; s itself where it does not have as many there.
 unfoldable pub written : List ℕ → ℕ → List ℕ → List ℕ
-written s at l = pick (has (length s) at (length l)) (take at s ++ l ++ drop (at + length l) s) s
+written s at l = cond (has (length s) at (length l)) (take at s ++ l ++ drop (at + length l) s) s
 
 -- The bytes p and then s from where they end: what a record p leaves in a buffer s.
 unfoldable pub over : List ℕ → List ℕ → List ℕ
@@ -97,15 +96,15 @@ legalAs exact tag len = legal tag len && (eqb exact 0 || eqb len exact)
 -- 1, body cut short"; else it is whole, and its body begins after the three bytes.
 unfoldable pub judged : ℕ → ℕ → ℕ → ℕ → ℕ → ℕ → Field
 judged end at allowed exact tag len =
-    pick (not (memberOf allowed tag)) (Refused 2 at)
-    (pick (not (legalAs exact tag len)) (Refused 3 at)
-    (pick (not (has end (at + 3) len)) (Refused 1 at) (Body tag (at + 3) len)))
+    cond (not (memberOf allowed tag)) (Refused 2 at)
+    (cond (not (legalAs exact tag len)) (Refused 3 at)
+    (cond (not (has end (at + 3) len)) (Refused 1 at) (Body tag (at + 3) len)))
 
 -- The field of s at byte `at`, where the tags `allowed` are allowed next: "1, one or two bytes left", then as above.
 -- "A field that cannot be taken whole ends the reading there, with the refusal and the byte at which the field begins."
 unfoldable pub fieldAt : List ℕ → ℕ → ℕ → ℕ → Field
 fieldAt s at allowed exact =
-    pick (not (has (length s) at 3)) (Refused 1 at) (judged (length s) at allowed exact (numberAt s at 1) (numberAt s (at + 1) 2))
+    cond (not (has (length s) at 3)) (Refused 1 at) (judged (length s) at allowed exact (numberAt s at 1) (numberAt s (at + 1) 2))
 
 -- What is known of a whole field in a record of n bytes.
 pub record Whole (n at allowed exact tag start len : ℕ) : Type 0 where

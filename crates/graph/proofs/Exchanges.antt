@@ -10,12 +10,12 @@ use lib.ListN.{length, getD, drop, List·getD-append}
 use lib.Seq.{drop-at}
 use borrow.Author.Tests.{lt-ltb, le-ltb}
 use Rattle.sums.proofs.Sum.{lt-or-ge}
-use Rattle.sets.specs.Bits.{bit, belowOf}
+use Rattle.sets.specs.ModelBits.{bit, belowOf}
 use Rattle.sets.proofs.Laws.{bit-le, bit-true, bit-false}
-use Rattle.cells.specs.Cells.{tab}
+use Rattle.sums.specs.TermsSums.{tab}
 use Rattle.cells.proofs.Cells.{length-tab, getD-tab}
-use Rattle.exchange.specs.Row.{Valid, Exchange, copies}
-use Rattle.swaps.specs.Mates.{Mates}
+use Rattle.exchange.specs.ModelRow.{Valid, Exchange, copies}
+use Rattle.swaps.specs.ModelMates.{Mates}
 use Rattle.cycles.specs.ModelGraph.{arcOf, weightOf}
 use Rattle.graph.specs.ModelArcs.{cellOf, arcsOf}
 use Rattle.graph.proofs.Members.{any, rowsOf, setOf, exchange-set, room-set, set-witness, cell-high, cell-none}

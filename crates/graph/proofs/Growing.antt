@@ -7,12 +7,12 @@ use mathlib.Core.Logic.{⊎-elim}
 use native.Mathlib.Omega.{arith}
 use lib.ListN.{length, getD, set, length-set}
 use lib.Seq.{getD-set-same, getD-set-other, drop-set-lt}
-use Rattle.sums.specs.Sum.{is}
+use Rattle.sums.specs.ModelSums.{is}
 use Rattle.sums.proofs.Sum.{is-eq, is-ne, is-le, is-cases}
-use Rattle.sets.specs.Bits.{bit, withoutOf, unionOf, meetOf, differenceOf, leastOf}
+use Rattle.sets.specs.ModelBits.{bit, withoutOf, unionOf, meetOf, differenceOf, leastOf}
 use Rattle.sets.proofs.Laws.{bit-le, bit-zero, bit-union, bit-meet, bit-difference, bit-without, without-lt, least-some, least-at}
 use Rattle.graph.specs.ModelArcs.{weighs, joined, noted}
-use Rattle.graph.specs.Growth.{Grown, Added}
+use Rattle.graph.specs.ModelGrowth.{Grown, Added}
 
 -- ---- sets that grow
 

@@ -10,14 +10,15 @@ use native.Mathlib.Omega.{arith}
 use lib.ListN.{getD}
 use lib.Dec.{ltb}
 use borrow.Author.Tests.{lt-ltb, ltb-true}
-use Rattle.sums.specs.Sum.{maxTo, one-if, is}
+use Rattle.sums.specs.ModelSums.{maxTo, is}
+use Rattle.sums.specs.TermsSums.{one-if}
 use Rattle.sums.proofs.Sum.{lt-or-ge, is-eq, is-le, is-one}
 use Rattle.sums.proofs.Count.{max-ge, max-le, max-at}
-use Rattle.sets.specs.Bits.{bit, belowOf}
+use Rattle.sets.specs.ModelBits.{bit, belowOf}
 use Rattle.sets.proofs.Laws.{bit-le, bit-high, bit-none, bit-maskOf, bit-mask-high, mask-lt, bit-below, bit-below-not}
-use Rattle.exchange.specs.Row.{Valid, Exchange, copies}
+use Rattle.exchange.specs.ModelRow.{Valid, Exchange, copies}
 use Rattle.swaps.specs.ModelSwaps.{targetsOf}
-use Rattle.swaps.specs.Mates.{Mates}
+use Rattle.swaps.specs.ModelMates.{Mates}
 use Rattle.swaps.proofs.Fitting.{targets-high, target-valid, valid-target}
 use Rattle.graph.specs.ModelArcs.{weighs, moves, movesTo, copiesTo, roomy, cellOf}
 

@@ -10,14 +10,14 @@ use lib.ListN.{length, getD, set, drop, take, replicate, length-append, length-d
 use lib.Seq.{ext-getD, drop-at, length-take-le, getD-take}
 use lib.Dec.{ltb}
 use borrow.Author.Tests.{lt-ltb, le-ltb}
-use Rattle.sums.specs.Sum.{sumTo, maxTo, one-if, is}
-use Rattle.sets.specs.Bits.{bit, withoutOf, leastOf}
+use Rattle.sums.specs.TermsSums.{sumTo, one-if, tab}
+use Rattle.sums.specs.ModelSums.{maxTo, is}
+use Rattle.sets.specs.ModelBits.{bit, withoutOf, leastOf}
 use Rattle.sets.proofs.Laws.{bit-le, bit-zero, mask-unique}
-use Rattle.cells.specs.Cells.{tab}
 use Rattle.cells.proofs.Cells.{length-tab, getD-tab}
 use Rattle.swaps.specs.ModelSwaps.{targetsOf}
 use Rattle.graph.specs.ModelArcs.{weighs, moves, movesTo, copiesTo, roomy, cellOf, arcsOf, joined, noted}
-use Rattle.graph.specs.Growth.{Grown, Added}
+use Rattle.graph.specs.ModelGrowth.{Grown, Added}
 use Rattle.graph.proofs.Growing.{grown-same, grown-then, grown-joined, grown-noted, slot, added-same, added-then, added-one, Left, least-word, done-more, done-grows, done-all}
 
 -- ---- the nodes of a row

@@ -1,2 +1,2 @@
 pub mod ModelArcs
-pub mod Growth
+pub mod ModelGrowth

@@ -4,9 +4,10 @@ use Prim.Native.Nat.{ℕ, _+_, _*_, _/_, _%_, min, max}
 use mathlib.Core.List.{List, _++_}
 use lib.ListN.{length, getD, set, drop}
 use lib.Dec.{ltb}
-use Rattle.sums.specs.Sum.{sumTo, maxTo, one-if, is, pick}
-use Rattle.sets.specs.Bits.{bit, maskOf, unionOf, meetOf, differenceOf}
-use Rattle.cells.specs.Cells.{tab}
+use Rattle.sums.specs.TermsSums.{sumTo, one-if, tab}
+use Rattle.sums.specs.ModelSums.{maxTo, is}
+use mathlib.Core.Bool.{cond}
+use Rattle.sets.specs.ModelBits.{bit, maskOf, unionOf, meetOf, differenceOf}
 use Rattle.swaps.specs.ModelSwaps.{targetsOf}
 
 -- 1 where the exchange of a for b, in a row that was `former`, has weight h - 1: 1 where a was there, less 1 where b was.
@@ -38,7 +39,7 @@ cellOf rows former P mates caps all z j =
 
 -- The 96 sets, in a list that has room for them.
 unfoldable pub arcsOf : List ℕ → List ℕ → ℕ → List ℕ → List ℕ → ℕ → ℕ → List ℕ → List ℕ
-arcsOf rows former P mates caps all z l = pick (ltb (length l) 96) l (tab (cellOf rows former P mates caps all z) 96 ++ drop 96 l)
+arcsOf rows former P mates caps all z l = cond (ltb (length l) 96) l (tab (cellOf rows former P mates caps all z) 96 ++ drop 96 l)
 
 -- The list with the members of s added to the set in cell i.
 unfoldable pub joined : List ℕ → ℕ → ℕ → List ℕ

@@ -5,10 +5,10 @@ ghost use mathlib.Core.Path.{_≡_};
 ghost use mathlib.Core.List.{_++_};
 ghost use Prim.Native.Nat.{ℕ, _+_, _^_, _≤_, _<_};
 ghost use lib.ListN.{length, getD, drop};
-ghost use Rattle.cells.specs.Cells.{tab};
-ghost use Rattle.sets.specs.Bits.{bit};
+ghost use Rattle.sums.specs.TermsSums.{tab};
+ghost use Rattle.sets.specs.ModelBits.{bit};
 ghost use Rattle.graph.specs.ModelArcs.{joined, noted, moves, roomy, arcsOf};
-ghost use Rattle.graph.specs.Growth.{Grown, Added};
+ghost use Rattle.graph.specs.ModelGrowth.{Grown, Added};
 
 // Writes 0 to the first 96 cells.
 fn clear(arcs: &mut [u32])

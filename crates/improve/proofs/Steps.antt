@@ -10,14 +10,14 @@ use native.Mathlib.Nat.{sub-zero}
 use lib.Dec.{eqb}
 use lib.ListN.{length, getD, replicate}
 use borrow.Author.Tests.{eq-eqb, ne-eqb}
-use Rattle.sums.specs.Sum.{sumTo}
-use Rattle.sets.specs.Bits.{belowOf, countOf, meetOf}
+use Rattle.sums.specs.TermsSums.{sumTo}
+use Rattle.sets.specs.ModelBits.{belowOf, countOf, meetOf}
 use Rattle.sets.proofs.Laws.{count-le, meet-lt}
 use Rattle.graph.specs.ModelArcs.{arcsOf}
 use Rattle.cycles.specs.ModelFound.{foundLength, foundWalk}
 use Rattle.circuits.specs.ModelCircuits.{turnedOf}
 use Rattle.circuits.proofs.Improving.{turned-length}
-use Rattle.improve.specs.Run.{Ran, later, run}
+use Rattle.improve.specs.ModelRun.{Ran, later, run}
 use Rattle.improve.specs.ModelImprove.{arcsIn, cycleIn, improvesIn, nextIn, steppedIn, ranIn, agreementIn}
 
 -- ---- one step

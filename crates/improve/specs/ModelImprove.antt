@@ -7,12 +7,12 @@ use mathlib.Core.Bool.{Bool, not, cond, _&&_, _||_}
 use mathlib.Core.List.{List}
 use lib.Dec.{eqb, ltb}
 use lib.ListN.{length, getD, replicate}
-use Rattle.sums.specs.Sum.{sumTo, pick}
-use Rattle.sets.specs.Bits.{meetOf, belowOf, countOf}
+use Rattle.sums.specs.TermsSums.{sumTo}
+use Rattle.sets.specs.ModelBits.{meetOf, belowOf, countOf}
 use Rattle.graph.specs.ModelArcs.{arcsOf}
 use Rattle.cycles.specs.ModelFound.{foundLength, foundWalk}
 use Rattle.circuits.specs.ModelCircuits.{turnedOf}
-use Rattle.improve.specs.Run.{Ran, run}
+use Rattle.improve.specs.ModelRun.{Ran, run}
 
 -- ---- one improvement, over lists of masks
 
@@ -47,4 +47,4 @@ agreementIn rows former P = sumTo P (λ p. countOf (meetOf (getD rows p 0) (getD
 
 -- The same as code answers it: 0 for more partitions than there are rows.
 unfoldable pub sharedIn : List ℕ → List ℕ → ℕ → ℕ
-sharedIn rows former P = pick (ltb 256 P || ltb (length rows) P || ltb (length former) P) 0 (agreementIn rows former P)
+sharedIn rows former P = cond (ltb 256 P || ltb (length rows) P || ltb (length former) P) 0 (agreementIn rows former P)

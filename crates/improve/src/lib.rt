@@ -1,8 +1,7 @@
 // One improvement of rows, and the run of improvements, until there is none or the allowance is spent.
 ghost use mathlib.Core.Path.{_≡_};
-ghost use Prim.Native.Nat.{_≤_, _<_};
-ghost use lib.ListN.{length, getD};
-ghost use Rattle.improve.specs.ModelImprove.{improvesIn, steppedIn, ranIn, sharedIn, agreementIn};
+ghost use Prim.Native.Nat.{_<_};
+ghost use Rattle.improve.specs.ModelImprove.{improvesIn, steppedIn, ranIn, sharedIn};
 use cluster::Cluster;
 
 mod sum;

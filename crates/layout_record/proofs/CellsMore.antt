@@ -8,11 +8,9 @@ use native.Mathlib.Omega.{arith}
 use lib.ListN.{length, getD, replicate, length-append, length-replicate, List·getD-append, List·getD-eq-default}
 use lib.Seq.{getD-at, ext-getD}
 use Rattle.sums.proofs.Sum.{lt-or-ge}
-use Rattle.cells.specs.Cells.{put}
+use Rattle.cells.specs.ModelCells.{put}
 use Rattle.cells.proofs.Cells.{length-put, getD-put-in, getD-put-out}
-use Rattle.cluster.specs.Limits.{rowCells, bufferRows, layoutCells}
-use Rattle.cluster.specs.Terms.{Layout, row}
-use Rattle.cluster.specs.TermsCells.{cellsOf}
+use Rattle.cluster.specs.Terms.{rowCells, bufferRows, layoutCells, Layout, row, cellsOf}
 use Rattle.cluster.proofs.CellLayouts.{length-cellsOf, getD-cellsOf}
 
 -- The rows of a layout with one more.

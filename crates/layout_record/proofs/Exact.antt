@@ -1,20 +1,19 @@
 -- What reading and writing achieve, of the definitions that the contracts of `read_layout` and `write_layout` cite: a layout record is read
 -- exactly where the bytes are one, a record is written exactly where there is a layout to write, and both ways round nothing is lost.
 -- Assumes nothing.
-use Prim.Native.Nat.{ℕ, zero, suc, _+_, _-_, _*_, _^_, _≤_, _<_}
+use Prim.Native.Nat.{ℕ, _+_, _-_, _*_, _^_, _≤_, _<_}
 use mathlib.Core.Path.{_≡_, refl, sym, ap, ap₂, _∙_, subst}
-use mathlib.Core.Bool.{Bool, true}
-use mathlib.Core.List.{List, [], _∷_, _++_}
+use mathlib.Core.Bool.{true}
+use mathlib.Core.List.{List, [], _++_}
 use mathlib.Core.Logic.{_⊎_, ⊎-elim}
 use native.Mathlib.Omega.{arith}
-use lib.ListN.{length, take, drop, getD, length-append, length-take, length-drop, List·getD-eq-default}
-use lib.Seq.{take-at, drop-at, length-take-le}
+use lib.ListN.{length, take, drop, getD, length-append, length-take, List·getD-eq-default}
+use lib.Seq.{take-at}
 use Rattle.sums.proofs.Sum.{lt-or-ge}
-use Rattle.cluster.specs.Limits.{mostBits, mostCopies, rowCells, bufferRows, layoutCells}
-use Rattle.cluster.specs.Terms.{Layout, row, rising}
-use Rattle.cluster.specs.TermsCells.{cellsOf, rowAt, idsIn, formed, blank, rowsIn, FitsCells, HoldsRows}
+use Rattle.cluster.specs.Terms.{rowCells, bufferRows, layoutCells, Layout, row, rising, cellsOf, rowAt, idsIn, formed, blank, rowsIn}
+use Rattle.cluster.specs.ModelRows.{FitsCells, HoldsRows}
 use Rattle.cluster.proofs.CellRows.{formed-rising, rising-ids}
-use Rattle.cluster.proofs.CellLayouts.{length-rowAt, getD-rowAt, rowAt-take, length-rowsIn, row-rowsIn, length-cellsOf, rowAt-cellsOf, rowsIn-take, rowsIn-cellsOf, holds-cellsOf, id-rowsIn, cellsOf-rowsIn}
+use Rattle.cluster.proofs.CellLayouts.{getD-rowAt, rowAt-take, length-rowsIn, row-rowsIn, length-cellsOf, rowAt-cellsOf, rowsIn-take, rowsIn-cellsOf, holds-cellsOf, id-rowsIn, cellsOf-rowsIn}
 use Rattle.fields.specs.RecordField.{Bytes, over}
 use Rattle.layout_record.specs.declared.Numbers.{Numbers}
 use Rattle.layout_record.specs.declared.ReadLayout.{ReadLayout}
@@ -22,12 +21,13 @@ use Rattle.layout_record.specs.declared.Written.{Written}
 use Rattle.layout_record.specs.declared.head.Head.{Head}
 use Rattle.layout_record.specs.declared.head.Head.the-variants.{Read, Halted}
 use Rattle.layout_record.specs.RecordLayout.{InRange, HasLayout, numberFields, rowFields, layoutRecord, recordLength, IsRecord}
-use Rattle.layout_record.specs.RecordLayoutFaults.{Outcome, accepted, refusedAt, headIn, rowsFrom, readLayout, rowFits, rowsFit, writeFault}
+use Rattle.layout_record.specs.RecordLayoutFaults.{Outcome, accepted, headIn, rowsFrom, readLayout, rowFits, rowsFit, writeFault}
 use Rattle.layout_record.specs.RecordLayoutAnswer.{answerOf, readAnswer, assignmentAfter, writeAnswer, outAfter}
 use Rattle.layout_record.proofs.RecordLaws.{length-record}
 use Rattle.layout_record.proofs.HeadExact.{head-refused, head-back, head-found}
-use Rattle.layout_record.proofs.RowsExact.{Rows, RowsRead, rows-back, rows-found}
-use Rattle.layout_record.proofs.RowFaults.{few-partitions, fit-range, range-fit, fits-formed, fits-zero, formed-fits, zero-fits, every-at, every-all, Writable, no-fault, write-none}
+use Rattle.layout_record.proofs.RowsExact.{rows-back, rows-found}
+use Rattle.layout_record.proofs.RowFaults.{few-partitions, fit-range, range-fit, fits-formed, fits-zero, formed-fits, zero-fits, Writable, no-fault, write-none}
+use Rattle.sums.proofs.Tests.{every-at, every-all}
 use Rattle.layout_record.proofs.RowSteps.{read-halted, read-on, read-short, read-long, long-set, write-accepted}
 
 -- ---- reading

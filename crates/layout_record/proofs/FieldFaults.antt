@@ -1,25 +1,22 @@
 -- Refusals are never 0, and what a whole field with a number says of the bytes, both ways.
 -- Assumes nothing.
-use Prim.Native.Nat.{ℕ, zero, suc, _+_, _*_, _^_, _≤_, _<_}
+use Prim.Native.Nat.{ℕ, _+_, _^_, _≤_, _<_}
 use mathlib.Core.Path.{_≡_, refl, sym, ap, ap₂, _∙_, subst}
-use mathlib.Core.Bool.{Bool, true, false, _||_}
-use mathlib.Core.List.{List, [], _∷_, _++_}
-use mathlib.Core.Logic.{_⊎_, inl, inr, ⊎-elim}
+use mathlib.Core.Bool.{true}
+use mathlib.Core.List.{List, _++_}
+use mathlib.Core.Logic.{_⊎_, ⊎-elim}
 use native.Mathlib.Omega.{arith}
-use lib.Dec.{ltb}
 use lib.ListN.{length, drop, length-append, length-drop}
 use borrow.Author.Tests.{lt-ltb, le-ltb}
-use Rattle.sums.specs.Sum.{pick}
 use Rattle.sums.proofs.Sum.{lt-or-ge}
-use Rattle.sets.specs.Bits.{memberOf, withOf}
+use Rattle.sets.specs.ModelBits.{memberOf, withOf}
 use Rattle.sets.proofs.Laws.{bit-true, bit-with-same}
-use Rattle.cluster.proofs.Lists.{test-cases}
-use Rattle.fields.specs.RecordField.{bytesOf, Bytes, part, numberAt, field, ruleOf, legal, legalAs, fieldAt, refusalOf, Whole}
+use Rattle.sums.proofs.Tests.{true-or-false}
+use Rattle.fields.specs.RecordField.{bytesOf, Bytes, part, numberAt, field, ruleOf, legal, legalAs, fieldAt, refusalOf}
 use Rattle.fields.specs.declared.Field.{Field}
 use Rattle.fields.specs.declared.Field.the-variants.{Body, Refused}
 use Rattle.fields.proofs.Numbers.{length-bytes, bytes-there, number-here}
 use Rattle.fields.proofs.RecordField.{one-tag, no-tag, legal-any, field-cut, field-tag, field-length, field-body, field-whole, whole, field-back, length-field, field-here, body-here, rest-here}
-use Rattle.layout_record.specs.declared.head.Number.{Number}
 use Rattle.layout_record.specs.declared.head.Number.the-variants.{Value, Stopped}
 use Rattle.layout_record.specs.RecordLayoutFaults.{nextField, valueIn, numberIn}
 use Rattle.layout_record.proofs.NumberFields.{next-missing, next-there}
@@ -40,8 +37,8 @@ faulty s at allowed exact =
     (λ t. ⊎-elim
     (λ l. ⊎-elim (λ short. subst Faulty (sym (field-body s at allowed exact head t l short)) (omega arith))
     (λ long. subst Faulty (sym (field-whole s at allowed exact head t l long)) tt) (lt-or-ge (length s) (at + 3 + len)))
-    (λ l. subst Faulty (sym (field-length s at allowed exact head t l)) (omega arith)) (test-cases (legalAs exact tag len)))
-    (λ t. subst Faulty (sym (field-tag s at allowed exact head t)) (omega arith)) (test-cases (memberOf allowed tag)))
+    (λ l. subst Faulty (sym (field-length s at allowed exact head t l)) (omega arith)) (true-or-false (legalAs exact tag len)))
+    (λ t. subst Faulty (sym (field-tag s at allowed exact head t)) (omega arith)) (true-or-false (memberOf allowed tag)))
     (lt-or-ge (length s) (at + 3))
 
 next-faulty : (s : List ℕ) (at tag exact : ℕ) → Faulty (nextField s at tag exact)

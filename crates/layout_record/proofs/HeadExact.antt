@@ -1,12 +1,11 @@
 -- The six fields before the rows are read exactly where they stand with numbers in range.
 -- Assumes nothing.
-use Prim.Native.Nat.{ℕ, _+_, _^_, _≤_, _<_}
+use Prim.Native.Nat.{ℕ, _+_, _<_}
 use mathlib.Core.Path.{_≡_, refl, sym, ap, ap₂, _∙_, subst}
-use mathlib.Core.List.{List, [], _∷_, _++_, append-assoc}
+use mathlib.Core.List.{List, _++_, append-assoc}
 use native.Mathlib.Omega.{arith}
-use lib.ListN.{length, drop}
-use lib.Seq.{drop-at}
-use Rattle.cluster.specs.Limits.{mostBits, mostCopies}
+use lib.ListN.{drop}
+use Rattle.cluster.specs.Terms.{mostBits, mostCopies}
 use Rattle.fields.specs.RecordField.{bytesOf, Bytes, field, ruleOf, legal}
 use Rattle.layout_record.specs.declared.Numbers.{Numbers}
 use Rattle.layout_record.specs.declared.head.Number.{Number}

@@ -1,25 +1,23 @@
 -- The fields before the rows: what a field with a number says, and the chain of the six.
 -- Assumes nothing.
 use Prim.Native.Nat.{ℕ, _+_, _≤_, _<_}
-use mathlib.Core.Path.{_≡_, refl, sym, ap, ap₂, _∙_, subst}
+use mathlib.Core.Path.{_≡_, sym, ap, ap₂, _∙_, subst}
 use mathlib.Core.List.{List}
 use mathlib.Core.Logic.{_⊎_, inl, inr, ⊎-elim}
 use native.Mathlib.Omega.{arith}
 use lib.ListN.{length}
 use borrow.Author.Tests.{le-leb, lt-leb, lt-ltb, le-ltb}
-use Rattle.sets.specs.Bits.{withOf}
-use Rattle.cluster.specs.Limits.{mostBits, mostCopies}
+use Rattle.sets.specs.ModelBits.{withOf}
+use Rattle.cluster.specs.Terms.{mostBits, mostCopies}
 use Rattle.fields.specs.RecordField.{numberAt, ruleOf, fieldAt, Whole, refusalOf, placeOf}
 use Rattle.fields.specs.declared.Field.{Field}
 use Rattle.fields.specs.declared.Field.the-variants.{Body, Refused}
 use Rattle.fields.proofs.RecordField.{one-tag}
-use Rattle.layout_record.specs.declared.head.Number.{Number}
 use Rattle.layout_record.specs.declared.head.Number.the-variants.{Value, Stopped}
-use Rattle.layout_record.specs.declared.head.Head.{Head}
 use Rattle.layout_record.specs.declared.head.Head.the-variants.{Read, Halted}
 use Rattle.layout_record.specs.RecordLayout.{mostSize, mostDistance, mostVerdict, mostImprovements}
 use Rattle.layout_record.specs.RecordLayoutFaults.{nextField, valueIn, numberIn, numbersOf, headIn}
-use Rattle.layout_record.specs.ReadingParts.{Narrow}
+use Rattle.layout_record.specs.ModelReading.{Narrow}
 
 -- ---- the next field
 

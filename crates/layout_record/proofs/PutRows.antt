@@ -1,18 +1,15 @@
 -- Rows that are put one after the other, and the whole record.
 -- Assumes nothing.
-use Prim.Native.Nat.{ℕ, zero, suc, _+_, _-_, _*_, _^_, _≤_, _<_}
-use mathlib.Core.Path.{_≡_, refl, sym, ap, ap₂, _∙_, subst}
+use Prim.Native.Nat.{ℕ, _+_, _-_, _*_, _^_, _≤_, _<_}
+use mathlib.Core.Path.{_≡_, refl, sym, ap, _∙_, subst}
 use mathlib.Core.Bool.{true}
-use mathlib.Core.List.{List, [], _∷_, _++_}
+use mathlib.Core.List.{List, _++_}
 use native.Mathlib.Nat.{suc-mul}
 use native.Mathlib.Numerals.{add-one}
 use native.Mathlib.Omega.{arith}
 use lib.ListN.{length, take, drop, replicate, length-append, length-drop}
 use lib.Seq.{take-at, take-take, length-take-le}
-use Rattle.cells.specs.Cells.{tab}
-use Rattle.cluster.specs.Limits.{rowCells, bufferRows, layoutCells, mostCopies}
-use Rattle.cluster.specs.Terms.{Layout, row}
-use Rattle.cluster.specs.TermsCells.{rowAt, idsIn, formedFrom, formed, rowsIn}
+use Rattle.cluster.specs.Terms.{rowCells, bufferRows, Layout, rowAt, idsIn, formedFrom, formed, rowsIn}
 use Rattle.cluster.proofs.CellRows.{formed-cells}
 use Rattle.cluster.proofs.CellLayouts.{length-rowsIn, row-rowsIn}
 use Rattle.fields.specs.RecordField.{bytesOf, written, over}
@@ -21,8 +18,9 @@ use Rattle.layout_record.specs.declared.Numbers.{Numbers}
 use Rattle.layout_record.specs.RecordLayout.{numberFields, idBytes, rowField, rowFields, layoutRecord, recordLength}
 use Rattle.layout_record.specs.RecordLayoutFaults.{rowFits, rowsFit}
 use Rattle.layout_record.proofs.Puts.{put-next, put-parts, length-numbers}
-use Rattle.layout_record.proofs.RecordLaws.{length-row, rows-snoc, length-rows, rowsIn-more, row-ends}
-use Rattle.layout_record.proofs.RowFaults.{fits-formed, every-at, few-partitions, fit-range, Writable}
+use Rattle.layout_record.proofs.RecordLaws.{length-row, rows-snoc, length-rows, rowsIn-more}
+use Rattle.layout_record.proofs.RowFaults.{fits-formed, few-partitions, fit-range, Writable}
+use Rattle.sums.proofs.Tests.{every-at}
 
 -- The first cells of a formed row with so many ids are its ids.
 pub take-ids : (k count : ℕ) (l : List ℕ) → formedFrom k l ≡ true → length (idsIn l) ≡ count → take count l ≡ idsIn l

@@ -1,6 +1,6 @@
 -- A record written from front to back: fields, ids and rows that are put one after the other.
 -- Assumes nothing.
-use Prim.Native.Nat.{ℕ, zero, suc, _+_, _*_, _≤_, _<_}
+use Prim.Native.Nat.{ℕ, _+_, _*_, _≤_, _<_}
 use mathlib.Core.Path.{_≡_, refl, sym, ap, ap₂, _∙_}
 use mathlib.Core.List.{List, [], _∷_, _++_, append-assoc, append-nil}
 use mathlib.Core.Logic.{⊎-elim}
@@ -10,10 +10,10 @@ use native.Mathlib.Omega.{arith}
 use lib.ListN.{length, take, drop, getD, length-append, length-drop, take-append-drop}
 use lib.Seq.{take-suc, getD-drop, length-take-le}
 use Rattle.sums.proofs.Sum.{lt-or-ge}
-use Rattle.fields.specs.RecordField.{bytesOf, field, written, over}
+use Rattle.fields.specs.RecordField.{bytesOf, field, written}
 use Rattle.fields.proofs.Numbers.{length-bytes}
 use Rattle.fields.proofs.RecordField.{length-field, field-bytes}
-use Rattle.fields.proofs.Written.{written-fits, written-not, written-over, written-append, length-written}
+use Rattle.fields.proofs.Written.{written-fits, written-not, written-append, length-written}
 use Rattle.layout_record.specs.declared.Numbers.{Numbers}
 use Rattle.layout_record.specs.RecordLayout.{numberFields, idBytes, rowField}
 use Rattle.layout_record.proofs.IdBytes.{length-id-bytes, id-bytes-snoc}

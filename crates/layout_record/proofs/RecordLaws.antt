@@ -1,20 +1,19 @@
 -- The bytes of a layout record: their number, and one row more.
 -- Assumes nothing.
-use Prim.Native.Nat.{ℕ, zero, suc, _+_, _*_, _^_, _≤_, _<_}
-use mathlib.Core.Path.{_≡_, refl, sym, ap, ap₂, _∙_}
+use Prim.Native.Nat.{ℕ, suc, _+_, _*_, _≤_, _<_}
+use mathlib.Core.Path.{_≡_, sym, ap, ap₂, _∙_}
 use mathlib.Core.List.{List, [], _∷_, _++_, append-assoc, append-nil}
 use native.Mathlib.Nat.{add-zero, zero-mul, suc-mul, mul-le-mul-right}
 use native.Mathlib.Omega.{arith}
 use lib.ListN.{length, length-append}
-use Rattle.cells.specs.Cells.{tab}
-use Rattle.cluster.specs.Terms.{Layout, row}
-use Rattle.cluster.specs.TermsCells.{rowAt, idsIn, rowsIn}
-use Rattle.fields.specs.RecordField.{bytesOf, field, Bytes}
-use Rattle.fields.proofs.Numbers.{length-bytes, bytes-byte, bytes-join}
-use Rattle.fields.proofs.RecordField.{length-field, bytes-field}
+use Rattle.sums.specs.TermsSums.{tab}
+use Rattle.cluster.specs.Terms.{Layout, row, rowAt, idsIn, rowsIn}
+use Rattle.fields.specs.RecordField.{bytesOf}
+use Rattle.fields.proofs.Numbers.{length-bytes}
+use Rattle.fields.proofs.RecordField.{length-field}
 use Rattle.layout_record.specs.declared.Numbers.{Numbers}
 use Rattle.layout_record.specs.RecordLayout.{HasLayout, numberFields, idBytes, rowField, rowFields, layoutRecord, recordLength}
-use Rattle.layout_record.proofs.IdBytes.{length-id-bytes, bytes-ids}
+use Rattle.layout_record.proofs.IdBytes.{length-id-bytes}
 use Rattle.layout_record.proofs.Puts.{length-numbers}
 use native.Mathlib.Numerals.{add-one}
 

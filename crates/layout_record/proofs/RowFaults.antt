@@ -1,30 +1,25 @@
 -- The faults of a row that is read, the end of a record, and the tests of what is to be written.
 -- Assumes nothing.
-use Prim.Native.Nat.{ℕ, zero, suc, _+_, _*_, _^_, _≤_, _<_}
-use mathlib.Core.Path.{_≡_, refl, sym, ap, ap₂, _∙_, subst}
-use mathlib.Core.Bool.{Bool, true, false, not, _&&_, _||_, or-true, and-false, false≢true}
+use Prim.Native.Nat.{ℕ, _*_, _^_, _≤_, _<_}
+use mathlib.Core.Path.{_≡_, sym, ap, _∙_}
+use mathlib.Core.Bool.{Bool, true, false, _&&_, or-true, cond}
 use mathlib.Core.List.{List}
 use mathlib.Core.Logic.{⊎-elim}
 use native.Mathlib.Nat.{mul-le-mul}
-use native.Mathlib.Numerals.{add-one}
 use native.Mathlib.Omega.{arith}
-use lib.Dec.{ltb, leb, eqb}
+use lib.Dec.{leb, eqb}
 use lib.ListN.{length}
 use lib.Pow.{pow-mono}
 use borrow.Author.Tests.{le-leb, lt-leb, leb-true, lt-ltb, le-ltb, eq-eqb, ne-eqb, eqb-true}
-use Rattle.sums.specs.Sum.{pick}
 use Rattle.sums.proofs.Sum.{lt-or-ge}
-use Rattle.cluster.specs.Limits.{mostBits, mostCopies, bufferRows, layoutCells}
-use Rattle.cluster.specs.Terms.{Layout, mem, rising}
-use Rattle.cluster.specs.TermsCells.{rowAt, idsIn, blank, formed}
-use Rattle.cluster.specs.RowScan.{hasRow, rowIds, rowIsBlank}
-use Rattle.cluster.proofs.CellRows.{both}
+use Rattle.cluster.specs.Terms.{mostBits, mostCopies, bufferRows, layoutCells, Layout, mem, rising, rowAt, idsIn, blank, formed}
+use Rattle.cluster.specs.ModelRows.{rowIds, rowIsBlank}
+use Rattle.sums.proofs.Tests.{both, true-or-false}
 use Rattle.cluster.proofs.RowScans.{formed-row-ids, ill-row-ids, row-of-buffer}
-use Rattle.cluster.proofs.Lists.{test-cases}
 use Rattle.fields.specs.RecordField.{fieldAt, refusalOf, placeOf}
 use Rattle.layout_record.specs.declared.Numbers.{Numbers}
 use Rattle.layout_record.specs.RecordLayout.{mostSize, mostDistance, mostVerdict, mostImprovements, recordLength, InRange}
-use Rattle.layout_record.specs.RecordLayoutFaults.{accepted, refusedAt, rowFault, endIn, numbersFit, rowFits, everyTo, rowsFit, writeFault}
+use Rattle.layout_record.specs.RecordLayoutFaults.{accepted, refusedAt, rowFault, endIn, numbersFit, rowFits, rowsFit, writeFault}
 
 -- ---- the faults of a row that is read
 
@@ -118,7 +113,7 @@ module _ (cells : List ℕ) (partitions replication p : ℕ) (whole : layoutCell
       (λ t. ap (λ (k : ℕ). eqb k replication) (formed-row-ids cells p (row-of-buffer cells p whole inside) t) ∙ sym (simp (lt-ltb p partitions h, t)))
       (λ f. ap (λ (k : ℕ). eqb k replication) (ill-row-ids cells p f)
       ∙ (ne-eqb 9 replication (λ e. omega arith) ∙ sym (simp (lt-ltb p partitions h, f))))
-      (test-cases (formed (rowAt cells p)))
+      (true-or-false (formed (rowAt cells p)))
 
   -- From P on: zeros.
   pub fits-blank : partitions ≤ p → rowIsBlank cells p ≡ rowFits cells partitions replication p
@@ -131,7 +126,7 @@ pub fits-formed : (cells : List ℕ) (partitions replication p : ℕ) → p < pa
 unfolding rowFits
 fits-formed cells partitions replication p h t =
     let b = both (formed (rowAt cells p)) (eqb (length (idsIn (rowAt cells p))) replication)
-    (sym (ap (λ (q : Bool). pick q (formed (rowAt cells p) && eqb (length (idsIn (rowAt cells p))) replication) (blank (rowAt cells p))) (lt-ltb p partitions h)) ∙ t) in
+    (sym (ap (λ (q : Bool). cond q (formed (rowAt cells p) && eqb (length (idsIn (rowAt cells p))) replication) (blank (rowAt cells p))) (lt-ltb p partitions h)) ∙ t) in
     (b .0, eqb-true (length (idsIn (rowAt cells p))) replication (b .1))
 
 -- and from P on it is blank.
@@ -139,7 +134,7 @@ pub fits-zero : (cells : List ℕ) (partitions replication p : ℕ) → partitio
     → blank (rowAt cells p) ≡ true
 unfolding rowFits
 fits-zero cells partitions replication p h t =
-    sym (ap (λ (q : Bool). pick q (formed (rowAt cells p) && eqb (length (idsIn (rowAt cells p))) replication) (blank (rowAt cells p))) (le-ltb p partitions h)) ∙ t
+    sym (ap (λ (q : Bool). cond q (formed (rowAt cells p) && eqb (length (idsIn (rowAt cells p))) replication) (blank (rowAt cells p))) (le-ltb p partitions h)) ∙ t
 
 -- And conversely.
 pub formed-fits : (cells : List ℕ) (partitions replication p : ℕ) → p < partitions → formed (rowAt cells p) ≡ true
@@ -150,29 +145,6 @@ formed-fits cells partitions replication p h t e = simp (lt-ltb p partitions h, 
 pub zero-fits : (cells : List ℕ) (partitions replication p : ℕ) → partitions ≤ p → blank (rowAt cells p) ≡ true → rowFits cells partitions replication p ≡ true
 unfolding rowFits
 zero-fits cells partitions replication p h t = simp (le-ltb p partitions h, t)
-
--- ---- tests of all numbers below n
-
-pub every-more : (n : ℕ) (f : ℕ → Bool) → everyTo n f ≡ true → f n ≡ true → everyTo (n + 1) f ≡ true
-unfolding everyTo
-every-more n f h k = ap (λ (m : ℕ). everyTo m f) (add-one n) ∙ ap₂ _&&_ h k
-
-pub every-fails : (n p : ℕ) (f : ℕ → Bool) → p < n → f p ≡ false → everyTo n f ≡ false
-unfolding everyTo
-every-fails zero p f h k = absurd (omega arith)
-every-fails (suc n) p f h k =
-    ⊎-elim (λ l. ap (λ (t : Bool). t && f n) (every-fails n p f l k))
-    (λ g. let e : p ≡ n = omega arith in ap (λ (t : Bool). everyTo n f && t) (ap f (sym e) ∙ k) ∙ and-false (everyTo n f))
-    (lt-or-ge p n)
-
-pub every-at : (n p : ℕ) (f : ℕ → Bool) → everyTo n f ≡ true → p < n → f p ≡ true
-every-at n p f h k =
-    ⊎-elim (λ t. t) (λ e. absurd (false≢true (sym (every-fails n p f k e) ∙ h))) (test-cases (f p))
-
-pub every-all : (n : ℕ) (f : ℕ → Bool) → ((p : ℕ) → p < n → f p ≡ true) → everyTo n f ≡ true
-unfolding everyTo
-every-all zero f h = refl
-every-all (suc n) f h = ap₂ _&&_ (every-all n f (λ p l. h p (omega arith))) (h n (omega arith))
 
 -- ---- the faults of writing
 
@@ -215,6 +187,6 @@ no-fault n cells room z =
     (λ fit. ⊎-elim
     (λ rows. ⊎-elim (λ l. absurd (omega (arith, write-room n cells room w fit rows l))) (λ g. record { whole = w; fit = fit; rows = rows; long = g })
     (lt-or-ge room (recordLength (n .bits) (n .replication))))
-    (λ h. absurd (omega (arith, write-rows n cells room w fit h))) (test-cases (rowsFit cells (2 ^ (n .bits)) (n .replication))))
-    (λ h. absurd (omega (arith, write-numbers n cells room w h))) (test-cases (numbersFit n)))
+    (λ h. absurd (omega (arith, write-rows n cells room w fit h))) (true-or-false (rowsFit cells (2 ^ (n .bits)) (n .replication))))
+    (λ h. absurd (omega (arith, write-numbers n cells room w h))) (true-or-false (numbersFit n)))
     (lt-or-ge (length cells) layoutCells)

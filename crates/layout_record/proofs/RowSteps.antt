@@ -1,29 +1,24 @@
 -- The steps of a reading: one row more, the fault that stops it, its end, and what the answers then are.
 -- Assumes nothing.
-use Prim.Native.Nat.{ℕ, zero, suc, _+_, _-_, _*_, _^_, _≤_, _<_}
-use mathlib.Core.Path.{_≡_, refl, sym, ap, ap₂, _∙_, subst}
-use mathlib.Core.Bool.{Bool}
+use Prim.Native.Nat.{ℕ, suc, _+_, _-_, _*_, _^_, _≤_, _<_}
+use mathlib.Core.Path.{_≡_, sym, ap, ap₂, _∙_}
+use mathlib.Core.Bool.{Bool, cond}
 use mathlib.Core.List.{List, [], _∷_, _++_}
 use mathlib.Core.Logic.{⊎-elim}
 use native.Mathlib.Omega.{arith}
 use lib.Dec.{eqb}
 use lib.ListN.{length, drop}
 use borrow.Author.Tests.{eq-eqb, ne-eqb, lt-ltb, le-ltb}
-use Rattle.sums.specs.Sum.{pick}
 use Rattle.sums.proofs.Sum.{lt-or-ge}
-use Rattle.cells.specs.Cells.{put}
-use Rattle.cluster.specs.Limits.{rowCells, bufferRows, layoutCells}
-use Rattle.cluster.specs.Terms.{Layout}
-use Rattle.cluster.specs.TermsCells.{cellsOf, rowsIn}
+use Rattle.cells.specs.ModelCells.{put}
+use Rattle.cluster.specs.Terms.{rowCells, bufferRows, layoutCells, Layout, cellsOf, rowsIn}
 use Rattle.fields.specs.RecordField.{numberAt, over}
 use Rattle.fields.specs.declared.Field.{Field}
 use Rattle.fields.specs.declared.Field.the-variants.{Body, Refused}
 use Rattle.layout_record.specs.declared.Numbers.{Numbers}
-use Rattle.layout_record.specs.declared.head.Head.{Head}
 use Rattle.layout_record.specs.declared.head.Head.the-variants.{Read, Halted}
-use Rattle.layout_record.specs.declared.Written.{Written}
 use Rattle.layout_record.specs.RecordLayout.{layoutRecord, recordLength}
-use Rattle.layout_record.specs.RecordLayoutFaults.{nextField, Outcome, refusedAt, accepted, idsAt, rowFault, endIn, rowIn, rowsFrom, headIn, rowsAfter, readLayout, writeFault}
+use Rattle.layout_record.specs.RecordLayoutFaults.{nextField, Outcome, refusedAt, idsAt, rowFault, endIn, rowIn, rowsFrom, headIn, rowsAfter, readLayout, writeFault}
 use Rattle.layout_record.specs.RecordLayoutAnswer.{outcomeOf, answerOf, readAnswer, assignmentAfter, writeAnswer, outAfter}
 use Rattle.layout_record.proofs.IdBytes.{length-ids, getD-ids}
 use Rattle.layout_record.proofs.CellsMore.{cells-more}
@@ -50,7 +45,7 @@ module _ (s : List ℕ) (at : ℕ) (n : Numbers) (L : Layout) (k : ℕ) (some : 
     rows-fault h =
         first
         ∙ (ap (rowIn (λ next M. rowsFrom (k - 1) s next n M) s at n L) whole
-        ∙ (ap (λ (q : ℕ). pick (eqb q 0) (rowsFrom (k - 1) s (start + len) n (L ++ (idsAt s (start + 2) (n .replication) ∷ []))) (refusedAt q at)) (sym fault)
+        ∙ (ap (λ (q : ℕ). cond (eqb q 0) (rowsFrom (k - 1) s (start + len) n (L ++ (idsAt s (start + 2) (n .replication) ∷ []))) (refusedAt q at)) (sym fault)
         ∙ simp (ne-eqb x 0 h)))
 
     -- Else the reading goes on after the row.
@@ -58,7 +53,7 @@ module _ (s : List ℕ) (at : ℕ) (n : Numbers) (L : Layout) (k : ℕ) (some : 
     rows-on h =
         first
         ∙ (ap (rowIn (λ next M. rowsFrom (k - 1) s next n M) s at n L) whole
-        ∙ (ap (λ (q : ℕ). pick (eqb q 0) (rowsFrom (k - 1) s (start + len) n (L ++ (idsAt s (start + 2) (n .replication) ∷ []))) (refusedAt q at)) (sym fault)
+        ∙ (ap (λ (q : ℕ). cond (eqb q 0) (rowsFrom (k - 1) s (start + len) n (L ++ (idsAt s (start + 2) (n .replication) ∷ []))) (refusedAt q at)) (sym fault)
         ∙ simp (eq-eqb x 0 h)))
 
 -- No row is left.
@@ -111,7 +106,7 @@ module _ (s cells : List ℕ) where
   pub short-kept : length cells < layoutCells → assignmentAfter s cells ≡ cells
   unfolding assignmentAfter
   short-kept h =
-      ap (λ (o : Outcome). pick (eqb (o .refusal) 0) (cellsOf (o .layout) ++ drop layoutCells cells) cells) (outcome-short h)
+      ap (λ (o : Outcome). cond (eqb (o .refusal) 0) (cellsOf (o .layout) ++ drop layoutCells cells) cells) (outcome-short h)
 
   -- A buffer that is long enough has what the record says.
   pub read-long : layoutCells ≤ length cells → readAnswer s cells ≡ answerOf (readLayout s)
@@ -121,13 +116,13 @@ module _ (s cells : List ℕ) where
   pub long-set : layoutCells ≤ length cells → readLayout s .refusal ≡ 0 → assignmentAfter s cells ≡ cellsOf (readLayout s .layout) ++ drop layoutCells cells
   unfolding assignmentAfter
   long-set h e =
-      ap (λ (o : Outcome). pick (eqb (o .refusal) 0) (cellsOf (o .layout) ++ drop layoutCells cells) cells) (outcome-long h)
+      ap (λ (o : Outcome). cond (eqb (o .refusal) 0) (cellsOf (o .layout) ++ drop layoutCells cells) cells) (outcome-long h)
       ∙ simp (eq-eqb (readLayout s .refusal) 0 e)
 
   pub long-kept : layoutCells ≤ length cells → (readLayout s .refusal ≡ 0 → ⊥) → assignmentAfter s cells ≡ cells
   unfolding assignmentAfter
   long-kept h e =
-      ap (λ (o : Outcome). pick (eqb (o .refusal) 0) (cellsOf (o .layout) ++ drop layoutCells cells) cells) (outcome-long h)
+      ap (λ (o : Outcome). cond (eqb (o .refusal) 0) (cellsOf (o .layout) ++ drop layoutCells cells) cells) (outcome-long h)
       ∙ simp (ne-eqb (readLayout s .refusal) 0 e)
 
 -- ---- the answers of writing
@@ -138,8 +133,8 @@ module _ (n : Numbers) (cells out : List ℕ) where
   unfolding writeAnswer outAfter
   write-refused h =
       let t = ne-eqb (writeFault n cells (length out)) 0 h in (
-        ap (λ (b : Bool). record { refusal = writeFault n cells (length out); length = pick b (recordLength (n .bits) (n .replication)) 0 }) t,
-        ap (λ (b : Bool). pick b (over (layoutRecord n (rowsIn (2 ^ (n .bits)) cells)) out) out) t,
+        ap (λ (b : Bool). record { refusal = writeFault n cells (length out); length = cond b (recordLength (n .bits) (n .replication)) 0 }) t,
+        ap (λ (b : Bool). cond b (over (layoutRecord n (rowsIn (2 ^ (n .bits)) cells)) out) out) t,
       )
 
   pub write-accepted : writeFault n cells (length out) ≡ 0
@@ -147,6 +142,6 @@ module _ (n : Numbers) (cells out : List ℕ) where
       × (outAfter n cells out ≡ over (layoutRecord n (rowsIn (2 ^ (n .bits)) cells)) out)
   unfolding writeAnswer outAfter
   write-accepted e = (
-    ap (λ (k : ℕ). record { refusal = k; length = pick (eqb k 0) (recordLength (n .bits) (n .replication)) 0 }) e,
-    ap (λ (k : ℕ). pick (eqb k 0) (over (layoutRecord n (rowsIn (2 ^ (n .bits)) cells)) out) out) e,
+    ap (λ (k : ℕ). record { refusal = k; length = cond (eqb k 0) (recordLength (n .bits) (n .replication)) 0 }) e,
+    ap (λ (k : ℕ). cond (eqb k 0) (over (layoutRecord n (rowsIn (2 ^ (n .bits)) cells)) out) out) e,
   )

@@ -2,24 +2,22 @@
 -- Assumes nothing.
 use Prim.Native.Nat.{ℕ, zero, suc, _+_, _-_, _*_, _%_, _^_, _≤_, _<_}
 use mathlib.Core.Path.{_≡_, refl, sym, ap, ap₂, _∙_, subst}
-use mathlib.Core.Bool.{Bool, true, false, not, _||_}
+use mathlib.Core.Bool.{Bool, true, cond}
 use mathlib.Core.List.{List, [], _∷_, _++_, append-assoc, append-nil}
-use mathlib.Core.Logic.{_⊎_, inl, inr, ⊎-elim}
+use mathlib.Core.Logic.{_⊎_, ⊎-elim}
 use native.Mathlib.Omega.{arith}
-use lib.Dec.{eqb}
-use lib.ListN.{length, take, drop, getD, length-append, length-drop}
+use lib.ListN.{length, drop, getD, length-append, length-drop}
 use lib.Seq.{drop-drop, drop-at}
 use borrow.Author.Tests.{eq-eqb, ne-eqb, le-leb}
-use Rattle.sums.specs.Sum.{pick}
 use Rattle.sums.proofs.Sum.{lt-or-ge, eq-or-ne}
-use Rattle.sets.specs.Bits.{withOf}
-use Rattle.cluster.specs.Limits.{mostCopies, bufferRows}
-use Rattle.cluster.specs.Terms.{Layout, row, mem, rising}
-use Rattle.cluster.proofs.Lists.{test-cases, rising-fresh}
-use Rattle.fields.specs.RecordField.{bytesOf, Bytes, part, numberAt, field, ruleOf, legal, legalAs, fieldAt, refusalOf, placeOf}
+use Rattle.sets.specs.ModelBits.{withOf}
+use Rattle.cluster.specs.Terms.{mostCopies, bufferRows, Layout, row, mem, rising}
+use Rattle.sums.proofs.Tests.{true-or-false}
+use Rattle.cluster.proofs.Lists.{rising-fresh}
+use Rattle.fields.specs.RecordField.{bytesOf, Bytes, part, numberAt, field, ruleOf, legal, legalAs}
 use Rattle.fields.specs.declared.Field.{Field}
 use Rattle.fields.specs.declared.Field.the-variants.{Body, Refused}
-use Rattle.fields.proofs.Numbers.{length-bytes, bytes-there, number-here, part-append, number-at-lt}
+use Rattle.fields.proofs.Numbers.{length-bytes, bytes-there, number-here, part-append}
 use Rattle.fields.proofs.RecordField.{one-tag, legal-only, whole, field-back, field-here, body-here, rest-here}
 use Rattle.layout_record.specs.declared.Numbers.{Numbers}
 use Rattle.layout_record.specs.RecordLayout.{idBytes, rowField, rowFields}
@@ -66,9 +64,9 @@ rest-rows R r M h =
 pub no-row-fault : (partitions next p : ℕ) (ids : List ℕ) → rowFault partitions next p ids ≡ 0 → (p ≡ next) × (rising ids ≡ true)
 no-row-fault partitions next p ids z =
     ⊎-elim (λ inside. ⊎-elim (λ m. absurd (omega (arith, fault-zero partitions next p ids m)))
-    (λ m. ⊎-elim (λ e. ⊎-elim (λ t. (e, t)) (λ t. absurd (omega (arith, fault-falls partitions next p ids inside m e t))) (test-cases (rising ids)))
+    (λ m. ⊎-elim (λ e. ⊎-elim (λ t. (e, t)) (λ t. absurd (omega (arith, fault-falls partitions next p ids inside m e t))) (true-or-false (rising ids)))
     (λ e. absurd (omega (arith, fault-next partitions next p ids inside m e))) (eq-or-ne p next))
-    (test-cases (mem 0 ids)))
+    (true-or-false (mem 0 ids)))
     (λ out. absurd (omega (arith, fault-partition partitions next p ids out))) (lt-or-ge p partitions)
 
 -- Past the end of a list there is nothing.
@@ -150,12 +148,12 @@ module _ (s : List ℕ) (b : Bytes s) (n : Numbers) where
           let M = L ++ (idsAt s (start + 2) (n .replication) ∷ []) in
           ⊎-elim
           (λ z. let p : rowIn (λ next M. rowsFrom k s next n M) s at n L (Body t start len) ≡ rowsFrom k s (start + len) n M =
-          ap (λ (x : Bool). pick x (rowsFrom k s (start + len) n M) (refusedAt fault at)) (eq-eqb fault 0 z) in
+          ap (λ (x : Bool). cond x (rowsFrom k s (start + len) n M) (refusedAt fault at)) (eq-eqb fault 0 z) in
           subst (λ (o : Outcome). RowsRead o (suc k) s at n L) (sym p)
           (row-back k at L (λ next M. rowsFrom k s next n M) t start len e z
           (i (start + len) M (sym (ap (λ (o : Outcome). o .refusal) p) ∙ q))))
           (λ z. absurd
-          (z (sym (ap (λ (x : Bool). pick x (rowsFrom k s (start + len) n M) (refusedAt fault at) .refusal) (ne-eqb fault 0 z)) ∙ q)))
+          (z (sym (ap (λ (x : Bool). cond x (rowsFrom k s (start + len) n M) (refusedAt fault at) .refusal) (ne-eqb fault 0 z)) ∙ q)))
           (eq-or-ne fault 0)
 
 -- ---- what is in the bytes, is read
@@ -206,7 +204,7 @@ module _ (s : List ℕ) (n : Numbers) (few : n .replication ≤ mostCopies) (som
           ∙ fault-none (2 ^ (n .bits)) p p r (omega arith) (rising-fresh 0 0 r up (omega arith)) refl up in
           let next : length (L ++ (r ∷ [])) ≡ suc p = length-more L r ∙ omega arith in
           ap (rowIn (λ q K. rowsFrom (length M) s q n K) s at n L) field′
-          ∙ (ap (λ (x : Bool). pick x (rowsFrom (length M) s (at + 3 + (2 + 4 * R)) n (L ++ (idsAt s (at + 3 + 2) R ∷ [])))
+          ∙ (ap (λ (x : Bool). cond x (rowsFrom (length M) s (at + 3 + (2 + 4 * R)) n (L ++ (idsAt s (at + 3 + 2) R ∷ [])))
           (refusedAt (rowFault (2 ^ (n .bits)) p (numberAt s (at + 3) 2) (idsAt s (at + 3 + 2) R)) at))
           (eq-eqb (rowFault (2 ^ (n .bits)) p (numberAt s (at + 3) 2) (idsAt s (at + 3 + 2) R)) 0 fault)
           ∙ (ap (λ (l : List ℕ). rowsFrom (length M) s (at + 3 + (2 + 4 * R)) n (L ++ (l ∷ []))) ids

@@ -1,4 +1,4 @@
-pub mod ReadingParts
+pub mod ModelReading
 pub mod RecordLayout
 pub mod RecordLayoutAnswer
 pub mod RecordLayoutFaults

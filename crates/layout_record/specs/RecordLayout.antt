@@ -5,8 +5,7 @@ use mathlib.Core.Path.{_≡_}
 use mathlib.Core.Bool.{true}
 use mathlib.Core.List.{List, [], _∷_, _++_}
 use lib.ListN.{length, getD}
-use Rattle.cluster.specs.Limits.{mostBits, mostCopies}
-use Rattle.cluster.specs.Terms.{Layout, row, rising}
+use Rattle.cluster.specs.Terms.{mostBits, mostCopies, Layout, row, rising}
 unfoldable pub use Rattle.fields.specs.RecordField.{idBytes}
 use Rattle.fields.specs.RecordField.{bytesOf, field}
 use Rattle.layout_record.specs.declared.Numbers.{Numbers}

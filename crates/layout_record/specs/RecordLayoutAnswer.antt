@@ -1,13 +1,11 @@
 -- What `read_layout` and `write_layout` answer, and what the lent cells and bytes then hold.
 -- Assumes nothing.
 use Prim.Native.Nat.{ℕ, _^_}
-use mathlib.Core.Bool.{Bool}
+use mathlib.Core.Bool.{cond}
 use mathlib.Core.List.{List, _++_}
 use lib.Dec.{ltb, eqb}
 use lib.ListN.{length, drop}
-use Rattle.sums.specs.Sum.{pick}
-use Rattle.cluster.specs.Limits.{layoutCells}
-use Rattle.cluster.specs.TermsCells.{cellsOf, rowsIn}
+use Rattle.cluster.specs.Terms.{layoutCells, cellsOf, rowsIn}
 use Rattle.fields.specs.RecordField.{over}
 use Rattle.layout_record.specs.declared.Numbers.{Numbers}
 use Rattle.layout_record.specs.declared.ReadLayout.{ReadLayout}
@@ -17,7 +15,7 @@ use Rattle.layout_record.specs.RecordLayoutFaults.{Outcome, refusedAt, r
 
 -- "8 for the assignment buffer", with byte 0; then field by field.
 unfoldable pub outcomeOf : List ℕ → List ℕ → Outcome
-outcomeOf s cells = pick (ltb (length cells) layoutCells) (refusedAt 8 0) (readLayout s)
+outcomeOf s cells = cond (ltb (length cells) layoutCells) (refusedAt 8 0) (readLayout s)
 
 -- What an outcome answers.
 unfoldable pub answerOf : Outcome → ReadLayout
@@ -31,16 +29,16 @@ readAnswer s cells = answerOf (outcomeOf s cells)
 -- touched."
 unfoldable pub assignmentAfter : List ℕ → List ℕ → List ℕ
 assignmentAfter s cells =
-    pick (eqb (outcomeOf s cells .refusal) 0) (cellsOf (outcomeOf s cells .layout) ++ drop layoutCells cells) cells
+    cond (eqb (outcomeOf s cells .refusal) 0) (cellsOf (outcomeOf s cells .layout) ++ drop layoutCells cells) cells
 
 -- "It answers the record's length."
 unfoldable pub writeAnswer : Numbers → List ℕ → List ℕ → Written
 writeAnswer n cells out = record {
   refusal = writeFault n cells (length out);
-  length = pick (eqb (writeFault n cells (length out)) 0) (recordLength (n .bits) (n .replication)) 0;
+  length = cond (eqb (writeFault n cells (length out)) 0) (recordLength (n .bits) (n .replication)) 0;
 }
 
 -- "Refused, the output keeps its bytes; bytes after the record always keep theirs."
 unfoldable pub outAfter : Numbers → List ℕ → List ℕ → List ℕ
 outAfter n cells out =
-    pick (eqb (writeFault n cells (length out)) 0) (over (layoutRecord n (rowsIn (2 ^ (n .bits)) cells)) out) out
+    cond (eqb (writeFault n cells (length out)) 0) (over (layoutRecord n (rowsIn (2 ^ (n .bits)) cells)) out) out

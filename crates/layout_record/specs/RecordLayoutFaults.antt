@@ -1,15 +1,13 @@
 -- Reading and writing a layout record: the faults and their order, held against "Read a layout" and "Write a layout" of document 01.
 -- Assumes nothing.
 use Prim.Native.Nat.{ℕ, zero, suc, _+_, _*_, _^_}
-use mathlib.Core.Bool.{Bool, true, not, _&&_, _||_}
+use mathlib.Core.Bool.{Bool, not, _&&_, _||_, cond}
 use mathlib.Core.List.{List, [], _∷_, _++_}
 use lib.Dec.{ltb, leb, eqb}
 use lib.ListN.{length}
-use Rattle.sums.specs.Sum.{pick}
-use Rattle.sets.specs.Bits.{withOf}
-use Rattle.cluster.specs.Limits.{mostBits, mostCopies, bufferRows, layoutCells}
-use Rattle.cluster.specs.Terms.{Layout, mem, rising}
-use Rattle.cluster.specs.TermsCells.{rowAt, idsIn, blank, formed}
+use Rattle.sets.specs.ModelBits.{withOf}
+use Rattle.sums.specs.TermsSums.{everyTo}
+use Rattle.cluster.specs.Terms.{mostBits, mostCopies, bufferRows, layoutCells, Layout, mem, rising, rowAt, idsIn, blank, formed}
 unfoldable pub use Rattle.fields.specs.RecordField.{idsAt}
 use Rattle.fields.specs.RecordField.{numberAt, fieldAt, refusalOf, placeOf}
 use Rattle.fields.specs.declared.Field.{Field}
@@ -25,13 +23,13 @@ use Rattle.layout_record.specs.RecordLayout.{mostSize, mostDistance, mos
 
 -- The field at byte `at`, which has to have this tag: "7 when a field or row is missing", with the record's length; else as fields are taken.
 unfoldable pub nextField : List ℕ → ℕ → ℕ → ℕ → Field
-nextField s at tag exact = pick (leb (length s) at) (Refused 7 (length s)) (fieldAt s at (withOf 0 tag) exact)
+nextField s at tag exact = cond (leb (length s) at) (Refused 7 (length s)) (fieldAt s at (withOf 0 tag) exact)
 
 -- "4, a value outside its range", with the byte at which the field begins; else the value, and the byte after the field.
 abbrev pub valueIn : List ℕ → ℕ → ℕ → ℕ → Field → Number
 valueIn s at least most (Refused refusal byte) = Stopped refusal byte
 valueIn s at least most (Body tag start len) =
-    pick (ltb (numberAt s start len) least || ltb most (numberAt s start len)) (Stopped 4 at) (Value (numberAt s start len) (start + len))
+    cond (ltb (numberAt s start len) least || ltb most (numberAt s start len)) (Stopped 4 at) (Value (numberAt s start len) (start + len))
 
 -- The number in the field at byte `at`, which has to have this tag.
 unfoldable pub numberIn : List ℕ → ℕ → ℕ → ℕ → ℕ → Number
@@ -78,19 +76,19 @@ accepted n L = record { refusal = 0; byte = 0; numbers = n; layout = L }
 -- "4, a value outside its range (id 0 and partition at or above P included); 5, id not rising", "5 also for a row that isn't the next
 -- partition".
 unfoldable pub rowFault : ℕ → ℕ → ℕ → List ℕ → ℕ
-rowFault partitions next p ids = pick (leb partitions p || mem 0 ids) 4 (pick (not (eqb p next) || not (rising ids)) 5 0)
+rowFault partitions next p ids = cond (leb partitions p || mem 0 ids) 4 (cond (not (eqb p next) || not (rising ids)) 5 0)
 
 -- After the last row: the record ends, or is refused: "2 also for any field after the last row", and 1 where one or two bytes are left. No tag
 -- is allowed there.
 unfoldable pub endIn : List ℕ → ℕ → Numbers → Layout → Outcome
 endIn s at n L =
-    pick (leb (length s) at) (accepted n L) (refusedAt (refusalOf (fieldAt s at 0 0)) (placeOf (fieldAt s at 0 0)))
+    cond (leb (length s) at) (accepted n L) (refusedAt (refusalOf (fieldAt s at 0 0)) (placeOf (fieldAt s at 0 0)))
 
 -- A row, and what comes after it. L has the rows before it; "for field 10 only 2 + 4R with this record's R is legal".
 abbrev pub rowIn : (ℕ → Layout → Outcome) → List ℕ → ℕ → Numbers → Layout → Field → Outcome
 rowIn go s at n L (Refused refusal byte) = refusedAt refusal byte
 rowIn go s at n L (Body tag start len) =
-    pick (eqb (rowFault (2 ^ (n .bits)) (length L) (numberAt s start 2) (idsAt s (start + 2) (n .replication))) 0)
+    cond (eqb (rowFault (2 ^ (n .bits)) (length L) (numberAt s start 2) (idsAt s (start + 2) (n .replication))) 0)
     (go (start + len) (L ++ (idsAt s (start + 2) (n .replication) ∷ [])))
     (refusedAt (rowFault (2 ^ (n .bits)) (length L) (numberAt s start 2) (idsAt s (start + 2) (n .replication))) at)
 
@@ -119,12 +117,7 @@ numbersFit n =
 -- Whether row p of the cells is "R rising non-zero ids then zeros", and from P on zero.
 unfoldable pub rowFits : List ℕ → ℕ → ℕ → ℕ → Bool
 rowFits cells partitions replication p =
-    pick (ltb p partitions) (formed (rowAt cells p) && eqb (length (idsIn (rowAt cells p))) replication) (blank (rowAt cells p))
-
--- Whether a test holds of each number below n.
-unfoldable pub everyTo : ℕ → (ℕ → Bool) → Bool
-everyTo zero f = true
-everyTo (suc n) f = everyTo n f && f n
+    cond (ltb p partitions) (formed (rowAt cells p) && eqb (length (idsIn (rowAt cells p))) replication) (blank (rowAt cells p))
 
 unfoldable pub rowsFit : List ℕ → ℕ → ℕ → Bool
 rowsFit cells partitions replication = everyTo bufferRows (rowFits cells partitions replication)
@@ -133,7 +126,7 @@ rowsFit cells partitions replication = everyTo bufferRows (rowFits cells partiti
 -- 8: output shorter than the record"; 0 where there is no fault.
 unfoldable pub writeFault : Numbers → List ℕ → ℕ → ℕ
 writeFault n cells room =
-    pick (ltb (length cells) layoutCells) 8
-    (pick (not (numbersFit n)) 4
-    (pick (not (rowsFit cells (2 ^ (n .bits)) (n .replication))) 10
-    (pick (ltb room (recordLength (n .bits) (n .replication))) 8 0)))
+    cond (ltb (length cells) layoutCells) 8
+    (cond (not (numbersFit n)) 4
+    (cond (not (rowsFit cells (2 ^ (n .bits)) (n .replication))) 10
+    (cond (ltb room (recordLength (n .bits) (n .replication))) 8 0)))

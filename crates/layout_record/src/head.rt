@@ -2,9 +2,9 @@
 ghost use mathlib.Core.Path.{_≡_};
 ghost use mathlib.Core.Logic.{_⊎_};
 ghost use lib.ListN.{length};
-ghost use Rattle.sets.specs.Bits.{withOf};
+ghost use Rattle.sets.specs.ModelBits.{withOf};
 ghost use Rattle.fields.specs.RecordField.{numberAt, Within};
-ghost use Rattle.layout_record.specs.ReadingParts.{Narrow, haltedBy, haltOf, haltAt};
+ghost use Rattle.layout_record.specs.ModelReading.{Narrow, haltedBy, haltOf, haltAt};
 ghost use Rattle.layout_record.specs.RecordLayoutFaults.{nextField, numberIn, headIn};
 use super::Numbers;
 use cluster::Cluster;

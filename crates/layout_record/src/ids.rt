@@ -2,9 +2,8 @@
 ghost use mathlib.Core.Path.{_≡_};
 ghost use Prim.Native.Nat.{_+_, _*_, _≤_};
 ghost use lib.ListN.{length};
-ghost use Rattle.cells.specs.Cells.{put};
-ghost use Rattle.cluster.specs.Limits.{rowCells};
-ghost use Rattle.cluster.specs.Terms.{mem, rising};
+ghost use Rattle.cells.specs.ModelCells.{put};
+ghost use Rattle.cluster.specs.Terms.{rowCells, mem, rising};
 ghost use Rattle.fields.specs.RecordField.{numberAt};
 ghost use Rattle.layout_record.specs.RecordLayoutFaults.{idsAt};
 use cluster::Cluster;

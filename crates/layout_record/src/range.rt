@@ -2,7 +2,7 @@
 ghost use mathlib.Core.Path.{_≡_};
 ghost use Prim.Native.Nat.{_^_, _≤_, _<_};
 ghost use lib.ListN.{length};
-ghost use Rattle.cluster.specs.Limits.{mostBits, mostCopies, bufferRows, layoutCells};
+ghost use Rattle.cluster.specs.Terms.{mostBits, mostCopies, bufferRows, layoutCells};
 ghost use Rattle.layout_record.specs.RecordLayout.{recordLength};
 ghost use Rattle.layout_record.specs.RecordLayoutFaults.{numbersFit, rowFits, rowsFit, writeFault};
 use super::Numbers;

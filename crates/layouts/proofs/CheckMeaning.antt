@@ -1,28 +1,21 @@
 -- Check passes exactly the layouts valid at the size that is named.
 -- Assumes nothing.
-use Prim.Native.Nat.{ℕ, _+_, _*_, _≤_, _<_}
-use mathlib.Core.Path.{_≡_, refl, sym, ap, ap₂, _∙_, subst}
-use mathlib.Core.Bool.{Bool, true, false, _&&_}
+use Prim.Native.Nat.{ℕ, _≤_, _<_}
+use mathlib.Core.Path.{_≡_, sym, ap, ap₂, _∙_, subst}
+use mathlib.Core.Bool.{true}
 use mathlib.Core.List.{List}
 use mathlib.Core.Logic.{⊎-elim}
-use native.Mathlib.Nat.{zero-add}
 use native.Mathlib.Omega.{arith}
-use lib.Dec.{ltb, eqb}
 use lib.ListN.{length, take}
-use lib.Seq.{length-take-le}
-use borrow.Author.Tests.{lt-ltb, le-ltb, ltb-false, eq-eqb, eqb-true}
-use Rattle.sums.specs.Sum.{pick}
 use Rattle.sums.proofs.Sum.{lt-or-ge}
-use Rattle.cluster.specs.Limits.{bufferRows, layoutCells}
-use Rattle.cluster.specs.Terms.{Topology, topology, partitions, nodeAt, idsOf, mem, rising, zonesOf, Layout, row, copiesIn, ValidRow, ValidAt}
-use Rattle.cluster.specs.TermsCells.{cellsOf, rowAt, idsIn, blank, formed, rowsIn, FitsCells, HoldsRows}
-use Rattle.cluster.specs.Faults.{faultOf, Accepted}
+use Rattle.cluster.specs.Terms.{bufferRows, layoutCells, Topology, topology, partitions, nodeAt, Layout, ValidRow, ValidAt, cellsOf, rowAt, idsIn, blank, formed, rowsIn, faultOf}
+use Rattle.cluster.specs.ModelRows.{FitsCells, HoldsRows}
+use Rattle.cluster.specs.TermsReading.{Accepted}
 use Rattle.cluster.specs.declared.Cluster.{Cluster}
 use Rattle.cluster.proofs.Accepting.{accepted}
-use Rattle.cluster.proofs.CellRows.{both, formed-rising}
 use Rattle.cluster.proofs.CellLayouts.{length-rowsIn, row-rowsIn, rowAt-take, rowsIn-take, rowsIn-cellsOf, holds-cellsOf, cellsOf-rowsIn}
 use Rattle.layouts.specs.declared.check.Checked.{Checked}
-use Rattle.layouts.specs.TermsCheck.{fault, passed, allIn, rightIds, rowFault, rowsFault, nodeFault, nodesFault, checkOf}
+use Rattle.layouts.specs.TermsCheck.{fault, passed, rowFault, rowsFault, nodeFault, nodesFault, checkOf}
 use Rattle.layouts.proofs.Sound.{few-rows}
 use Rattle.layouts.proofs.FaultMeaning.{own-row, row-own, other-row, row-other, node-held, held-node, each-row}
 use Rattle.layouts.proofs.CheckOrder.{none-found, find-none, sound, no-cluster-fault, order-nodes, all-pass}

@@ -2,19 +2,15 @@
 -- Assumes nothing.
 use Prim.Native.Nat.{ℕ, zero, suc, _+_, _≤_, _<_}
 use mathlib.Core.Path.{_≡_, refl, sym, ap, _∙_}
-use mathlib.Core.Bool.{Bool, true, false}
+use mathlib.Core.Bool.{Bool, true, false, cond}
 use mathlib.Core.List.{List}
 use mathlib.Core.Logic.{⊎-elim}
 use native.Mathlib.Omega.{arith}
 use lib.Dec.{ltb, eqb}
 use lib.ListN.{length}
 use borrow.Author.Tests.{lt-ltb, le-ltb, eq-eqb, ne-eqb, eqb-true, eqb-false}
-use Rattle.sums.specs.Sum.{pick}
 use Rattle.sums.proofs.Sum.{lt-or-ge, eq-or-ne}
-use Rattle.cluster.specs.Limits.{layoutCells}
-use Rattle.cluster.specs.Terms.{topology, partitions}
-use Rattle.cluster.specs.TermsCells.{rowsIn}
-use Rattle.cluster.specs.Faults.{faultOf}
+use Rattle.cluster.specs.Terms.{layoutCells, topology, partitions, rowsIn, faultOf}
 use Rattle.cluster.specs.declared.Cluster.{Cluster}
 use Rattle.layouts.specs.declared.check.Checked.{Checked}
 use Rattle.layouts.specs.TermsCheck.{fault, passed, firstFrom, clusterFault, rowsFault, nodesFault, checkOf}
@@ -28,7 +24,7 @@ unfolding firstFrom
 none-found zero i f e j l k = absurd (omega arith)
 none-found (suc n) i f e j l k = go (eqb (f i .refusal) 0) refl e (none-found n (suc i) f)
   where
-    go : (b : Bool) → eqb (f i .refusal) 0 ≡ b → pick b (firstFrom n (suc i) f) (f i) .refusal ≡ 0
+    go : (b : Bool) → eqb (f i .refusal) 0 ≡ b → cond b (firstFrom n (suc i) f) (f i) .refusal ≡ 0
         → (firstFrom n (suc i) f .refusal ≡ 0 → (x : ℕ) → suc i ≤ x → x < suc i + n → f x .refusal ≡ 0) → f j .refusal ≡ 0
     go false q h r = absurd (eqb-false (f i .refusal) 0 q h)
     go true q h r =
@@ -40,7 +36,7 @@ pub find-none : (n i : ℕ) (f : ℕ → Checked) → ((j : ℕ) → i ≤ j →
 unfolding firstFrom
 find-none zero i f h = refl
 find-none (suc n) i f h =
-    ap (λ (b : Bool). pick b (firstFrom n (suc i) f) (f i)) (eq-eqb (f i .refusal) 0 (h i (omega arith) (omega arith)))
+    ap (λ (b : Bool). cond b (firstFrom n (suc i) f) (f i)) (eq-eqb (f i .refusal) 0 (h i (omega arith) (omega arith)))
     ∙ find-none n (suc i) f (λ j l k. h j (omega arith) (omega arith))
 
 -- ---- the order
@@ -50,7 +46,7 @@ pub sound : (c : Cluster) (size : ℕ) → clusterFault c size ≡ 0 → (faultO
 unfolding clusterFault
 sound c size e = go (ltb 32 (c .count)) (eqb size 0) refl e
   where
-    go : (a b : Bool) → eqb size 0 ≡ b → _≡_ {A = ℕ} (pick a 6 (pick b 4 (faultOf c))) 0 → (faultOf c ≡ 0) × (1 ≤ size)
+    go : (a b : Bool) → eqb size 0 ≡ b → _≡_ {A = ℕ} (cond a 6 (cond b 4 (faultOf c))) 0 → (faultOf c ≡ 0) × (1 ≤ size)
     go true b q h = absurd (omega arith)
     go false true q h = absurd (omega arith)
     go false false q h = let n : (size ≡ 0 → ⊥) = eqb-false size 0 q in (h, omega arith)

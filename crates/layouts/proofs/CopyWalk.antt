@@ -1,22 +1,19 @@
 -- The copies in the rows so far: one row more, and the turns of the walk that adds it.
 -- Assumes nothing.
-use Prim.Native.Nat.{ℕ, zero, suc, _+_, _-_, _*_, _≤_, _<_}
+use Prim.Native.Nat.{ℕ, _+_, _-_, _≤_, _<_}
 use mathlib.Core.Path.{_≡_, refl, sym, ap, ap₂, _∙_}
-use mathlib.Core.Bool.{Bool, true, false}
 use mathlib.Core.List.{List, [], _∷_, _++_, append-nil}
 use native.Mathlib.Numerals.{add-one}
 use native.Mathlib.Omega.{arith}
 use lib.ListN.{length, drop, getD, set, replicate}
 use lib.Seq.{getD-append-add, getD-drop, drop-length}
-use Rattle.sums.specs.Sum.{one-if}
-use Rattle.cells.specs.Cells.{tab}
+use Rattle.sums.specs.TermsSums.{one-if, tab}
 use Rattle.cells.proofs.Cells.{length-tab, getD-tab, tab-cong, tab-more}
-use Rattle.sets.specs.Bits.{bit}
-use Rattle.cluster.specs.Terms.{Topology, nodeAt, mem, Layout, copiesIn}
-use Rattle.cluster.specs.TermsCells.{rowAt, idsIn, rowsIn}
-use Rattle.cluster.proofs.Lists.{one-if-le}
+use Rattle.sets.specs.ModelBits.{bit}
+use Rattle.cluster.specs.Terms.{Topology, nodeAt, mem, Layout, copiesIn, rowAt, idsIn, rowsIn}
+use Rattle.sums.proofs.Tests.{one-if-le}
 use Rattle.cluster.proofs.CellLayouts.{length-rowsIn}
-use Rattle.layouts.specs.Scans.{rowNodes, copiesSoFar}
+use Rattle.layouts.specs.ModelScans.{rowNodes, copiesSoFar}
 use Rattle.layouts.proofs.RowWalks.{bit-nodes}
 
 -- One row more at the end.

@@ -2,18 +2,16 @@
 -- Assumes nothing.
 use Prim.Native.Nat.{ℕ, _*_, _≤_, _<_}
 use mathlib.Core.Path.{_≡_, refl, sym, ap, _∙_}
-use mathlib.Core.Bool.{Bool, true, false, _&&_}
+use mathlib.Core.Bool.{Bool, true, false, _&&_, cond}
 use mathlib.Core.List.{List}
 use native.Mathlib.Omega.{arith}
 use lib.Dec.{ltb, eqb}
 use lib.ListN.{length}
 use borrow.Author.Tests.{lt-ltb, le-ltb, ltb-false, eq-eqb, eqb-true}
-use Rattle.sums.specs.Sum.{pick}
-use Rattle.cluster.specs.Limits.{bufferRows}
-use Rattle.cluster.specs.Terms.{Topology, partitions, nodeAt, idsOf, zonesOf, Layout, copiesIn, ValidRow}
-use Rattle.cluster.specs.TermsCells.{rowAt, idsIn, blank, formed}
-use Rattle.cluster.specs.Faults.{Accepted}
-use Rattle.cluster.proofs.CellRows.{both, formed-rising}
+use Rattle.cluster.specs.Terms.{bufferRows, Topology, partitions, nodeAt, idsOf, zonesOf, Layout, copiesIn, ValidRow, rowAt, idsIn, blank, formed}
+use Rattle.cluster.specs.TermsReading.{Accepted}
+use Rattle.sums.proofs.Tests.{both}
+use Rattle.cluster.proofs.CellRows.{formed-rising}
 use Rattle.layouts.specs.TermsCheck.{fault, allIn, rightIds, rowFault, rowsFault, nodeFault}
 use Rattle.layouts.proofs.Sound.{few-rows}
 use Rattle.layouts.proofs.RowFaults.{all-mem, mem-all}
@@ -34,12 +32,12 @@ pub own-row : (t : Topology) (cells : List ℕ) (p : ℕ) → p < partitions t �
 unfolding rowFault
 own-row t cells p h e =
     go (rightIds t r) refl (ltb (zonesOf (t .nodes) (idsIn r)) (t .redundancy)) refl
-    (sym (ap (λ (b : Bool). pick b (pick (rightIds t r) (pick (ltb (zonesOf (t .nodes) (idsIn r)) (t .redundancy)) 11 0) 10) (pick (blank r) 0 10)) (lt-ltb p (partitions t) h)) ∙ e)
+    (sym (ap (λ (b : Bool). cond b (cond (rightIds t r) (cond (ltb (zonesOf (t .nodes) (idsIn r)) (t .redundancy)) 11 0) 10) (cond (blank r) 0 10)) (lt-ltb p (partitions t) h)) ∙ e)
   where
     r : List ℕ
     r = rowAt cells p
 
-    go : (a : Bool) → rightIds t r ≡ a → (b : Bool) → ltb (zonesOf (t .nodes) (idsIn r)) (t .redundancy) ≡ b → _≡_ {A = ℕ} (pick a (pick b 11 0) 10) 0
+    go : (a : Bool) → rightIds t r ≡ a → (b : Bool) → ltb (zonesOf (t .nodes) (idsIn r)) (t .redundancy) ≡ b → _≡_ {A = ℕ} (cond a (cond b 11 0) 10) 0
         → (formed r ≡ true) × ValidRow t (idsIn r)
     go false q b z k = absurd (omega arith)
     go true q true z k = absurd (omega arith)
@@ -72,7 +70,7 @@ pub other-row : (t : Topology) (cells : List ℕ) (p : ℕ) → partitions t ≤
 unfolding rowFault
 other-row t cells p h e = go (blank (rowAt cells p)) (sym (simp (le-ltb p (partitions t) h)) ∙ e)
   where
-    go : (b : Bool) → _≡_ {A = ℕ} (pick b 0 10) 0 → b ≡ true
+    go : (b : Bool) → _≡_ {A = ℕ} (cond b 0 10) 0 → b ≡ true
     go true q = refl
     go false q = absurd (omega arith)
 
@@ -85,7 +83,7 @@ pub node-held : (t : Topology) (L : Layout) (size b : ℕ) → nodeFault t L siz
 unfolding nodeFault
 node-held t L size b e = go (ltb (nodeAt t b .capacity) (copiesIn L (nodeAt t b .id) * size)) refl e
   where
-    go : (a : Bool) → ltb (nodeAt t b .capacity) (copiesIn L (nodeAt t b .id) * size) ≡ a → _≡_ {A = ℕ} (pick a 12 0) 0
+    go : (a : Bool) → ltb (nodeAt t b .capacity) (copiesIn L (nodeAt t b .id) * size) ≡ a → _≡_ {A = ℕ} (cond a 12 0) 0
         → copiesIn L (nodeAt t b .id) * size ≤ nodeAt t b .capacity
     go true q h = absurd (omega arith)
     go false q h = ltb-false (nodeAt t b .capacity) (copiesIn L (nodeAt t b .id) * size) q

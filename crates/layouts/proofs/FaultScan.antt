@@ -1,23 +1,21 @@
 -- The scans for a first fault, and the fault of a node as check computes it.
 -- Assumes nothing.
 use Prim.Native.Nat.{ℕ, suc, _+_, _-_, _*_, _≤_, _<_}
-use mathlib.Core.Path.{_≡_, refl, sym, ap, ap₂, _∙_}
-use mathlib.Core.Bool.{Bool}
+use mathlib.Core.Path.{_≡_, sym, ap, ap₂, _∙_}
+use mathlib.Core.Bool.{Bool, cond}
 use mathlib.Core.List.{List}
 use native.Mathlib.Numerals.{add-one}
 use native.Mathlib.Omega.{arith}
-use lib.Dec.{ltb, eqb}
-use lib.ListN.{length, getD}
+use lib.Dec.{ltb}
+use lib.ListN.{getD}
 use borrow.Author.Tests.{eq-eqb, ne-eqb, lt-ltb, le-ltb}
-use Rattle.sums.specs.Sum.{pick}
-use Rattle.cluster.specs.Terms.{topology, noNode, nodeAt, copiesIn}
-use Rattle.cluster.specs.TermsCells.{rowsIn}
+use Rattle.cluster.specs.Terms.{topology, noNode, rowsIn}
 use Rattle.cluster.specs.declared.Cluster.{Cluster}
 use Rattle.cluster.specs.declared.Node.{Node}
 use Rattle.cluster.proofs.Slots.{node-slot}
 use Rattle.layouts.specs.declared.check.Checked.{Checked}
 use Rattle.layouts.specs.TermsCheck.{passed, firstFrom, nodeFault}
-use Rattle.layouts.specs.Scans.{copiesSoFar}
+use Rattle.layouts.specs.ModelScans.{copiesSoFar}
 use Rattle.layouts.proofs.CopyWalk.{so-far-cell}
 
 module _ (n i : ℕ) (f : ℕ → Checked) where
@@ -26,7 +24,7 @@ module _ (n i : ℕ) (f : ℕ → Checked) where
   unfolding firstFrom
   scan-fault l h =
       let e : n - i ≡ suc (n - (i + 1)) = omega arith in
-      ap (λ (k : ℕ). firstFrom k i f) e ∙ ap (λ (b : Bool). pick b (firstFrom (n - (i + 1)) (suc i) f) (f i)) (ne-eqb (f i .refusal) 0 h)
+      ap (λ (k : ℕ). firstFrom k i f) e ∙ ap (λ (b : Bool). cond b (firstFrom (n - (i + 1)) (suc i) f) (f i)) (ne-eqb (f i .refusal) 0 h)
 
   -- A scan that is at no fault goes on.
   pub scan-on : i < n → f i .refusal ≡ 0 → firstFrom (n - i) i f ≡ firstFrom (n - (i + 1)) (i + 1) f
@@ -34,7 +32,7 @@ module _ (n i : ℕ) (f : ℕ → Checked) where
   scan-on l h =
       let e : n - i ≡ suc (n - (i + 1)) = omega arith in
       ap (λ (k : ℕ). firstFrom k i f) e
-      ∙ (ap (λ (b : Bool). pick b (firstFrom (n - (i + 1)) (suc i) f) (f i)) (eq-eqb (f i .refusal) 0 h)
+      ∙ (ap (λ (b : Bool). cond b (firstFrom (n - (i + 1)) (suc i) f) (f i)) (eq-eqb (f i .refusal) 0 h)
       ∙ ap (λ (k : ℕ). firstFrom (n - (i + 1)) k f) (sym (add-one i)))
 
   -- A scan at its end has found none.
@@ -47,17 +45,17 @@ module _ (n i : ℕ) (f : ℕ → Checked) where
 module _ (c : Cluster) (cells : List ℕ) (p size b : ℕ) (used : b < c .count) (few : b < 32) where
   -- What is read in the slot of node b and in the counts.
   node-reads : nodeFault (topology c) (rowsIn p cells) size b
-      ≡ pick (ltb (getD (c .nodes) b noNode .capacity) (getD (copiesSoFar (topology c) cells p) b 0 * size)) 12 0
+      ≡ cond (ltb (getD (c .nodes) b noNode .capacity) (getD (copiesSoFar (topology c) cells p) b 0 * size)) 12 0
   unfolding nodeFault
   node-reads =
-      ap₂ (λ (n : Node) (k : ℕ). pick (ltb (n .capacity) (k * size)) 12 0) (node-slot c b used) (sym (so-far-cell (topology c) cells p b few))
+      ap₂ (λ (n : Node) (k : ℕ). cond (ltb (n .capacity) (k * size)) 12 0) (node-slot c b used) (sym (so-far-cell (topology c) cells p b few))
 
   -- More copies than the capacity takes.
   pub node-over : getD (c .nodes) b noNode .capacity < getD (copiesSoFar (topology c) cells p) b 0 * size
       → nodeFault (topology c) (rowsIn p cells) size b ≡ 12
-  node-over h = node-reads ∙ ap (λ (t : Bool). pick t 12 0) (lt-ltb (getD (c .nodes) b noNode .capacity) (getD (copiesSoFar (topology c) cells p) b 0 * size) h)
+  node-over h = node-reads ∙ ap (λ (t : Bool). cond t 12 0) (lt-ltb (getD (c .nodes) b noNode .capacity) (getD (copiesSoFar (topology c) cells p) b 0 * size) h)
 
   -- No more than it takes.
   pub node-within : getD (copiesSoFar (topology c) cells p) b 0 * size ≤ getD (c .nodes) b noNode .capacity
       → nodeFault (topology c) (rowsIn p cells) size b ≡ 0
-  node-within h = node-reads ∙ ap (λ (t : Bool). pick t 12 0) (le-ltb (getD (c .nodes) b noNode .capacity) (getD (copiesSoFar (topology c) cells p) b 0 * size) h)
+  node-within h = node-reads ∙ ap (λ (t : Bool). cond t 12 0) (le-ltb (getD (c .nodes) b noNode .capacity) (getD (copiesSoFar (topology c) cells p) b 0 * size) h)

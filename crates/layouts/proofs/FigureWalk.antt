@@ -2,8 +2,8 @@
 -- Assumes nothing.
 use Prim.Native.Nat.{ℕ, zero, suc, _+_, _*_, _≤_, _<_}
 use mathlib.Core.Path.{_≡_, refl, sym, ap, ap₂, _∙_}
-use mathlib.Core.Bool.{Bool}
-use mathlib.Core.List.{List, []}
+use mathlib.Core.Bool.{Bool, cond}
+use mathlib.Core.List.{List}
 use mathlib.Core.Logic.{⊎-elim}
 use native.Mathlib.Nat.{one-mul, zero-mul}
 use native.Mathlib.Numerals.{add-one}
@@ -11,13 +11,12 @@ use native.Mathlib.Omega.{arith}
 use lib.Dec.{ltb, eqb}
 use lib.ListN.{length, getD, List·getD-eq-default}
 use borrow.Author.Tests.{lt-ltb, le-ltb, eq-eqb, ne-eqb}
-use Rattle.sums.specs.Sum.{sumTo, one-if, is, pick}
+use Rattle.sums.specs.TermsSums.{sumTo, one-if, tab}
+use Rattle.sums.specs.ModelSums.{is}
 use Rattle.sums.proofs.Sum.{lt-or-ge, is-eq, is-ne, sum-cong}
-use Rattle.cells.specs.Cells.{tab, put}
+use Rattle.cells.specs.ModelCells.{put}
 use Rattle.cells.proofs.Cells.{put-cong}
-use Rattle.cluster.specs.Limits.{figureCells}
-use Rattle.cluster.specs.Terms.{Topology, topology, partitions, noNode, nodeAt, copiesIn}
-use Rattle.cluster.specs.TermsCells.{rowAt, rowsIn}
+use Rattle.cluster.specs.Terms.{figureCells, Topology, topology, partitions, noNode, nodeAt, copiesIn, rowAt, rowsIn}
 use Rattle.cluster.specs.declared.Cluster.{Cluster}
 use Rattle.cluster.specs.declared.Node.{Node}
 use Rattle.cluster.proofs.Slots.{node-slot}
@@ -25,7 +24,7 @@ use Rattle.layouts.specs.declared.check.Checked.{Checked}
 use Rattle.layouts.specs.declared.figures.Figured.{Figured}
 use Rattle.layouts.specs.TermsCheck.{fault, checkOf}
 use Rattle.layouts.specs.TermsFigures.{nodeCopies, zoneCopies, figuresMade, hopeOf, figuresFault, figuresOf, figuresIn}
-use Rattle.layouts.specs.Scans.{copiesSoFar, zoneSum}
+use Rattle.layouts.specs.ModelScans.{copiesSoFar, zoneSum}
 use Rattle.layouts.proofs.RowWalks.{zero-unnamed}
 use Rattle.layouts.proofs.CopyWalk.{copies-more, so-far-cell}
 
@@ -92,16 +91,16 @@ module _ (t : Topology) (cells : List ℕ) (p : ℕ) where
   unfolding nodeCopies
   node-figure b h =
       so-far-cell t cells p b h
-      ∙ ⊎-elim (λ l. sym (ap (λ (m : Bool). pick m (copiesIn (rowsIn p cells) (nodeAt t b .id)) 0) (lt-ltb b (length (t .nodes)) l)))
+      ∙ ⊎-elim (λ l. sym (ap (λ (m : Bool). cond m (copiesIn (rowsIn p cells) (nodeAt t b .id)) 0) (lt-ltb b (length (t .nodes)) l)))
       (λ l. ap (λ (n : Node). copiesIn (rowsIn p cells) (n .id)) (List·getD-eq-default (t .nodes) noNode l)
-      ∙ (unused-none p ∙ sym (ap (λ (m : Bool). pick m (copiesIn (rowsIn p cells) (nodeAt t b .id)) 0) (le-ltb b (length (t .nodes)) l))))
+      ∙ (unused-none p ∙ sym (ap (λ (m : Bool). cond m (copiesIn (rowsIn p cells) (nodeAt t b .id)) 0) (le-ltb b (length (t .nodes)) l))))
       (lt-or-ge b (length (t .nodes)))
 
   -- The sums of the counts are the copies of the zones.
   pub zone-figure : length (t .nodes) ≤ 32 → (b : ℕ) → zoneSum t (copiesSoFar t cells p) b ≡ zoneCopies t (rowsIn p cells) b
   unfolding zoneSum zoneCopies
   zone-figure few b =
-      ap (λ (n : ℕ). pick (ltb b (length (t .nodes))) n 0)
+      ap (λ (n : ℕ). cond (ltb b (length (t .nodes))) n 0)
       (sum-cong (length (t .nodes)) (λ x. is (nodeAt t x .zone) (nodeAt t b .zone) * getD (copiesSoFar t cells p) x 0)
       (λ x. is (nodeAt t x .zone) (nodeAt t b .zone) * copiesIn (rowsIn p cells) (nodeAt t x .id))
       (λ x l. ap (λ (n : ℕ). is (nodeAt t x .zone) (nodeAt t b .zone) * n) (so-far-cell t cells p x (omega arith))))
@@ -136,7 +135,7 @@ module _ (c : Cluster) (assignment : List ℕ) (size : ℕ) (cells : List ℕ) w
   unfolding figuresOf figuresIn
   refused-answer f e h =
       let n = ap (λ (k : Checked). eqb (k .refusal) 0) e ∙ ne-eqb (f .refusal) 0 h in
-      (sym (ap (λ (k : Checked). answer k (pick (eqb (k .refusal) 0) (hopeOf (topology c)) 0)) e ∙ ap (λ (b : Bool). answer f (pick b (hopeOf (topology c)) 0)) (ne-eqb (f .refusal) 0 h)), sym (simp n))
+      (sym (ap (λ (k : Checked). answer k (cond (eqb (k .refusal) 0) (hopeOf (topology c)) 0)) e ∙ ap (λ (b : Bool). answer f (cond b (hopeOf (topology c)) 0)) (ne-eqb (f .refusal) 0 h)), sym (simp n))
     where
       answer : Checked → ℕ → Figured
       answer k hope = record { refusal = k .refusal; place = k .place; hope = hope }
@@ -148,7 +147,7 @@ module _ (c : Cluster) (assignment : List ℕ) (size : ℕ) (cells : List ℕ) w
   unfolding figuresOf figuresIn
   made-answer f e h =
       let n = ap (λ (k : Checked). eqb (k .refusal) 0) e ∙ eq-eqb (f .refusal) 0 h in
-      (sym (ap (λ (k : Checked). answer (k .refusal) (k .place) (pick (eqb (k .refusal) 0) (hopeOf (topology c)) 0)) e ∙ ap (λ (r : ℕ). answer r (f .place) (pick (eqb r 0) (hopeOf (topology c)) 0)) h), sym (simp n))
+      (sym (ap (λ (k : Checked). answer (k .refusal) (k .place) (cond (eqb (k .refusal) 0) (hopeOf (topology c)) 0)) e ∙ ap (λ (r : ℕ). answer r (f .place) (cond (eqb r 0) (hopeOf (topology c)) 0)) h), sym (simp n))
     where
       answer : ℕ → ℕ → ℕ → Figured
       answer r p hope = record { refusal = r; place = p; hope = hope }

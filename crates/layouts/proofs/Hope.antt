@@ -1,18 +1,18 @@
 -- The size to hope for bounds the size of every valid layout.
 -- Assumes nothing.
-use Prim.Native.Nat.{ℕ, _*_, _≤_, _<_}
-use mathlib.Core.Path.{_≡_, refl, sym, ap, ap₂, _∙_, subst}
+use Prim.Native.Nat.{ℕ, _*_, _≤_}
+use mathlib.Core.Path.{_≡_, _∙_, subst}
 use native.Mathlib.Nat.{mul-comm, le-div-iff-mul-le, mul-le-mul-right}
 use native.Mathlib.Omega.{arith}
 use lib.ListN.{length}
 use lib.Pow.{pow-pos}
-use Rattle.sums.specs.Sum.{sumTo}
+use Rattle.sums.specs.TermsSums.{sumTo}
 use Rattle.sums.proofs.Sum.{sum-cong, sum-le, sum-scale, sum-swap, sum-const}
-use Rattle.exchange.specs.Row.{copies}
+use Rattle.exchange.specs.ModelRow.{copies}
 use Rattle.cluster.specs.Terms.{Topology, partitions, nodeAt, Layout, row, copiesIn, ValidAt, IsSize}
-use Rattle.cluster.specs.Faults.{Accepted}
-use Rattle.cluster.specs.Tie.{incidence}
-use Rattle.cluster.proofs.TieLayouts.{copies-bits, valid-bits}
+use Rattle.cluster.specs.TermsReading.{Accepted}
+use Rattle.incidence.specs.ModelIncidence.{incidence}
+use Rattle.incidence.proofs.TieLayouts.{copies-bits, valid-bits}
 use Rattle.layouts.specs.TermsFigures.{hopeOf}
 
 -- A valid layout has R copies of each of P partitions.

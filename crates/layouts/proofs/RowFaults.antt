@@ -1,33 +1,30 @@
 -- What the tests of a row tell: the number of its ids, of its nodes and of its zones.
 -- Assumes nothing.
-use Prim.Native.Nat.{ℕ, _+_, _*_, _≤_, _<_}
+use Prim.Native.Nat.{ℕ, _+_, _≤_, _<_}
 use mathlib.Core.Path.{_≡_, refl, sym, ap, ap₂, _∙_}
-use mathlib.Core.Bool.{Bool, true, false, not, _&&_, and-false}
+use mathlib.Core.Bool.{Bool, true, false, not, _&&_, cond}
 use mathlib.Core.List.{List, [], _∷_}
 use mathlib.Core.Logic.{⊎-elim}
 use native.Mathlib.Omega.{arith}
-use lib.Dec.{ltb, eqb}
+use lib.Dec.{eqb}
 use lib.ListN.{length}
-use borrow.Author.Tests.{ltb-true, lt-ltb, le-ltb, eq-eqb, ne-eqb, eqb-true}
-use Rattle.sums.specs.Sum.{sumTo, one-if, pick}
-use Rattle.sums.proofs.Sum.{eq-or-ne}
-use Rattle.sets.specs.Bits.{countOf}
+use borrow.Author.Tests.{lt-ltb, le-ltb, eq-eqb, ne-eqb, eqb-true}
+use Rattle.sums.specs.TermsSums.{sumTo, one-if}
+use Rattle.sets.specs.ModelBits.{countOf}
 use Rattle.sets.proofs.Laws.{count-mask}
-use Rattle.cluster.specs.Limits.{bufferRows, layoutCells}
-use Rattle.cluster.specs.Terms.{Topology, partitions, nodeAt, idsOf, mem, rising, onlyIn, zonesOf}
-use Rattle.cluster.specs.TermsCells.{rowAt, idsIn, blank, formed}
-use Rattle.cluster.specs.RowScan.{hasRow, rowIds, rowIsBlank}
-use Rattle.cluster.specs.Faults.{Accepted}
-use Rattle.cluster.specs.Tie.{bitsOf}
-use Rattle.cluster.specs.Columns.{zoneCells}
-use Rattle.cluster.proofs.CellRows.{both, formed-rising}
-use Rattle.cluster.proofs.RowScans.{row-ids-formed, formed-row-ids, ill-row-ids, row-of-buffer}
-use Rattle.cluster.proofs.Lists.{test-cases, same-test, one-if-le, mem-head, mem-tail, mem-none, mem-cases, over, over-common, only-or-common}
-use Rattle.cluster.proofs.TieRows.{over-ids, row-length}
-use Rattle.masks.specs.Model.{rowMask}
+use Rattle.cluster.specs.Terms.{bufferRows, layoutCells, Topology, partitions, nodeAt, idsOf, mem, rising, onlyIn, zonesOf, rowAt, idsIn, formed}
+use Rattle.cluster.specs.ModelRows.{rowIds, rowIsBlank}
+use Rattle.cluster.specs.TermsReading.{Accepted}
+use Rattle.incidence.specs.ModelIncidence.{bitsOf, zoneCells}
+use Rattle.sums.proofs.Tests.{both, true-or-false, one-if-le}
+use Rattle.cluster.proofs.CellRows.{formed-rising}
+use Rattle.cluster.proofs.RowScans.{row-ids-formed, formed-row-ids, row-of-buffer}
+use Rattle.cluster.proofs.Lists.{same-test, mem-head, mem-tail, mem-none, mem-cases, over-common, only-or-common}
+use Rattle.incidence.proofs.TieRows.{over-ids, row-length}
+use Rattle.masks.specs.ModelMasks.{rowMask}
 use Rattle.masks.proofs.Laws.{mask-bits}
 use Rattle.layouts.specs.TermsCheck.{allIn, rightIds, rowFault}
-use Rattle.layouts.specs.Scans.{rowNodes, zonesIn}
+use Rattle.layouts.specs.ModelScans.{rowNodes, zonesIn}
 use Rattle.layouts.proofs.RowWalks.{count-zones}
 
 -- ---- rows of known ids
@@ -91,7 +88,7 @@ module _ (t : Topology) (cells : List ℕ) (p : ℕ) (a : Accepted t) (whole : l
       (λ f. ap₂ (λ (s m : Bool). s && m && allIn ids (idsOf (t .nodes))) f
       (ne-eqb (length ids) (t .replication) (λ e. h (formed-row-ids cells p (row-of-buffer cells p whole inside) f ∙ e))))
       (λ f. ap (λ (s : Bool). s && eqb (length ids) (t .replication) && allIn ids (idsOf (t .nodes))) f)
-      (test-cases (formed (rowAt cells p)))
+      (true-or-false (formed (rowAt cells p)))
 
   -- A row with the right number of ids has the right ones where it names as many nodes.
   right-number : rowIds cells p ≡ t .replication → rightIds t (rowAt cells p) ≡ eqb (countOf (rowNodes t cells p)) (t .replication)
@@ -145,6 +142,6 @@ module _ (t : Topology) (cells : List ℕ) (p : ℕ) (a : Accepted t) (whole : l
         )
 
   -- A row from P on has a fault where it is not blank.
-  pub fault-beyond : partitions t ≤ p → rowFault t cells p ≡ pick (rowIsBlank cells p) 0 10
+  pub fault-beyond : partitions t ≤ p → rowFault t cells p ≡ cond (rowIsBlank cells p) 0 10
   unfolding rowFault rowIsBlank
   fault-beyond h = simp (le-ltb p (partitions t) h, row-of-buffer cells p whole inside)

@@ -1,6 +1,6 @@
 -- The sets of the nodes and of the zones of a row, and the walk that makes the zones of nodes.
 -- Assumes nothing.
-use Prim.Native.Nat.{ℕ, zero, suc, _+_, _-_, _*_, _^_, _≤_, _<_, min, max}
+use Prim.Native.Nat.{ℕ, zero, suc, _+_, _-_, _*_, _≤_, _<_, min}
 use mathlib.Core.Path.{_≡_, refl, sym, ap, ap₂, _∙_}
 use mathlib.Core.Bool.{Bool, true, false, _||_}
 use mathlib.Core.List.{List, [], _∷_}
@@ -8,27 +8,22 @@ use mathlib.Core.Logic.{⊎-elim}
 use native.Mathlib.Nat.{zero-mul, mul-zero}
 use native.Mathlib.Numerals.{add-one}
 use native.Mathlib.Omega.{arith}
-use lib.Dec.{eqb}
-use lib.ListN.{length, take, drop, getD, List·getD-eq-default}
-use borrow.Author.Tests.{eq-eqb, ne-eqb}
-use Rattle.sums.specs.Sum.{sumTo, one-if, is, pick}
-use Rattle.sums.proofs.Sum.{lt-or-ge, is-le, is-ne, is-sym, sum-cong, sum-cut, sum-zero}
-use Rattle.cells.proofs.Cells.{rest-cons}
-use Rattle.sets.specs.Bits.{bit, maskOf, memberOf, withOf, countOf}
-use Rattle.sets.proofs.Laws.{bit-ext, bit-le, bit-zero, bit-mask, bit-maskOf, bit-mask-high, mask-lt, mask-unique, mask-same, mask-with, with-lt, bit-with, mask-cong, member-true, member-false, bit-true, bit-false, count-sum}
-use Rattle.exchange.specs.Row.{zoneCount, cover}
-use Rattle.cluster.specs.Terms.{Topology, topology, noNode, nodeAt, mem, zonesOf}
-use Rattle.cluster.specs.TermsCells.{rowAt, idsIn}
-use Rattle.cluster.specs.Tie.{zoneIndex, bitsOf}
-use Rattle.cluster.specs.Columns.{zoneCells}
-use Rattle.cluster.specs.declared.Cluster.{Cluster}
+use lib.ListN.{length, getD, List·getD-eq-default}
+use borrow.Author.Tests.{ne-eqb}
+use Rattle.sums.specs.TermsSums.{sumTo, one-if}
+use Rattle.sums.specs.ModelSums.{is}
+use Rattle.sums.proofs.Sum.{lt-or-ge, is-le, is-ne, sum-cong, sum-cut, sum-zero}
+use Rattle.sets.specs.ModelBits.{bit, maskOf, memberOf, withOf, countOf}
+use Rattle.sets.proofs.Laws.{bit-ext, bit-zero, bit-mask, bit-maskOf, bit-mask-high, mask-lt, mask-unique, with-lt, bit-with, mask-cong, member-true, member-false, count-sum}
+use Rattle.exchange.specs.ModelRow.{zoneCount, cover}
+use Rattle.cluster.specs.Terms.{Topology, noNode, nodeAt, mem, zonesOf, rowAt, idsIn}
+use Rattle.incidence.specs.ModelIncidence.{zoneIndex, bitsOf, zoneCells}
 use Rattle.cluster.specs.declared.Node.{Node}
-use Rattle.cluster.proofs.Lists.{one-if-le}
+use Rattle.sums.proofs.Tests.{one-if-le}
 use Rattle.cluster.proofs.CellRows.{ids-more}
-use Rattle.cluster.proofs.TieZones.{zones-cover, zone-below}
-use Rattle.cluster.proofs.Columns.{cell-column}
-use Rattle.cluster.proofs.Slots.{node-slot}
-use Rattle.layouts.specs.Scans.{rowNodes, zonesIn}
+use Rattle.incidence.proofs.TieZones.{zones-cover, zone-below}
+use Rattle.incidence.proofs.Columns.{cell-column}
+use Rattle.layouts.specs.ModelScans.{rowNodes, zonesIn}
 
 -- No row names the id 0.
 pub zero-unnamed : (l : List ℕ) → mem 0 (idsIn l) ≡ false

@@ -5,9 +5,8 @@ use mathlib.Core.Path.{_≡_, ap, _∙_}
 use native.Mathlib.Omega.{arith}
 use native.Mathlib.Nat.{one-mul, mod-eq-of-lt}
 use lib.Pow.{pow-mono}
-use Rattle.cluster.specs.Limits.{bufferRows}
-use Rattle.cluster.specs.Terms.{Topology, partitions}
-use Rattle.cluster.specs.Faults.{Accepted}
+use Rattle.cluster.specs.Terms.{bufferRows, Topology, partitions}
+use Rattle.cluster.specs.TermsReading.{Accepted}
 
 -- It has no more partitions than a buffer has rows.
 pub few-rows : (t : Topology) → Accepted t → partitions t ≤ bufferRows

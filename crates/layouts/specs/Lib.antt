@@ -1,4 +1,4 @@
-pub mod Scans
+pub mod ModelScans
 pub mod TermsCheck
 pub mod TermsFigures
 pub mod TermsShow

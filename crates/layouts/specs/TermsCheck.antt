@@ -1,15 +1,11 @@
 -- What check answers of a cluster, an assignment and a size: the first fault in the paper's order, with its place.
 -- Assumes nothing.
 use Prim.Native.Nat.{ℕ, zero, suc, _*_}
-use mathlib.Core.Bool.{Bool, true, false, _&&_}
+use mathlib.Core.Bool.{Bool, true, _&&_, cond}
 use mathlib.Core.List.{List, [], _∷_}
 use lib.Dec.{ltb, eqb}
 use lib.ListN.{length}
-use Rattle.sums.specs.Sum.{pick}
-use Rattle.cluster.specs.Limits.{mostNodes, bufferRows, layoutCells}
-use Rattle.cluster.specs.Terms.{Topology, topology, partitions, nodeAt, idsOf, mem, zonesOf, Layout, copiesIn}
-use Rattle.cluster.specs.TermsCells.{rowAt, idsIn, blank, formed, rowsIn}
-use Rattle.cluster.specs.Faults.{faultOf}
+use Rattle.cluster.specs.Terms.{mostNodes, bufferRows, layoutCells, Topology, topology, partitions, nodeAt, idsOf, mem, zonesOf, Layout, copiesIn, rowAt, idsIn, blank, formed, rowsIn, faultOf}
 use Rattle.cluster.specs.declared.Cluster.{Cluster}
 use Rattle.layouts.specs.declared.check.Checked.{Checked}
 
@@ -25,7 +21,7 @@ passed = fault 0 0
 
 -- The first answer where it refuses, else the second.
 abbrev pub orElse : Checked → Checked → Checked
-orElse a b = pick (eqb (a .refusal) 0) b a
+orElse a b = cond (eqb (a .refusal) 0) b a
 
 -- The first of f i, f (i + 1), .., n of them, that refuses.
 unfoldable pub firstFrom : ℕ → ℕ → (ℕ → Checked) → Checked
@@ -40,7 +36,7 @@ first n f = firstFrom n 0 f
 
 -- "6, 4 (size 0 included) and 5 for the boxes, as in planning"
 unfoldable pub clusterFault : Cluster → ℕ → ℕ
-clusterFault c size = pick (ltb mostNodes (c .count)) 6 (pick (eqb size 0) 4 (faultOf c))
+clusterFault c size = cond (ltb mostNodes (c .count)) 6 (cond (eqb size 0) 4 (faultOf c))
 
 -- Whether all ids of the first list stand in the second.
 unfoldable pub allIn : List ℕ → List ℕ → Bool
@@ -54,13 +50,13 @@ rightIds t r = formed r && eqb (length (idsIn r)) (t .replication) && allIn (ids
 -- "each 10 (not R rising ids of the cluster followed by zeros; a non-zero cell in a row from P on) before 11 (fewer than Z zones)"
 unfoldable pub rowFault : Topology → List ℕ → ℕ → ℕ
 rowFault t cells p =
-    pick (ltb p (partitions t))
-    (pick (rightIds t (rowAt cells p)) (pick (ltb (zonesOf (t .nodes) (idsIn (rowAt cells p))) (t .redundancy)) 11 0) 10)
-    (pick (blank (rowAt cells p)) 0 10)
+    cond (ltb p (partitions t))
+    (cond (rightIds t (rowAt cells p)) (cond (ltb (zonesOf (t .nodes) (idsIn (rowAt cells p))) (t .redundancy)) 11 0) 10)
+    (cond (blank (rowAt cells p)) 0 10)
 
 -- "12: copies times size above capacity"
 unfoldable pub nodeFault : Topology → Layout → ℕ → ℕ → ℕ
-nodeFault t L size b = pick (ltb (nodeAt t b .capacity) (copiesIn L (nodeAt t b .id) * size)) 12 0
+nodeFault t L size b = cond (ltb (nodeAt t b .capacity) (copiesIn L (nodeAt t b .id) * size)) 12 0
 
 -- "Then rows in order"; "With 10 and 11 goes the partition". The rows of the first 2,048 cells, and no cell after them.
 unfoldable pub rowsFault : Topology → List ℕ → Checked
@@ -73,7 +69,7 @@ nodesFault t L size = first (length (t .nodes)) (λ b. fault (nodeFault t L size
 -- "8, 6, 4 (size 0 included) and 5 for the boxes, as in planning. Then rows in order .. Then boxes in order"
 unfoldable pub checkOf : Cluster → List ℕ → ℕ → Checked
 checkOf c cells size =
-    pick (ltb (length cells) layoutCells) (fault 8 0)
+    cond (ltb (length cells) layoutCells) (fault 8 0)
     (orElse (fault (clusterFault c size) 0)
     (orElse (rowsFault (topology c) cells)
     (nodesFault (topology c) (rowsIn (partitions (topology c)) cells) size)))

@@ -4,11 +4,11 @@ use Prim.Native.Nat.{ℕ, _*_, _/_}
 use mathlib.Core.List.{List}
 use lib.Dec.{ltb, eqb}
 use lib.ListN.{length}
-use Rattle.sums.specs.Sum.{sumTo, is, pick}
-use Rattle.cells.specs.Cells.{put}
-use Rattle.cluster.specs.Limits.{mostNodes, figureCells}
-use Rattle.cluster.specs.Terms.{Topology, topology, partitions, nodeAt, Layout, copiesIn}
-use Rattle.cluster.specs.TermsCells.{rowsIn}
+use Rattle.sums.specs.TermsSums.{sumTo}
+use Rattle.sums.specs.ModelSums.{is}
+use mathlib.Core.Bool.{cond}
+use Rattle.cells.specs.ModelCells.{put}
+use Rattle.cluster.specs.Terms.{mostNodes, figureCells, Topology, topology, partitions, nodeAt, Layout, copiesIn, rowsIn}
 use Rattle.cluster.specs.declared.Cluster.{Cluster}
 use Rattle.layouts.specs.declared.check.Checked.{Checked}
 use Rattle.layouts.specs.declared.figures.Figured.{Figured}
@@ -16,12 +16,12 @@ use Rattle.layouts.specs.TermsCheck.{fault, checkOf}
 
 -- "copies held per box in id order"; "unused cells 0"
 unfoldable pub nodeCopies : Topology → Layout → ℕ → ℕ
-nodeCopies t L b = pick (ltb b (length (t .nodes))) (copiesIn L (nodeAt t b .id)) 0
+nodeCopies t L b = cond (ltb b (length (t .nodes))) (copiesIn L (nodeAt t b .id)) 0
 
 -- "copies in that box's zone": the copies of all nodes of the same zone; "unused cells 0"
 unfoldable pub zoneCopies : Topology → Layout → ℕ → ℕ
 zoneCopies t L b =
-    pick (ltb b (length (t .nodes)))
+    cond (ltb b (length (t .nodes)))
     (sumTo (length (t .nodes)) (λ x. is (nodeAt t x .zone) (nodeAt t b .zone) * copiesIn L (nodeAt t x .id))) 0
 
 -- "the size to hope for, total capacity over R times P, rounded down"
@@ -34,16 +34,16 @@ figuresMade t L cells = put mostNodes (zoneCopies t L) mostNodes (put 0 (nodeCop
 
 -- "Refused as Check, with 8 for this buffer too"
 unfoldable pub figuresFault : Cluster → List ℕ → ℕ → List ℕ → Checked
-figuresFault c assignment size cells = pick (ltb (length cells) figureCells) (fault 8 0) (checkOf c assignment size)
+figuresFault c assignment size cells = cond (ltb (length cells) figureCells) (fault 8 0) (checkOf c assignment size)
 
 -- The answer: check's refusal and place, and the size to hope for, 0 where it is refused.
 unfoldable pub figuresOf : Cluster → List ℕ → ℕ → List ℕ → Figured
 figuresOf c assignment size cells =
     let f = figuresFault c assignment size cells in
-    record { refusal = f .refusal; place = f .place; hope = pick (eqb (f .refusal) 0) (hopeOf (topology c)) 0 }
+    record { refusal = f .refusal; place = f .place; hope = cond (eqb (f .refusal) 0) (hopeOf (topology c)) 0 }
 
 -- The lent cells afterwards: "refused, the 64 keep what was lent".
 unfoldable pub figuresIn : Cluster → List ℕ → ℕ → List ℕ → List ℕ
 figuresIn c assignment size cells =
-    pick (eqb (figuresFault c assignment size cells .refusal) 0)
+    cond (eqb (figuresFault c assignment size cells .refusal) 0)
     (figuresMade (topology c) (rowsIn (partitions (topology c)) assignment) cells) cells

@@ -2,17 +2,13 @@
 ghost use mathlib.Core.Path.{_≡_};
 ghost use Prim.Native.Nat.{_≤_};
 ghost use lib.ListN.{length};
-ghost use Rattle.cluster.specs.Limits.{layoutCells};
-ghost use Rattle.cluster.specs.Terms.{topology, partitions};
-ghost use Rattle.cluster.specs.TermsCells.{rowsIn};
-ghost use Rattle.cluster.specs.Faults.{faultOf};
-ghost use Rattle.layouts.specs.Scans.{copiesSoFar};
+ghost use Rattle.cluster.specs.Terms.{layoutCells, topology, partitions, rowsIn, faultOf};
 ghost use Rattle.layouts.specs.TermsCheck.{clusterFault, rowsFault, nodesFault, checkOf};
 use super::copies;
 use super::rows;
 use cluster::Cluster;
 use cluster::refusal;
-use cluster::zones;
+use incidence::zones;
 
 // What check answers: a refusal, 0 for none, and its place: a partition with 10 and 11, a node's id with 12, else 0.
 pub struct Checked {

@@ -3,12 +3,9 @@ ghost use mathlib.Core.Path.{_≡_};
 ghost use mathlib.Core.Bool.{true};
 ghost use Prim.Native.Nat.{_+_, _≤_, _<_};
 ghost use lib.ListN.{length};
-ghost use Rattle.cluster.specs.Limits.{bufferRows, layoutCells};
-ghost use Rattle.cluster.specs.Terms.{topology, partitions};
-ghost use Rattle.cluster.specs.TermsCells.{rowAt, formed};
-ghost use Rattle.cluster.specs.Faults.{faultOf};
+ghost use Rattle.cluster.specs.Terms.{bufferRows, layoutCells, topology, partitions, rowAt, formed, faultOf};
 ghost use Rattle.layouts.specs.TermsCheck.{rowsFault};
-ghost use Rattle.layouts.specs.Scans.{copiesSoFar};
+ghost use Rattle.layouts.specs.ModelScans.{copiesSoFar};
 use super::rows;
 use cluster::Cluster;
 

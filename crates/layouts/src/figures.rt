@@ -2,14 +2,11 @@
 ghost use mathlib.Core.Path.{_≡_};
 ghost use Prim.Native.Nat.{ℕ, _≤_, _<_};
 ghost use lib.ListN.{length, getD};
-ghost use Rattle.sums.specs.Sum.{sumTo};
-ghost use Rattle.cells.specs.Cells.{put};
-ghost use Rattle.cluster.specs.Limits.{mostNodes, bufferRows, layoutCells, figureCells};
-ghost use Rattle.cluster.specs.Terms.{topology, partitions, nodeAt};
-ghost use Rattle.cluster.specs.TermsCells.{rowsIn};
-ghost use Rattle.cluster.specs.Faults.{faultOf};
+ghost use Rattle.sums.specs.TermsSums.{sumTo};
+ghost use Rattle.cells.specs.ModelCells.{put};
+ghost use Rattle.cluster.specs.Terms.{mostNodes, bufferRows, layoutCells, figureCells, topology, partitions, nodeAt, rowsIn, faultOf};
 ghost use Rattle.layouts.specs.TermsCheck.{rowsFault};
-ghost use Rattle.layouts.specs.Scans.{zoneSum};
+ghost use Rattle.layouts.specs.ModelScans.{zoneSum};
 ghost use Rattle.layouts.specs.TermsFigures.{figuresMade, hopeOf, figuresOf, figuresIn};
 use super::check;
 use super::copies;

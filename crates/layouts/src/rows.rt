@@ -2,12 +2,10 @@
 ghost use mathlib.Core.Path.{_≡_};
 ghost use Prim.Native.Nat.{_≤_, _<_};
 ghost use lib.ListN.{length};
-ghost use Rattle.cluster.specs.Limits.{bufferRows, layoutCells};
-ghost use Rattle.cluster.specs.Terms.{topology, partitions};
-ghost use Rattle.cluster.specs.Faults.{faultOf};
-ghost use Rattle.cluster.specs.Columns.{zoneCells};
+ghost use Rattle.cluster.specs.Terms.{bufferRows, layoutCells, topology, partitions, faultOf};
+ghost use Rattle.incidence.specs.ModelIncidence.{zoneCells};
 ghost use Rattle.layouts.specs.TermsCheck.{rowFault};
-ghost use Rattle.layouts.specs.Scans.{zonesIn};
+ghost use Rattle.layouts.specs.ModelScans.{zonesIn};
 use cluster::Cluster;
 use cluster::refusal;
 use cluster::rows;

@@ -4,34 +4,31 @@
 use Prim.Native.Nat.{ℕ, _^_, _≤_, _<_, min}
 use mathlib.Core.Path.{_≡_, refl, sym, ap, ap₂, _∙_, subst}
 use mathlib.Core.List.{List, [], _∷_, _++_}
-use mathlib.Core.Bool.{Bool, true, false, _&&_}
+use mathlib.Core.Bool.{Bool, true, false, _&&_, cond}
 use mathlib.Core.Logic.{⊎-elim}
 use native.Mathlib.Omega.{arith}
 use lib.Dec.{ltb, leb}
 use lib.ListN.{length, take, drop, getD, List·getD-append}
 use lib.Seq.{take-all}
 use borrow.Author.Tests.{ltb-true, leb-true, lt-ltb, le-leb}
-use Rattle.sums.specs.Sum.{sumTo, one-if, pick}
+use Rattle.sums.specs.TermsSums.{sumTo, one-if, tab, everyTo}
 use Rattle.sums.proofs.Sum.{lt-or-ge, sum-cong}
-use Rattle.sets.specs.Bits.{bit, maskOf, countOf}
+use Rattle.sets.specs.ModelBits.{bit, maskOf, countOf}
 use Rattle.sets.proofs.Laws.{bit-le, mask-lt, bit-maskOf, bit-mask-high, count-mask}
-use Rattle.cells.specs.Cells.{tab}
 use Rattle.cells.proofs.Cells.{length-tab, getD-tab, tab-cong}
-use Rattle.cluster.specs.Limits.{rowCells, bufferRows, layoutCells}
-use Rattle.cluster.specs.Terms.{Topology, partitions, noNode, nodeAt, idsOf, mem, rising, Layout, row, IsFormer}
-use Rattle.cluster.specs.TermsCells.{cellsOf, rowAt, idsIn, formed, rowsIn, HoldsRows}
-use Rattle.cluster.specs.RowScan.{illFormed, hasRow, rowIds}
-use Rattle.cluster.specs.Tie.{bitsOf, incidence, idsWhere, layoutOf, formerPairs}
+use Rattle.cluster.specs.Terms.{rowCells, bufferRows, layoutCells, Topology, partitions, noNode, nodeAt, idsOf, mem, rising, Layout, row, IsFormer, cellsOf, rowAt, idsIn, formed, rowsIn}
+use Rattle.cluster.specs.ModelRows.{HoldsRows, illFormed, hasRow, rowIds}
+use Rattle.incidence.specs.ModelIncidence.{bitsOf, incidence, idsWhere, layoutOf, formerPairs}
 use Rattle.cluster.specs.declared.Node.{Node}
-use Rattle.cluster.proofs.Lists.{one-if-le, mem-cases, mem-none, over, over-common}
-use Rattle.cluster.proofs.CellRows.{both, formed-rising}
+use Rattle.sums.proofs.Tests.{one-if-le, both, every-at, every-all}
+use Rattle.cluster.proofs.Lists.{mem-cases, mem-none, over, over-common}
+use Rattle.cluster.proofs.CellRows.{formed-rising}
 use Rattle.cluster.proofs.CellLayouts.{few-ids, length-rowsIn, row-rowsIn}
 use Rattle.cluster.proofs.RowScans.{row-ids-formed, hold-ids}
-use Rattle.cluster.proofs.TieRows.{over-ids, row-length}
-use Rattle.cluster.proofs.TieDistance.{incidence-beyond}
-use Rattle.masks.specs.Model.{named, rowMask, masksRead, rowsWhere, cellsWritten, idsTotal, allTo, rowsFormed}
+use Rattle.incidence.proofs.TieRows.{over-ids, row-length}
+use Rattle.incidence.proofs.TieDistance.{incidence-beyond}
+use Rattle.masks.specs.ModelMasks.{named, rowMask, masksRead, rowsWhere, cellsWritten, idsTotal, rowsFormed}
 use Rattle.masks.proofs.Named.{named-bits}
-use Rattle.masks.proofs.Rows.{all-each, each-all}
 use Rattle.masks.proofs.Where.{where-length}
 
 -- ---- counts
@@ -61,7 +58,7 @@ module _ (ns : List Node) (cells : List ℕ) (p : ℕ) (ids : rising (idsOf ns) 
   pub mask-bits : rowMask ns cells p ≡ maskOf (bitsOf ns (idsIn (rowAt cells p))) (length ns)
   unfolding rowMask
   mask-bits =
-      ap (λ (t : Bool). pick t (named ns (idsIn (rowAt cells p))) 0) there
+      ap (λ (t : Bool). cond t (named ns (idsIn (rowAt cells p))) 0) there
       ∙ named-bits 0 0 ns (idsIn (rowAt cells p)) ids (formed-rising 0 (rowAt cells p) shape)
 
   -- It has no node past the last.
@@ -96,19 +93,19 @@ unfolding rowsFormed
 formed-each cells n p h l =
     row-ids-formed cells p
     (ltb-true (rowIds cells p) illFormed
-    (all-each n p (λ q. ltb (rowIds cells q) illFormed) (both (leb n bufferRows) (allTo n (λ q. ltb (rowIds cells q) illFormed)) h .1) l))
+    (every-at n p (λ q. ltb (rowIds cells q) illFormed) (both (leb n bufferRows) (everyTo n (λ q. ltb (rowIds cells q) illFormed)) h .1) l))
 
 -- They are no more rows than a buffer has.
 pub formed-few : (cells : List ℕ) (n : ℕ) → rowsFormed cells n ≡ true → n ≤ bufferRows
 unfolding rowsFormed
-formed-few cells n h = leb-true n bufferRows (both (leb n bufferRows) (allTo n (λ q. ltb (rowIds cells q) illFormed)) h .0)
+formed-few cells n h = leb-true n bufferRows (both (leb n bufferRows) (everyTo n (λ q. ltb (rowIds cells q) illFormed)) h .0)
 
 -- Cells that hold n rows pass the test.
 pub holds-formed : (n : ℕ) (cells : List ℕ) → HoldsRows n cells → rowsFormed cells n ≡ true
 unfolding rowsFormed
 holds-formed n cells h =
     ap₂ _&&_ (le-leb n bufferRows (h .few-rows))
-    (each-all n (λ q. ltb (rowIds cells q) illFormed)
+    (every-all n (λ q. ltb (rowIds cells q) illFormed)
     (λ q l. lt-ltb (rowIds cells q) illFormed (omega (arith, hold-ids n cells h q l, few-ids cells q))))
 
 -- The masks read are the rows' in the first n cells.
@@ -175,6 +172,6 @@ module _ (t : Topology) (cells : List ℕ) (h : rowsFormed cells (partitions t) 
   pub ids-pairs : idsTotal cells (partitions t) ≡ formerPairs t (rowsIn (partitions t) cells)
   unfolding idsTotal formerPairs
   ids-pairs =
-      ap (λ (b : Bool). pick b (sumTo (partitions t) (λ p. rowIds cells p)) 0) (le-leb (partitions t) bufferRows (formed-few cells (partitions t) h))
+      ap (λ (b : Bool). cond b (sumTo (partitions t) (λ p. rowIds cells p)) 0) (le-leb (partitions t) bufferRows (formed-few cells (partitions t) h))
       ∙ sum-cong (partitions t) (λ p. rowIds cells p) (λ p. length (row (rowsIn (partitions t) cells) p))
       (λ p l. sym (ap length (row-rowsIn (partitions t) cells p l) ∙ formed-each cells (partitions t) p h l .2))

@@ -3,7 +3,7 @@
 use Prim.Native.Nat.{ℕ, suc, _+_, _-_, _*_, _^_, _≤_, _<_, min, max}
 use mathlib.Core.Path.{_≡_, refl, sym, ap, ap₂, _∙_}
 use mathlib.Core.List.{List, [], _∷_}
-use mathlib.Core.Bool.{Bool, true, false}
+use mathlib.Core.Bool.{Bool, true, cond}
 use mathlib.Core.Logic.{_⊎_, inl, inr, ⊎-elim}
 use native.Mathlib.Nat.{mul-add, mul-assoc, pow-suc}
 use native.Mathlib.Numerals.{add-one}
@@ -12,18 +12,18 @@ use lib.Dec.{ltb}
 use lib.ListN.{length, take, drop, getD}
 use lib.Seq.{drop-cons, drop-length}
 use borrow.Author.Tests.{lt-ltb, le-ltb, eq-eqb, ne-eqb}
-use Rattle.sums.specs.Sum.{is, one-if, pick}
+use Rattle.sums.specs.ModelSums.{is}
+use Rattle.sums.specs.TermsSums.{one-if}
 use Rattle.sums.proofs.Sum.{lt-or-ge, is-cases, is-eq, is-ne}
-use Rattle.sets.specs.Bits.{bit, maskOf, withOf}
+use Rattle.sets.specs.ModelBits.{bit, maskOf, withOf}
 use Rattle.sets.proofs.Laws.{bit-le, mask-bit, mask-cong, mask-next, mask-with}
 use Rattle.cells.proofs.Cells.{rest-cons, rest-none}
-use Rattle.cluster.specs.Terms.{noNode, idsOf, mem, risingFrom}
-use Rattle.cluster.specs.TermsCells.{idsIn}
-use Rattle.cluster.specs.Tie.{bitsOf}
+use Rattle.cluster.specs.Terms.{noNode, idsOf, mem, risingFrom, idsIn}
+use Rattle.incidence.specs.ModelIncidence.{bitsOf}
 use Rattle.cluster.specs.declared.Node.{Node}
 use Rattle.cluster.proofs.Lists.{mem-head, mem-skip, rising-tail, rising-cons, rising-fresh, rising-above}
-use Rattle.cluster.proofs.TieRows.{id-known}
-use Rattle.masks.specs.Model.{namedAt, named}
+use Rattle.incidence.proofs.TieRows.{id-known}
+use Rattle.masks.specs.ModelMasks.{namedAt, named}
 
 -- ---- the steps
 
@@ -60,7 +60,7 @@ module _ (ns : List Node) (b : ℕ) (l : List ℕ) (to i : ℕ) (inside : i < to
   unfolding left idsIn
   left-zero e =
       ap (λ (r : List ℕ). named (drop b ns) (idsIn r)) (rest-cons l to i 0 inside long)
-      ∙ (ap (λ (t : Bool). named (drop b ns) (pick t [] (getD l i 0 ∷ idsIn (take (to - (i + 1)) (drop (i + 1) l))))) (eq-eqb (getD l i 0) 0 e)
+      ∙ (ap (λ (t : Bool). named (drop b ns) (cond t [] (getD l i 0 ∷ idsIn (take (to - (i + 1)) (drop (i + 1) l))))) (eq-eqb (getD l i 0) 0 e)
       ∙ named-none (drop b ns))
 
   module _ (v : ℕ) (node : b < length ns) (own : getD ns b noNode .id ≡ v) (some : getD l i 0 ≡ 0 → ⊥) where
@@ -69,29 +69,29 @@ module _ (ns : List Node) (b : ℕ) (l : List ℕ) (to i : ℕ) (inside : i < to
     unfolding idsIn
     ids-here =
         ap (λ (r : List ℕ). idsIn r) (rest-cons l to i 0 inside long)
-        ∙ ap (λ (t : Bool). pick t [] (getD l i 0 ∷ idsIn (take (to - (i + 1)) (drop (i + 1) l)))) (ne-eqb (getD l i 0) 0 some)
+        ∙ ap (λ (t : Bool). cond t [] (getD l i 0 ∷ idsIn (take (to - (i + 1)) (drop (i + 1) l)))) (ne-eqb (getD l i 0) 0 some)
 
     -- What is left, by the id v of the node and the id that the walk is at.
-    left-here : left ns b l to i ≡ pick (ltb (getD l i 0) v) (left ns b l to (i + 1)) (is (getD l i 0) v + 2 * left ns (b + 1) l to i)
+    left-here : left ns b l to i ≡ cond (ltb (getD l i 0) v) (left ns b l to (i + 1)) (is (getD l i 0) v + 2 * left ns (b + 1) l to i)
     unfolding left named namedAt
     left-here =
         ap₂ (λ (r : List Node) (s : List ℕ). named r s) (drop-cons ns b noNode node) ids-here
-        ∙ (ap₂ (λ (r : List Node) (s : List ℕ). pick (ltb (getD l i 0) (getD ns b noNode .id)) (named r (idsIn (take (to - (i + 1)) (drop (i + 1) l))))
+        ∙ (ap₂ (λ (r : List Node) (s : List ℕ). cond (ltb (getD l i 0) (getD ns b noNode .id)) (named r (idsIn (take (to - (i + 1)) (drop (i + 1) l))))
         (is (getD l i 0) (getD ns b noNode .id) + 2 * named (drop (suc b) ns) s))
         (sym (drop-cons ns b noNode node)) (sym ids-here)
-        ∙ ap₂ (λ (u k : ℕ). pick (ltb (getD l i 0) u) (left ns b l to (i + 1)) (is (getD l i 0) u + 2 * left ns k l to i)) own (sym (add-one b)))
+        ∙ ap₂ (λ (u k : ℕ). cond (ltb (getD l i 0) u) (left ns b l to (i + 1)) (is (getD l i 0) u + 2 * left ns k l to i)) own (sym (add-one b)))
 
     -- An id below that of the node is passed.
     pub left-skip : getD l i 0 < v → left ns b l to i ≡ left ns b l to (i + 1)
     left-skip h =
         left-here
-        ∙ ap (λ (t : Bool). pick t (left ns b l to (i + 1)) (is (getD l i 0) v + 2 * left ns (b + 1) l to i)) (lt-ltb (getD l i 0) v h)
+        ∙ ap (λ (t : Bool). cond t (left ns b l to (i + 1)) (is (getD l i 0) v + 2 * left ns (b + 1) l to i)) (lt-ltb (getD l i 0) v h)
 
     -- Else the node is done with.
     pub left-node : v ≤ getD l i 0 → left ns b l to i ≡ is (getD l i 0) v + 2 * left ns (b + 1) l to i
     left-node h =
         left-here
-        ∙ ap (λ (t : Bool). pick t (left ns b l to (i + 1)) (is (getD l i 0) v + 2 * left ns (b + 1) l to i)) (le-ltb (getD l i 0) v h)
+        ∙ ap (λ (t : Bool). cond t (left ns b l to (i + 1)) (is (getD l i 0) v + 2 * left ns (b + 1) l to i)) (le-ltb (getD l i 0) v h)
 
 -- A number above all members of a mask adds its power of two.
 pub with-next : (m b : ℕ) → b < 32 → m < 2 ^ b → withOf m b ≡ m + 2 ^ b
@@ -155,10 +155,10 @@ named-bits j k (n ∷ ns) r d e = walk (λ s i f. named-bits (n .id) i ns s (tai
     walk rest i [] f = omega (arith, sym (named-none ns) ∙ rest [] i f)
     walk rest i (x ∷ xs) f =
         ⊎-elim
-        (λ h. ap (λ (t : Bool). pick t (named (n ∷ ns) xs) (is x (n .id) + 2 * named ns (x ∷ xs))) (lt-ltb x (n .id) h)
+        (λ h. ap (λ (t : Bool). cond t (named (n ∷ ns) xs) (is x (n .id) + 2 * named ns (x ∷ xs))) (lt-ltb x (n .id) h)
         ∙ (walk rest x xs (rising-tail i x xs f)
         ∙ sym (bits-below (n ∷ ns) x xs (unfold idsOf in rising-cons x (n .id) (idsOf ns) h (tail d)))))
-        (λ h. ap (λ (t : Bool). pick t (named (n ∷ ns) xs) (is x (n .id) + 2 * named ns (x ∷ xs))) (le-ltb x (n .id) h)
+        (λ h. ap (λ (t : Bool). cond t (named (n ∷ ns) xs) (is x (n .id) + 2 * named ns (x ∷ xs))) (le-ltb x (n .id) h)
         ∙ ap₂ (λ (u v : ℕ). u + 2 * v) (digit h) (rest (x ∷ xs) i f))
         (lt-or-ge x (n .id))
       where

@@ -3,21 +3,20 @@
 use Prim.Native.Nat.{ℕ, zero, suc, _+_, _≤_, _<_, min}
 use mathlib.Core.Path.{_≡_, refl, sym, ap, ap₂, _∙_}
 use mathlib.Core.List.{List, [], _∷_}
-use mathlib.Core.Bool.{Bool}
+use mathlib.Core.Bool.{Bool, cond}
 use mathlib.Core.Logic.{⊎-elim}
 use native.Mathlib.Omega.{arith}
 use lib.Dec.{eqb}
 use lib.ListN.{length, take, drop, getD, List·getD-eq-default}
 use lib.Seq.{drop-drop, getD-take, getD-drop}
 use borrow.Author.Tests.{eq-eqb, ne-eqb}
-use Rattle.sums.specs.Sum.{sumTo, pick}
-use Rattle.sums.proofs.Sum.{lt-or-ge}
-use Rattle.sets.specs.Bits.{bit, withoutOf, leastOf}
+use Rattle.sums.specs.TermsSums.{sumTo}
+use Rattle.sums.proofs.Sum.{lt-or-ge, sum-first}
+use Rattle.sets.specs.ModelBits.{bit, withoutOf, leastOf}
 use Rattle.sets.proofs.Laws.{bit-zero, bit-without, bit-without-same, bit-without-other, least-before, least-at}
 use Rattle.cluster.specs.Terms.{noNode}
-use Rattle.cluster.specs.Tie.{idsWhere}
+use Rattle.incidence.specs.ModelIncidence.{idsWhere}
 use Rattle.cluster.specs.declared.Node.{Node}
-use Rattle.sums.proofs.Sum.{sum-first}
 
 -- A node in use has the id of its slot.
 pub slot-id : (slots : List Node) (count b : ℕ) → b < count → getD (take count slots) b noNode .id ≡ getD slots b noNode .id
@@ -31,20 +30,20 @@ past-id ns b h = ap (λ (n : Node). n .id) (List·getD-eq-default ns noNode h)
 where-out : (n : Node) (ns : List Node) (f : ℕ → ℕ) → f 0 ≡ 0 → idsWhere (n ∷ ns) f ≡ idsWhere ns (λ b. f (suc b))
 unfolding idsWhere
 where-out n ns f e =
-    ap (λ (t : Bool). pick t (idsWhere ns (λ b. f (suc b))) (n .id ∷ idsWhere ns (λ b. f (suc b)))) (eq-eqb (f 0) 0 e)
+    ap (λ (t : Bool). cond t (idsWhere ns (λ b. f (suc b))) (n .id ∷ idsWhere ns (λ b. f (suc b)))) (eq-eqb (f 0) 0 e)
 
 -- and any other is taken.
 where-in : (n : Node) (ns : List Node) (f : ℕ → ℕ) → 1 ≤ f 0 → idsWhere (n ∷ ns) f ≡ n .id ∷ idsWhere ns (λ b. f (suc b))
 unfolding idsWhere
 where-in n ns f h =
-    ap (λ (t : Bool). pick t (idsWhere ns (λ b. f (suc b))) (n .id ∷ idsWhere ns (λ b. f (suc b)))) (ne-eqb (f 0) 0 (λ e. omega arith))
+    ap (λ (t : Bool). cond t (idsWhere ns (λ b. f (suc b))) (n .id ∷ idsWhere ns (λ b. f (suc b)))) (ne-eqb (f 0) 0 (λ e. omega arith))
 
 -- Functions that agree on the nodes give the same ids.
 pub where-cong : (ns : List Node) (f g : ℕ → ℕ) → ((b : ℕ) → b < length ns → f b ≡ g b) → idsWhere ns f ≡ idsWhere ns g
 unfolding idsWhere
 where-cong [] f g h = refl
 where-cong (n ∷ ns) f g h =
-    ap₂ (λ (v : ℕ) (r : List ℕ). pick (eqb v 0) r (n .id ∷ r)) (h 0 (omega arith))
+    ap₂ (λ (v : ℕ) (r : List ℕ). cond (eqb v 0) r (n .id ∷ r)) (h 0 (omega arith))
     (where-cong ns (λ b. f (suc b)) (λ b. g (suc b)) (λ b l. h (suc b) (omega arith)))
 
 -- A function that is 0 on the nodes gives no ids.

@@ -3,7 +3,7 @@
 use Prim.Native.Nat.{ℕ, zero, suc, _+_, _*_, _/_, _%_, _≤_, _<_}
 use mathlib.Core.Path.{_≡_, sym, ap, ap₂, _∙_}
 use mathlib.Core.List.{List, [], _++_}
-use mathlib.Core.Bool.{Bool}
+use mathlib.Core.Bool.{Bool, cond}
 use mathlib.Core.Logic.{⊎-elim}
 use native.Mathlib.Nat.{add-zero, add-suc}
 use native.Mathlib.Numerals.{add-one}
@@ -12,16 +12,15 @@ use lib.Dec.{ltb}
 use lib.ListN.{length, take, drop, getD, set, List·getD-eq-default}
 use lib.Seq.{getD-take}
 use borrow.Author.Tests.{lt-ltb, le-ltb}
-use Rattle.sums.specs.Sum.{pick}
 use Rattle.sums.proofs.Sum.{lt-or-ge}
-use Rattle.sets.specs.Bits.{bit}
-use Rattle.cells.specs.Cells.{tab, put}
+use Rattle.sets.specs.ModelBits.{bit}
+use Rattle.sums.specs.TermsSums.{tab}
+use Rattle.cells.specs.ModelCells.{put}
 use Rattle.cells.proofs.Cells.{length-tab, getD-tab, tab-more, put-cong}
-use Rattle.cluster.specs.Limits.{rowCells}
-use Rattle.cluster.specs.Terms.{row}
-use Rattle.cluster.specs.Tie.{idsWhere}
+use Rattle.cluster.specs.Terms.{rowCells, row}
+use Rattle.incidence.specs.ModelIncidence.{idsWhere}
 use Rattle.cluster.specs.declared.Node.{Node}
-use Rattle.masks.specs.Model.{rowsWhere}
+use Rattle.masks.specs.ModelMasks.{rowsWhere}
 use Rattle.masks.proofs.Where.{where-empty}
 
 -- ---- lists
@@ -48,19 +47,19 @@ row-rowsWhere ns masks n p h = getD-tab (λ q. take rowCells (idsWhere ns (bit (
 
 -- Id j of row p is that of the mask of p, where p is one of the n, and 0 else.
 id-rowsWhere : (ns : List Node) (masks : List ℕ) (n p j : ℕ) → j < rowCells
-    → getD (idsWhere ns (bit (pick (ltb p n) (getD masks p 0) 0))) j 0 ≡ getD (row (rowsWhere ns masks n) p) j 0
+    → getD (idsWhere ns (bit (cond (ltb p n) (getD masks p 0) 0))) j 0 ≡ getD (row (rowsWhere ns masks n) p) j 0
 id-rowsWhere ns masks n p j h =
     ⊎-elim
-    (λ l. ap (λ (t : Bool). getD (idsWhere ns (bit (pick t (getD masks p 0) 0))) j 0) (lt-ltb p n l)
+    (λ l. ap (λ (t : Bool). getD (idsWhere ns (bit (cond t (getD masks p 0) 0))) j 0) (lt-ltb p n l)
     ∙ (sym (getD-take rowCells (idsWhere ns (bit (getD masks p 0))) j 0 h) ∙ ap (λ (r : List ℕ). getD r j 0) (sym (row-rowsWhere ns masks n p l))))
-    (λ l. ap (λ (t : Bool). getD (idsWhere ns (bit (pick t (getD masks p 0) 0))) j 0) (le-ltb p n l)
+    (λ l. ap (λ (t : Bool). getD (idsWhere ns (bit (cond t (getD masks p 0) 0))) j 0) (le-ltb p n l)
     ∙ (ap (λ (r : List ℕ). getD r j 0) (where-empty ns)
     ∙ ap (λ (r : List ℕ). getD r j 0) (sym (List·getD-eq-default (rowsWhere ns masks n) [] (omega (arith, length-rowsWhere ns masks n))))))
     (lt-or-ge p n)
 
 -- A turn of a loop that writes a layout: row p after the rows before it.
 pub row-written : (ns : List Node) (masks : List ℕ) (n p v : ℕ) (l cells : List ℕ) → p * rowCells + rowCells ≤ length l
-    → v ≡ pick (ltb p n) (getD masks p 0) 0
+    → v ≡ cond (ltb p n) (getD masks p 0) 0
     → cells ≡ tab (λ c. getD (row (rowsWhere ns masks n) (c / rowCells)) (c % rowCells) 0) (p * rowCells) ++ drop (p * rowCells) l
     → put (p * rowCells) (λ j. getD (idsWhere ns (bit v)) j 0) rowCells cells
     ≡ tab (λ c. getD (row (rowsWhere ns masks n) (c / rowCells)) (c % rowCells) 0) ((p + 1) * rowCells) ++ drop ((p + 1) * rowCells) l

@@ -3,17 +3,15 @@ ghost use mathlib.Core.Path.{_≡_};
 ghost use Prim.Native.Nat.{_+_, _<_, _≤_};
 ghost use lib.ListN.{length, take, drop, getD};
 ghost use lib.Dec.{ltb};
-ghost use Rattle.sums.specs.Sum.{pick};
-ghost use Rattle.sets.specs.Bits.{bit};
-ghost use Rattle.cells.specs.Cells.{put};
-ghost use Rattle.cluster.specs.Limits.{rowCells};
-ghost use Rattle.cluster.specs.Terms.{topology};
-ghost use Rattle.cluster.specs.TermsCells.{idsIn};
-ghost use Rattle.cluster.specs.Tie.{idsWhere};
-ghost use Rattle.masks.specs.Model.{named, rowMask, masksRead, cellsWritten, idsTotal, rowsFormed};
+ghost use mathlib.Core.Bool.{cond};
+ghost use Rattle.sets.specs.ModelBits.{bit};
+ghost use Rattle.cells.specs.ModelCells.{put};
+ghost use Rattle.cluster.specs.Terms.{rowCells, topology, idsIn};
+ghost use Rattle.incidence.specs.ModelIncidence.{idsWhere};
+ghost use Rattle.masks.specs.ModelMasks.{named, rowMask, masksRead, cellsWritten, idsTotal, rowsFormed};
 use cluster::Cluster;
 use cluster::rows;
-use cluster::zones;
+use incidence::zones;
 
 // The nodes that the ids of the row that starts at cell `from` name: one walk over the nodes and the ids.
 fn walk_row(c: Cluster, cells: &[u32], from: usize) -> u32
@@ -115,7 +113,7 @@ pub fn rows_formed(cells: &[u32], partitions: usize) -> bool
 // The mask of partition p where it is one of the first `partitions`, else the empty one.
 fn mask_at(masks: &[u32], partitions: usize, p: usize) -> u32
     requires { ⌜ partitions ≤ length (now masks) ⌝ }
-    ensures { λ r. ⌜ r ≡ pick (ltb p partitions) (getD (now (masks .entry)) p 0) 0 ⌝ }
+    ensures { λ r. ⌜ r ≡ cond (ltb p partitions) (getD (now (masks .entry)) p 0) 0 ⌝ }
 {
     if p < partitions { masks[p] } else { 0 }
 }

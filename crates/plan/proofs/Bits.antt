@@ -2,11 +2,10 @@
 -- Assumes nothing.
 use Prim.Native.Nat.{ℕ, _≤_}
 use mathlib.Core.Path.{_≡_, refl, sym, ap, _∙_}
-use mathlib.Core.Bool.{Bool, true, false}
+use mathlib.Core.Bool.{Bool, true, false, cond}
 use mathlib.Core.List.{List}
 use lib.Dec.{eqb}
 use borrow.Author.Tests.{eqb-true}
-use Rattle.sums.specs.Sum.{pick}
 use Rattle.cluster.specs.declared.Cluster.{Cluster}
 use Rattle.cluster.proofs.Accepting.{accepted}
 use Rattle.planner.specs.TermsPlan.{planRefusal, plannedOf}
@@ -14,10 +13,10 @@ use Rattle.planner.specs.declared.Planned.{Planned}
 use Rattle.planner.proofs.Refusals.{usable-has}
 
 -- What is 0, or else stands in another's place, is 0 where that is.
-zero-then : {A : Type 0} (f : A → ℕ) (n : ℕ) (x y : A) → (f y ≡ 0 → n ≡ 0) → f (pick (eqb n 0) x y) ≡ 0 → n ≡ 0
+zero-then : {A : Type 0} (f : A → ℕ) (n : ℕ) (x y : A) → (f y ≡ 0 → n ≡ 0) → f (cond (eqb n 0) x y) ≡ 0 → n ≡ 0
 zero-then {A} f n x y h = go (eqb n 0) refl
   where
-    go : (b : Bool) → eqb n 0 ≡ b → f (pick b x y) ≡ 0 → n ≡ 0
+    go : (b : Bool) → eqb n 0 ≡ b → f (cond b x y) ≡ 0 → n ≡ 0
     go true q e = eqb-true n 0 q
     go false q e = h e
 

@@ -6,13 +6,13 @@ use mathlib.Core.Bool.{false}
 use native.Mathlib.Omega.{arith}
 use native.Mathlib.Nat.{le-antisymm}
 use Rattle.cluster.specs.Terms.{Topology, Layout, ValidAt, IsFormer, distance}
-use Rattle.cluster.specs.Faults.{Accepted}
-use Rattle.cluster.proofs.TieLayouts.{valid-of-within}
-use Rattle.sizing.specs.Model.{Fits32, sizeOf}
+use Rattle.cluster.specs.TermsReading.{Accepted}
+use Rattle.incidence.proofs.TieLayouts.{valid-of-within}
+use Rattle.sizing.specs.ModelSizing.{Fits32, sizeOf}
 use Rattle.sizing.proofs.Sizes.{size-none, none-size, size-largest}
 use Rattle.improve.specs.ModelImprove.{ranIn}
 use Rattle.planner.specs.Demand.{Demand3}
-use Rattle.planner.specs.ModelRun.{ranFrom, ranOf, planOf, bitsAt, startRows, layoutRows, farRows, improvesAt, nextAt}
+use Rattle.planner.specs.ModelPlan.{ranFrom, ranOf, planOf, bitsAt, startRows, layoutRows, farRows, improvesAt, nextAt}
 use Rattle.planner.proofs.Rules.{good, rules}
 use Rattle.planner.proofs.Machines.{Good, start-good, machine}
 

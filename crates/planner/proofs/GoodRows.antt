@@ -7,26 +7,24 @@ use mathlib.Core.List.{List}
 use native.Mathlib.Omega.{arith}
 use native.Mathlib.Nat.{mul-le-mul, mul-one, one-mul, zero-mul, pow-le-pow-right}
 use lib.ListN.{length, getD, drop, replicate, length-replicate, length-append, length-drop, List·getD-append}
-use Rattle.sums.specs.Sum.{sumTo}
+use Rattle.sums.specs.TermsSums.{sumTo, tab}
 use Rattle.sums.proofs.Sum.{sum-cong}
-use Rattle.sets.specs.Bits.{bit, maskOf, meetOf, countOf}
+use Rattle.sets.specs.ModelBits.{bit, maskOf, meetOf, countOf}
 use Rattle.sets.proofs.Laws.{bit-le, bit-lt, bit-high, mask-lt, bit-maskOf, bit-meet, meet-lt, count-sum}
-use Rattle.cells.specs.Cells.{tab}
 use Rattle.cells.proofs.Cells.{length-tab, getD-tab}
-use Rattle.exchange.specs.Row.{Within, weigh}
+use Rattle.exchange.specs.ModelRow.{Within, weigh}
 use Rattle.exchange.proofs.Prices.{weigh-le}
 use Rattle.exchange.proofs.Agreeing.{weigh-cong, within-cong}
-use Rattle.cluster.specs.Limits.{bufferRows}
-use Rattle.cluster.specs.Terms.{Topology, partitions, Layout, IsFormer, distance}
-use Rattle.cluster.specs.Faults.{Accepted}
-use Rattle.cluster.specs.Tie.{zoneIndex, capAt, incidence, formerPairs}
-use Rattle.cluster.proofs.TieDistance.{incidence-le}
-use Rattle.cluster.proofs.TieLayouts.{distance-bits}
-use Rattle.sizing.specs.Model.{nodesOf, sizeOf, beginning, dealtRows}
+use Rattle.cluster.specs.Terms.{bufferRows, Topology, partitions, Layout, IsFormer, distance}
+use Rattle.cluster.specs.TermsReading.{Accepted}
+use Rattle.incidence.specs.ModelIncidence.{zoneIndex, capAt, incidence, formerPairs}
+use Rattle.incidence.proofs.TieDistance.{incidence-le}
+use Rattle.incidence.proofs.TieLayouts.{distance-bits}
+use Rattle.sizing.specs.ModelSizing.{nodesOf, sizeOf, beginning, dealtRows}
 use Rattle.sizing.proofs.Sizes.{beginning-within}
 use Rattle.sizing.proofs.Reading.{deal-length, deal-cell, deal-bit}
 use Rattle.improve.specs.ModelImprove.{agreementIn}
-use Rattle.planner.specs.ModelRun.{bitsAt, formerMasks, startRows, layoutRows, farRows}
+use Rattle.planner.specs.ModelPlan.{bitsAt, formerMasks, startRows, layoutRows, farRows}
 
 -- ---- a cluster with a layout
 

@@ -11,31 +11,30 @@ use native.Mathlib.Nat.{mul-one, mul-zero, zero-add}
 use lib.Pow.{pow-pos}
 use lib.ListN.{length, getD, drop, replicate, length-replicate, length-append}
 use borrow.Author.Tests.{eq-eqb, ne-eqb, le-leb}
-use Rattle.sums.specs.Sum.{sumTo, one-if}
+use Rattle.sums.specs.TermsSums.{sumTo, one-if, tab}
 use Rattle.sums.proofs.Sum.{lt-or-ge, sum-zero}
-use Rattle.sets.specs.Bits.{belowOf}
+use Rattle.sets.specs.ModelBits.{belowOf}
 use Rattle.sets.proofs.Laws.{bit-le}
-use Rattle.cells.specs.Cells.{put, tab}
+use Rattle.cells.specs.ModelCells.{put}
 use Rattle.cells.proofs.Cells.{length-put, getD-put-in, length-tab}
-use Rattle.exchange.specs.Row.{Within, Exchange, copies, weigh}
-use Rattle.exchange.specs.Levels.{Outcome, Potential, Cycle, outcome, back, cycleLength, IsCycle}
-use Rattle.exchange.specs.Circuit.{cost, Allowed, Better}
-use Rattle.exchange.specs.Join.{ExchangeGraph}
+use Rattle.exchange.specs.ModelRow.{Within, Exchange, copies, weigh}
+use Rattle.exchange.specs.ModelLevels.{Outcome, Potential, Cycle, outcome, back, cycleLength, IsCycle}
+use Rattle.exchange.specs.ModelCircuit.{cost, Allowed, Better}
+use Rattle.exchange.specs.ModelJoin.{ExchangeGraph}
 use Rattle.exchange.proofs.Search.{outcome-cycle}
 use Rattle.exchange.proofs.Circuit.{cost-row, cost-store}
 use Rattle.exchange.proofs.Join.{join-potential, no-gain}
 use Rattle.cluster.specs.Terms.{Topology, partitions, nodeAt, mem, Layout, row, ValidAt, IsFormer, distance}
-use Rattle.cluster.specs.Faults.{Accepted}
-use Rattle.cluster.specs.Tie.{zoneIndex, capAt, incidence, formerPairs}
-use Rattle.cluster.specs.Columns.{zoneCells}
-use Rattle.cluster.proofs.TieZones.{zone-below}
-use Rattle.cluster.proofs.TieDistance.{distance-law}
-use Rattle.cluster.proofs.TieLayouts.{within-of-valid, valid-of-within}
-use Rattle.cluster.proofs.Columns.{cell-column}
-use Rattle.sizing.specs.Model.{nodesOf, capCells, Fits32, sizeOf}
+use Rattle.cluster.specs.TermsReading.{Accepted}
+use Rattle.incidence.specs.ModelIncidence.{zoneIndex, capAt, incidence, formerPairs, zoneCells}
+use Rattle.incidence.proofs.TieZones.{zone-below}
+use Rattle.incidence.proofs.TieDistance.{distance-law}
+use Rattle.incidence.proofs.TieLayouts.{within-of-valid, valid-of-within}
+use Rattle.incidence.proofs.Columns.{cell-column}
+use Rattle.sizing.specs.ModelSizing.{nodesOf, capCells, Fits32, sizeOf}
 use Rattle.sizing.proofs.Sizes.{size-is}
 use Rattle.sizing.proofs.Reading.{mates-hold}
-use Rattle.swaps.specs.Mates.{Mates}
+use Rattle.swaps.specs.ModelMates.{Mates}
 use Rattle.graph.specs.ModelArcs.{arcsOf, cellOf}
 use Rattle.graph.proofs.Members.{any}
 use Rattle.graph.proofs.Exchanges.{graph-exchange, graph-room, graph-witness}
@@ -44,8 +43,8 @@ use Rattle.cycles.specs.ModelFound.{searchable, endLength, endWalk, foundLength
 use Rattle.circuits.specs.ModelCircuits.{turnedOf, okOf, witnessOf}
 use Rattle.circuits.proofs.Improving.{ok-right, witness-graph, turned-length, held-cycle, turned-small, turned-better}
 use Rattle.improve.specs.ModelImprove.{arcsIn, cycleIn, improvesIn, nextIn}
-use Rattle.planner.specs.ModelRun.{bitsAt, matesOf, formerMasks, startRows, layoutRows, farRows, improvesAt, nextAt}
-use Rattle.exchange.proofs.Levels.{true-or-false}
+use Rattle.planner.specs.ModelPlan.{bitsAt, matesOf, formerMasks, startRows, layoutRows, farRows, improvesAt, nextAt}
+use Rattle.sums.proofs.Tests.{true-or-false}
 use Rattle.improve.proofs.Runs.{not-both}
 use Rattle.planner.proofs.Rules.{Machine}
 use Rattle.planner.proofs.GoodRows.{fm-bit, shared, same-weight, measure, far-is, near}

@@ -3,20 +3,17 @@
 -- Assumes nothing.
 use Prim.Native.Nat.{ℕ, zero, suc, _≤_, _<_}
 use mathlib.Core.Path.{_≡_, refl, sym, ap, ap₂, _∙_}
-use mathlib.Core.Bool.{Bool, _&&_, _||_}
+use mathlib.Core.Bool.{Bool, _&&_, _||_, cond}
 use mathlib.Core.List.{List, _++_}
 use native.Mathlib.Omega.{arith}
 use lib.Dec.{ltb, eqb}
 use lib.ListN.{length, drop, replicate}
 use borrow.Author.Tests.{le-ltb}
-use Rattle.sums.specs.Sum.{pick}
 use Rattle.cells.proofs.Cells.{tab-cong}
-use Rattle.cluster.specs.Terms.{Topology, topology, partitions, idsOf, rising}
-use Rattle.cluster.specs.TermsCells.{rowAt, idsIn, formed, rowsIn, cellsOf}
-use Rattle.cluster.specs.Faults.{faultOf, outOfRange}
+use Rattle.cluster.specs.Terms.{Topology, topology, partitions, idsOf, rising, rowAt, idsIn, formed, rowsIn, cellsOf, faultOf, outOfRange}
 use Rattle.cluster.specs.declared.Cluster.{Cluster}
-use Rattle.sizing.specs.Model.{sizeOf}
-use Rattle.planner.specs.ModelRun.{planOf}
+use Rattle.sizing.specs.ModelSizing.{sizeOf}
+use Rattle.planner.specs.ModelPlan.{planOf}
 use Rattle.planner.specs.TermsPlan.{formedRows, unusable, planRefusal, refusedWith, answered, plannedOf, assignmentAfter, scratchAfter}
 
 module _ (c d : Cluster) (nodes : topology c ≡ topology d) (few : c .count ≤ 32) (few′ : d .count ≤ 32) (f g : List ℕ) (whole : 2048 ≤ length f)
@@ -24,13 +21,13 @@ module _ (c d : Cluster) (nodes : topology c ≡ topology d) (few : c .count ≤
   where
     -- The fault of a cluster of no more than 32 nodes is that of its topology.
     fault-of : Topology → ℕ
-    fault-of t = pick (outOfRange t) 4 (pick (rising (idsOf (t .nodes))) 0 5)
+    fault-of t = cond (outOfRange t) 4 (cond (rising (idsOf (t .nodes))) 0 5)
 
     same-fault : faultOf c ≡ faultOf d
     unfolding faultOf fault-of
     same-fault =
-        ap (λ (b : Bool). pick b 6 (fault-of (topology c))) (le-ltb 32 (c .count) few)
-        ∙ (ap fault-of nodes ∙ sym (ap (λ (b : Bool). pick b 6 (fault-of (topology d))) (le-ltb 32 (d .count) few′)))
+        ap (λ (b : Bool). cond b 6 (fault-of (topology c))) (le-ltb 32 (c .count) few)
+        ∙ (ap fault-of nodes ∙ sym (ap (λ (b : Bool). cond b 6 (fault-of (topology d))) (le-ltb 32 (d .count) few′)))
 
     same-formed : (n : ℕ) → n ≤ partitions (topology c) → formedRows n f ≡ formedRows n g
     unfolding formedRows
@@ -47,27 +44,27 @@ module _ (c d : Cluster) (nodes : topology c ≡ topology d) (few : c .count ≤
       same-unusable : unusable c f a s ≡ unusable d g a s
       unfolding unusable
       same-unusable =
-          ap₂ (λ (x y : Bool). pick (x || ltb a 2048 || ltb s 16384) 8 (pick (eqb (faultOf c) 0) (pick y 0 5) (faultOf c)))
+          ap₂ (λ (x y : Bool). cond (x || ltb a 2048 || ltb s 16384) 8 (cond (eqb (faultOf c) 0) (cond y 0 5) (faultOf c)))
           (le-ltb (length f) 2048 whole ∙ sym (le-ltb (length g) 2048 whole′))
           (same-formed (partitions (topology c)) (omega arith) ∙ ap (λ (t : Topology). formedRows (partitions t) g) nodes)
-          ∙ ap (λ (n : ℕ). pick (ltb (length g) 2048 || ltb a 2048 || ltb s 16384) 8 (pick (eqb n 0) (pick (formedRows (partitions (topology d)) g) 0 5) n)) same-fault
+          ∙ ap (λ (n : ℕ). cond (ltb (length g) 2048 || ltb a 2048 || ltb s 16384) 8 (cond (eqb n 0) (cond (formedRows (partitions (topology d)) g) 0 5) n)) same-fault
 
       same-refusal : planRefusal c f a s ≡ planRefusal d g a s
       unfolding planRefusal
-      same-refusal = λ i. pick (eqb (same-unusable i) 0) (pick (eqb (sizeOf (nodes i)) 0) 9 0) (same-unusable i)
+      same-refusal = λ i. cond (eqb (same-unusable i) 0) (cond (eqb (sizeOf (nodes i)) 0) 9 0) (same-unusable i)
 
       -- Clusters with the same nodes in use, and former layouts with the same first P rows, have the same answer.
       pub plan-only : (allowance : ℕ) → plannedOf c f allowance a s ≡ plannedOf d g allowance a s
       unfolding plannedOf
       plan-only allowance =
-          λ i. pick (eqb (same-refusal i) 0) (answered (planOf (nodes i) (same-former i) allowance)) (refusedWith (same-refusal i))
+          λ i. cond (eqb (same-refusal i) 0) (answered (planOf (nodes i) (same-former i) allowance)) (refusedWith (same-refusal i))
 
     -- and leave the same cells.
     pub cells-only : (allowance : ℕ) (cells : List ℕ) (s : ℕ) → assignmentAfter c f allowance cells s ≡ assignmentAfter d g allowance cells s
     unfolding assignmentAfter
     cells-only allowance cells s =
-        λ i. pick (eqb (same-refusal (length cells) s i) 0) (cellsOf (planOf (nodes i) (same-former i) allowance .layout) ++ drop 2048 cells) cells
+        λ i. cond (eqb (same-refusal (length cells) s i) 0) (cellsOf (planOf (nodes i) (same-former i) allowance .layout) ++ drop 2048 cells) cells
 
     pub scratch-only : (a : ℕ) (cells : List ℕ) → scratchAfter c f a cells ≡ scratchAfter d g a cells
     unfolding scratchAfter
-    scratch-only a cells = λ i. pick (eqb (same-unusable a (length cells) i) 0) (replicate 16384 0 ++ drop 16384 cells) cells
+    scratch-only a cells = λ i. cond (eqb (same-unusable a (length cells) i) 0) (replicate 16384 0 ++ drop 16384 cells) cells

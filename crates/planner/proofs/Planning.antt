@@ -3,19 +3,16 @@
 -- Assumes nothing.
 use Prim.Native.Nat.{ℕ}
 use mathlib.Core.Path.{_≡_, sym, ap, _∙_}
-use mathlib.Core.Bool.{Bool, false}
+use mathlib.Core.Bool.{Bool, false, cond}
 use mathlib.Core.List.{List, _++_}
 use native.Mathlib.Omega.{arith}
 use lib.Dec.{eqb}
 use lib.ListN.{length, drop, replicate}
 use borrow.Author.Tests.{eq-eqb, ne-eqb}
-use Rattle.sums.specs.Sum.{pick}
-use Rattle.cluster.specs.Terms.{topology}
-use Rattle.cluster.specs.TermsCells.{cellsOf}
-use Rattle.cluster.specs.Faults.{faultOf}
+use Rattle.cluster.specs.Terms.{topology, cellsOf, faultOf}
 use Rattle.cluster.specs.declared.Cluster.{Cluster}
 use Rattle.cluster.proofs.Accepting.{accepted}
-use Rattle.sizing.specs.Model.{Fits32, sizeOf, sizeIn}
+use Rattle.sizing.specs.ModelSizing.{Fits32, sizeOf, sizeIn}
 use Rattle.sizing.proofs.Reading.{size-in}
 use Rattle.planner.specs.TermsPlan.{unusable, planRefusal, answerOf, refusedWith, answered, plannedOf, assignmentAfter, scratchAfter, Owed}
 use Rattle.planner.specs.declared.Planned.{Planned}
@@ -39,8 +36,8 @@ module _ (c : Cluster) (former : List ℕ) (allowance : ℕ) (assignment scratch
   with-refusal : (n : ℕ) → planRefusal c former a s ≡ n → (n ≡ 0 → ⊥) → (refusedWith n ≡ plannedOf c former allowance a s) × (assignment ≡ assignmentAfter c former allowance assignment s)
   unfolding plannedOf assignmentAfter
   with-refusal n e some = (
-    sym (ap (λ (b : Bool). pick b (answered (answerOf c former allowance)) (refusedWith (planRefusal c former a s))) test ∙ ap refusedWith e),
-    sym (ap (λ (b : Bool). pick b (cellsOf (answerOf c former allowance .layout) ++ drop 2048 assignment) assignment) test),
+    sym (ap (λ (b : Bool). cond b (answered (answerOf c former allowance)) (refusedWith (planRefusal c former a s))) test ∙ ap refusedWith e),
+    sym (ap (λ (b : Bool). cond b (cellsOf (answerOf c former allowance .layout) ++ drop 2048 assignment) assignment) test),
   )
     where
       test : eqb (planRefusal c former a s) 0 ≡ false
@@ -52,7 +49,7 @@ module _ (c : Cluster) (former : List ℕ) (allowance : ℕ) (assignment scratch
   refused-ends u e some r q = (
     q ∙ (ap refusedWith e ∙ w .0),
     w .1,
-    sym (ap (λ (b : Bool). pick b (replicate 16384 0 ++ drop 16384 scratch) scratch) test),
+    sym (ap (λ (b : Bool). cond b (replicate 16384 0 ++ drop 16384 scratch) scratch) test),
     record { nine = λ z. absurd (not-zero z); none = λ z. absurd (not-zero z); nearest = λ z. absurd (not-zero z) },
   )
     where
@@ -65,19 +62,19 @@ module _ (c : Cluster) (former : List ℕ) (allowance : ℕ) (assignment scratch
       w : (refusedWith (unusable c former a s) ≡ plannedOf c former allowance a s) × (assignment ≡ assignmentAfter c former allowance assignment s)
       w =
           with-refusal (unusable c former a s)
-          (ap (λ (b : Bool). pick b (pick (eqb (sizeOf (topology c)) 0) 9 0) (unusable c former a s)) test) not-zero
+          (ap (λ (b : Bool). cond b (cond (eqb (sizeOf (topology c)) 0) 9 0) (unusable c former a s)) test) not-zero
 
   module _ (u : unusable c former a s ≡ 0) where
     faultless : faultOf c ≡ 0
     faultless = usable-has c former a s u .faultless
 
-    none-or-nine : planRefusal c former a s ≡ pick (eqb (sizeOf (topology c)) 0) 9 0
+    none-or-nine : planRefusal c former a s ≡ cond (eqb (sizeOf (topology c)) 0) 9 0
     unfolding planRefusal
-    none-or-nine = ap (λ (b : Bool). pick b (pick (eqb (sizeOf (topology c)) 0) 9 0) (unusable c former a s)) (eq-eqb (unusable c former a s) 0 u)
+    none-or-nine = ap (λ (b : Bool). cond b (cond (eqb (sizeOf (topology c)) 0) 9 0) (unusable c former a s)) (eq-eqb (unusable c former a s) 0 u)
 
     cleared : (rest : List ℕ) → rest ≡ replicate 16384 0 ++ drop 16384 scratch → rest ≡ scratchAfter c former a scratch
     unfolding scratchAfter
-    cleared rest e = e ∙ sym (ap (λ (b : Bool). pick b (replicate 16384 0 ++ drop 16384 scratch) scratch) (eq-eqb (unusable c former a s) 0 u))
+    cleared rest e = e ∙ sym (ap (λ (b : Bool). cond b (replicate 16384 0 ++ drop 16384 scratch) scratch) (eq-eqb (unusable c former a s) 0 u))
 
     -- No layout is valid at size 1.
     pub none-ends : (size : ℕ) → size ≡ sizeIn c → size ≡ 0 → (rest : List ℕ) → rest ≡ replicate 16384 0 ++ drop 16384 scratch
@@ -85,7 +82,7 @@ module _ (c : Cluster) (former : List ℕ) (allowance : ℕ) (assignment scratch
     none-ends size e z rest er r q =
         let none : sizeOf (topology c) ≡ 0 = sym (size-in c faultless) ∙ (sym e ∙ z) in
         let w =
-        with-refusal 9 (none-or-nine ∙ ap (λ (b : Bool). pick b 9 0) (eq-eqb (sizeOf (topology c)) 0 none)) (λ x. absurd (omega arith)) in
+        with-refusal 9 (none-or-nine ∙ ap (λ (b : Bool). cond b 9 0) (eq-eqb (sizeOf (topology c)) 0 none)) (λ x. absurd (omega arith)) in
         let empty = no-layout (topology c) (accepted c faultless) .0 none in (
           q ∙ w .0,
           w .1,
@@ -104,11 +101,11 @@ module _ (c : Cluster) (former : List ℕ) (allowance : ℕ) (assignment scratch
     unfolding plannedOf assignmentAfter
     planned-ends size e some rest er r q cells ec low =
         let large : sizeOf (topology c) ≡ 0 → ⊥ = λ z. some (e ∙ (size-in c faultless ∙ z)) in
-        let no-refusal : planRefusal c former a s ≡ 0 = none-or-nine ∙ ap (λ (b : Bool). pick b 9 0) (ne-eqb (sizeOf (topology c)) 0 large) in
+        let no-refusal : planRefusal c former a s ≡ 0 = none-or-nine ∙ ap (λ (b : Bool). cond b 9 0) (ne-eqb (sizeOf (topology c)) 0 large) in
         let test = eq-eqb (planRefusal c former a s) 0 no-refusal in
         let zero : r .refusal ≡ 0 = ap (λ (p : Planned). p .refusal) q in (
-          q ∙ sym (ap (λ (b : Bool). pick b (answered (answerOf c former allowance)) (refusedWith (planRefusal c former a s))) test),
-          ec ∙ sym (ap (λ (b : Bool). pick b (cellsOf (answerOf c former allowance .layout) ++ drop 2048 assignment) assignment) test),
+          q ∙ sym (ap (λ (b : Bool). cond b (answered (answerOf c former allowance)) (refusedWith (planRefusal c former a s))) test),
+          ec ∙ sym (ap (λ (b : Bool). cond b (cellsOf (answerOf c former allowance .layout) ++ drop 2048 assignment) assignment) test),
           cleared rest er,
           record {
             nine = λ v x. absurd (omega (arith, zero, x));

@@ -2,46 +2,44 @@
 -- Assumes nothing.
 use Prim.Native.Nat.{ℕ, zero, suc, _≤_, _<_}
 use mathlib.Core.Path.{_≡_, refl, sym, ap, ap₂, _∙_}
-use mathlib.Core.Bool.{Bool, true, false, _&&_, _||_}
+use mathlib.Core.Bool.{Bool, true, false, _&&_, _||_, cond}
 use mathlib.Core.List.{List}
 use native.Mathlib.Omega.{arith}
 use lib.Dec.{ltb, eqb}
 use lib.ListN.{length}
 use borrow.Author.Tests.{le-leb, lt-ltb, le-ltb, eq-eqb, ne-eqb, eqb-true, ltb-false}
-use Rattle.sums.specs.Sum.{pick}
-use Rattle.cluster.specs.Terms.{topology, partitions}
-use Rattle.cluster.specs.TermsCells.{rowAt, idsIn, formed}
-use Rattle.cluster.specs.RowScan.{illFormed, idCount, rowIds}
-use Rattle.cluster.specs.Faults.{faultOf}
+use Rattle.cluster.specs.Terms.{topology, partitions, rowAt, idsIn, formed, faultOf}
+use Rattle.cluster.specs.ModelRows.{illFormed, idCount, rowIds}
 use Rattle.cluster.specs.declared.Cluster.{Cluster}
 use Rattle.cluster.proofs.Accepting.{accepted}
 use Rattle.cluster.proofs.CellLayouts.{few-ids}
 use Rattle.cluster.proofs.RowScans.{row-of-buffer}
-use Rattle.masks.specs.Model.{rowsFormed, allTo}
+use Rattle.masks.specs.ModelMasks.{rowsFormed}
+use Rattle.sums.specs.TermsSums.{everyTo}
 use Rattle.improve.proofs.Runs.{not-both}
 use Rattle.planner.specs.TermsPlan.{formedRows, unusable}
 use Rattle.planner.proofs.Machines.{few-partitions}
 
 -- The test of the former rows that code makes is the one of the definition.
 module _ (cells : List ℕ) (whole : 2048 ≤ length cells) where
-  test : (b : Bool) (n : ℕ) → n ≤ 8 → ltb (pick b n illFormed) illFormed ≡ b
+  test : (b : Bool) (n : ℕ) → n ≤ 8 → ltb (cond b n illFormed) illFormed ≡ b
   test true n l = lt-ltb n illFormed (omega arith)
   test false n l = refl
 
   one-row : (p : ℕ) → p < 256 → ltb (rowIds cells p) illFormed ≡ formed (rowAt cells p)
   unfolding rowIds idCount
   one-row p l =
-      ap (λ (b : Bool). ltb (pick b (idCount (rowAt cells p)) illFormed) illFormed) (row-of-buffer cells p whole l)
+      ap (λ (b : Bool). ltb (cond b (idCount (rowAt cells p)) illFormed) illFormed) (row-of-buffer cells p whole l)
       ∙ test (formed (rowAt cells p)) (length (idsIn (rowAt cells p))) (few-ids cells p)
 
-  all-rows : (n : ℕ) → n ≤ 256 → allTo n (λ p. ltb (rowIds cells p) illFormed) ≡ formedRows n cells
-  unfolding allTo formedRows
+  all-rows : (n : ℕ) → n ≤ 256 → everyTo n (λ p. ltb (rowIds cells p) illFormed) ≡ formedRows n cells
+  unfolding everyTo formedRows
   all-rows zero l = refl
   all-rows (suc n) l = ap₂ _&&_ (all-rows n (omega arith)) (one-row n (omega arith))
 
   rows-same : (n : ℕ) → n ≤ 256 → formedRows n cells ≡ rowsFormed cells n
   unfolding rowsFormed
-  rows-same n l = sym (ap (λ (b : Bool). b && allTo n (λ p. ltb (rowIds cells p) illFormed)) (le-leb n 256 l) ∙ all-rows n l)
+  rows-same n l = sym (ap (λ (b : Bool). b && everyTo n (λ p. ltb (rowIds cells p) illFormed)) (le-leb n 256 l) ∙ all-rows n l)
 
 -- The same of the former rows of a cluster without fault.
 former-same : (c : Cluster) (former : List ℕ) → 2048 ≤ length former → faultOf c ≡ 0
@@ -88,17 +86,17 @@ unfolding unusable
 usable-has c former a s e = go (ltb (length former) 2048) refl (ltb a 2048) refl (ltb s 16384) refl e
   where
     rows : 2048 ≤ length former → 2048 ≤ a → 16384 ≤ s → faultOf c ≡ 0 → (r : Bool) → formedRows (partitions (topology c)) former ≡ r
-        → _≡_ {A = ℕ} (pick r 0 5) 0 → Usable c former a s
+        → _≡_ {A = ℕ} (cond r 0 5) 0 → Usable c former a s
     rows f g h z true q k = record { former-long = f; assignment-long = g; scratch-long = h; faultless = z; rows-formed = sym (former-same c former f z) ∙ q }
     rows f g h z false q k = absurd (omega arith)
 
     fault : 2048 ≤ length former → 2048 ≤ a → 16384 ≤ s → (t : Bool) → eqb (faultOf c) 0 ≡ t
-        → _≡_ {A = ℕ} (pick t (pick (formedRows (partitions (topology c)) former) 0 5) (faultOf c)) 0 → Usable c former a s
+        → _≡_ {A = ℕ} (cond t (cond (formedRows (partitions (topology c)) former) 0 5) (faultOf c)) 0 → Usable c former a s
     fault f g h true q k = rows f g h (eqb-true (faultOf c) 0 q) (formedRows (partitions (topology c)) former) refl k
     fault f g h false q k = absurd (not-both (eqb (faultOf c) 0) (eq-eqb (faultOf c) 0 k) q)
 
     go : (x : Bool) → ltb (length former) 2048 ≡ x → (y : Bool) → ltb a 2048 ≡ y → (z : Bool) → ltb s 16384 ≡ z
-        → _≡_ {A = ℕ} (pick (x || y || z) 8 (pick (eqb (faultOf c) 0) (pick (formedRows (partitions (topology c)) former) 0 5) (faultOf c))) 0
+        → _≡_ {A = ℕ} (cond (x || y || z) 8 (cond (eqb (faultOf c) 0) (cond (formedRows (partitions (topology c)) former) 0 5) (faultOf c))) 0
         → Usable c former a s
     go true p y q z r k = absurd (omega arith)
     go false p true q z r k = absurd (omega arith)

@@ -1,17 +1,17 @@
 -- From a machine that improves layouts step by step to the rules of planning by allowance.
 -- Assumes nothing.
+use mathlib.Core.List.{[]}
 use Prim.Native.Nat.{ℕ, zero, suc, _+_, _*_, _≤_, _<_, min}
 use mathlib.Core.Path.{_≡_, sym, ap, _∙_, subst}
 use mathlib.Core.Bool.{Bool, true, false, not}
-use mathlib.Core.List.{[]}
 use mathlib.Core.Logic.{_⊎_, ⊎-elim}
 use native.Mathlib.Omega.{arith}
 use lib.ListN.{length}
 use Rattle.sums.proofs.Sum.{lt-or-ge}
 use Rattle.cluster.specs.Terms.{Topology, partitions, Layout, row, ValidAt, IsSize, distance}
-use Rattle.improve.specs.Run.{Ran, after, run}
+use Rattle.improve.specs.ModelRun.{Ran, after, run}
 use Rattle.planner.specs.Demand.{Answer, Finished, Stopped, Rules}
-use Rattle.exchange.proofs.Levels.{true-or-false}
+use Rattle.sums.proofs.Tests.{true-or-false}
 use Rattle.improve.proofs.Runs.{not-both, run-is, after-next, stopped-improves, finished-done, stopped-spent, finished-larger, finished-smallest, stopped-next}
 
 module _ (t : Topology) (F : Layout) (s : ℕ) {A : Type 0} (improves : A → Bool) (next : A → A) (lay : A → Layout) (far : A → ℕ) (start : A) (Good : A → Type 0) where

@@ -9,25 +9,23 @@ use native.Mathlib.Omega.{arith}
 use native.Mathlib.Nat.{mul-le-mul}
 use lib.ListN.{length, drop, replicate, length-replicate}
 use borrow.Author.Tests.{le-ltb, le-leb}
-use Rattle.sets.specs.Bits.{maskOf}
+use Rattle.sets.specs.ModelBits.{maskOf}
 use Rattle.sets.proofs.Laws.{mask-cong}
 use Rattle.cells.proofs.Cells.{tab-cong}
-use Rattle.cluster.specs.Terms.{Topology, topology, partitions, Layout, IsFormer}
-use Rattle.cluster.specs.TermsCells.{rowsIn, cellsOf, rowAt, idsIn}
-use Rattle.cluster.specs.Faults.{faultOf, Accepted}
-use Rattle.cluster.specs.Tie.{bitsOf, incidence, formerPairs}
+use Rattle.cluster.specs.Terms.{Topology, topology, partitions, Layout, IsFormer, rowsIn, cellsOf, rowAt, idsIn, faultOf}
+use Rattle.cluster.specs.TermsReading.{Accepted}
+use Rattle.incidence.specs.ModelIncidence.{bitsOf, incidence, formerPairs, zoneCells}
 use Rattle.cluster.specs.declared.Cluster.{Cluster}
-use Rattle.cluster.specs.Columns.{zoneCells}
 use Rattle.cluster.proofs.Accepting.{accepted}
 use Rattle.cluster.proofs.CellLayouts.{row-rowsIn}
-use Rattle.cluster.proofs.TieDistance.{former-few}
-use Rattle.masks.specs.Model.{masksRead, rowMask, cellsWritten, idsTotal, rowsFormed}
+use Rattle.incidence.proofs.TieDistance.{former-few}
+use Rattle.masks.specs.ModelMasks.{masksRead, rowMask, cellsWritten, idsTotal, rowsFormed}
 use Rattle.masks.proofs.Laws.{mask-bits, formed-each, formed-former, ids-pairs, written-layout}
-use Rattle.sizing.specs.Model.{nodesOf, mateCells, capCells, Fits32, sizeOf, dealtRows, dealtIn}
+use Rattle.sizing.specs.ModelSizing.{nodesOf, mateCells, capCells, Fits32, sizeOf, dealtRows, dealtIn}
 use Rattle.sizing.proofs.Reading.{deal-in}
-use Rattle.improve.specs.Run.{Ran}
+use Rattle.improve.specs.ModelRun.{Ran}
 use Rattle.improve.specs.ModelImprove.{ranIn, agreementIn, sharedIn}
-use Rattle.planner.specs.ModelRun.{formerMasks, ranFrom, ranOf, layoutRows, farRows, planOf}
+use Rattle.planner.specs.ModelPlan.{formerMasks, ranFrom, ranOf, layoutRows, farRows, planOf}
 use Rattle.planner.specs.TermsPlan.{answerOf, answered}
 use Rattle.planner.specs.declared.Planned.{Planned}
 use Rattle.planner.proofs.Machines.{Good, few-partitions, fm-long, far-fits}

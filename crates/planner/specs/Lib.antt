@@ -1,3 +1,3 @@
 pub mod Demand
-pub mod ModelRun
+pub mod ModelPlan
 pub mod TermsPlan

@@ -4,19 +4,17 @@ ghost use mathlib.Core.Bool.{true};
 ghost use mathlib.Core.List.{_++_};
 ghost use Prim.Native.Nat.{_+_, _-_, _*_, _≤_};
 ghost use lib.ListN.{length, drop, replicate};
-ghost use Rattle.cluster.specs.Terms.{topology, partitions};
-ghost use Rattle.cluster.specs.TermsCells.{cellsOf};
-ghost use Rattle.cluster.specs.Faults.{faultOf};
-ghost use Rattle.masks.specs.Model.{rowsFormed, idsTotal};
-ghost use Rattle.sizing.specs.Model.{Fits32, sizeOf};
+ghost use Rattle.cluster.specs.Terms.{topology, partitions, cellsOf, faultOf};
+ghost use Rattle.masks.specs.ModelMasks.{rowsFormed, idsTotal};
+ghost use Rattle.sizing.specs.ModelSizing.{Fits32, sizeOf};
 ghost use Rattle.improve.specs.ModelImprove.{agreementIn};
-ghost use Rattle.planner.specs.ModelRun.{ranFrom};
+ghost use Rattle.planner.specs.ModelPlan.{ranFrom};
 ghost use Rattle.planner.specs.TermsPlan.{answerOf, answered};
 use super::Planned;
 use super::refuse;
 use cluster::Cluster;
-use cluster::zones;
 use improve::Ended;
+use incidence::zones;
 
 // The run from the beginning dealt at the size. `before` holds the former rows as masks.
 pub(crate) fn improved(

@@ -8,9 +8,10 @@ use lib.Bits.{bitOr, bitAnd, or-step, and-step}
 use lib.Count.{ones, onesIn, ones-step, under}
 use lib.Dec.{eqb·suc-suc}
 use lib.Pow.{pow-pos}
-use Rattle.sums.specs.Sum.{sumTo, one-if, is}
+use Rattle.sums.specs.TermsSums.{sumTo, one-if}
+use Rattle.sums.specs.ModelSums.{is}
 use Rattle.sums.proofs.Sum.{is-ne, sum-cong, sum-scale, sum-first}
-use Rattle.sets.specs.Bits.{bit, maskOf, firstTo}
+use Rattle.sets.specs.ModelBits.{bit, maskOf, firstTo}
 
 -- ---- bits
 

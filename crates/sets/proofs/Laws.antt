@@ -11,9 +11,11 @@ use lib.Dec.{ltb}
 use lib.Arith.{lt-of-le-ne}
 use lib.Pow.{pow-mono}
 use borrow.Author.Tests.{eqb-true, eqb-false, eq-eqb, ne-eqb, lt-ltb, le-ltb}
-use Rattle.sums.specs.Sum.{sumTo, one-if, is}
+use Rattle.sums.specs.TermsSums.{sumTo, one-if}
+use Rattle.sums.specs.ModelSums.{is}
 use Rattle.sums.proofs.Sum.{lt-or-ge, is-eq, is-ne, is-le, is-cases, sum-cong, sum-is, sum-le, sum-const, sum-cut, sum-term}
-use Rattle.sets.specs.Bits.{bit, maskOf, firstTo, memberOf, withOf, withoutOf, unionOf, meetOf, differenceOf, belowOf, countOf, leastOf}
+use Rattle.sums.proofs.Tests.{one-if-le}
+use Rattle.sets.specs.ModelBits.{bit, maskOf, firstTo, memberOf, withOf, withoutOf, unionOf, meetOf, differenceOf, belowOf, countOf, leastOf}
 pub use Rattle.sets.proofs.Bits.{bit-le, bit-zero, bit-shr, bit-high, bit-ext, bit-none, bit-lt, bit-or, bit-and, bit-not, bit-pow, ones-bits, mask-lt, bit-mask, bit-maskOf, bit-mask-high, mask-unique, mask-bit, mask-cong, mask-sum, mask-next, mask-same, first-le, first-at, first-before}
 
 -- ---- members
@@ -267,11 +269,6 @@ count-difference s t =
       count-mask (λ j. min (bit s j) (bit t j)) 32 (omega arith) (λ j k. omega (arith, bit-le s j)),
       sum-sub-min 32 (λ j. bit s j) (λ j. bit t j),
     )
-
-one-if-le : (b : Bool) → one-if b ≤ 1
-unfolding one-if
-one-if-le true = omega arith
-one-if-le false = omega arith
 
 sum-below : (m n : ℕ) → sumTo m (λ j. one-if (ltb j n)) ≡ min n m
 unfolding sumTo one-if

@@ -9,9 +9,9 @@ use lib.Bits.{bitOr, bitAnd, or-lt, and-lt}
 use lib.Count.{ones, trailingZeros, under}
 use lib.Dec.{eqb}
 use lib.Pow.{pow-pos, pow-lt, pow-mono, ones-lt, ones-sub-lt, shl-exact}
-use Rattle.sums.specs.Sum.{is}
+use Rattle.sums.specs.ModelSums.{is}
 use Rattle.sums.proofs.Sum.{lt-or-ge, is-le}
-use Rattle.sets.specs.Bits.{bit, firstTo, memberOf, withOf, withoutOf, unionOf, meetOf, differenceOf, belowOf, countOf, leastOf}
+use Rattle.sets.specs.ModelBits.{bit, firstTo, memberOf, withOf, withoutOf, unionOf, meetOf, differenceOf, belowOf, countOf, leastOf}
 use Rattle.sets.proofs.Laws.{bit-le, bit-zero, bit-shr, bit-high, bit-ext, bit-or, bit-and, bit-not, bit-pow, ones-bits, mask-unique, bit-below, bit-below-not, below-lt}
 
 -- A shift and a remainder tell a member.

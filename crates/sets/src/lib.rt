@@ -1,6 +1,6 @@
 // Sets of numbers below 32, each in one u32 by shifts and masks. Every function is total: a number of 32 or more is no member of any set.
 ghost use mathlib.Core.Path.{_≡_};
-ghost use Rattle.sets.specs.Bits.{memberOf, withOf, withoutOf, unionOf, meetOf, differenceOf, belowOf, countOf, leastOf};
+ghost use Rattle.sets.specs.ModelBits.{memberOf, withOf, withoutOf, unionOf, meetOf, differenceOf, belowOf, countOf, leastOf};
 
 // Whether i is a member of s.
 pub fn member(s: u32, i: u32) -> bool

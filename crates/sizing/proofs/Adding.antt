@@ -9,10 +9,11 @@ use native.Mathlib.Numerals.{add-one}
 use native.Mathlib.Omega.{arith}
 use lib.ListN.{length, set}
 use lib.Seq.{getD-set-same, getD-set-other}
-use Rattle.sums.specs.Sum.{sumTo, is}
+use Rattle.sums.specs.TermsSums.{sumTo}
+use Rattle.sums.specs.ModelSums.{is}
 use Rattle.sums.proofs.Sum.{eq-or-ne, is-eq, is-ne, sum-le, sum-const}
-use Rattle.dealing.specs.Deal.{inZone}
-use Rattle.cluster.specs.Columns.{cell}
+use Rattle.dealing.specs.ModelDeal.{inZone}
+use Rattle.incidence.specs.ModelIncidence.{cell}
 
 -- One term more.
 pub sum-next : (f : ℕ → ℕ) (n s v : ℕ) → s ≡ sumTo n f → v ≡ f n → s + v ≡ sumTo (n + 1) f

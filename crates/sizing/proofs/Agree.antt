@@ -5,9 +5,10 @@ use mathlib.Core.Path.{_≡_, ap, ap₂, _∙_}
 use mathlib.Core.Bool.{cond, _&&_}
 use native.Mathlib.Omega.{arith}
 use lib.Dec.{leb, ltb}
-use Rattle.sums.specs.Sum.{sumTo, is}
+use Rattle.sums.specs.TermsSums.{sumTo}
+use Rattle.sums.specs.ModelSums.{is}
 use Rattle.sums.proofs.Sum.{sum-cong}
-use Rattle.dealing.specs.Deal.{inZone, fits, pour, zoned, first, more, given, light, heavy, zoneStart, start, among, dealt}
+use Rattle.dealing.specs.ModelDeal.{inZone, fits, pour, zoned, first, more, given, light, heavy, zoneStart, start, among, dealt}
 
 -- Two functions agree below N.
 abbrev pub SameBelow : ℕ → (ℕ → ℕ) → (ℕ → ℕ) → Type 0

@@ -7,15 +7,13 @@ use mathlib.Core.List.{List}
 use native.Mathlib.Omega.{arith}
 use lib.ListN.{length}
 use lib.Pow.{pow-mono, pow-pos}
-use Rattle.cluster.specs.Limits.{mostBits}
-use Rattle.cluster.specs.Terms.{Topology, partitions}
-use Rattle.cluster.specs.Faults.{Accepted}
-use Rattle.cluster.specs.Tie.{zoneIndex, capAt}
-use Rattle.cluster.proofs.TieZones.{zone-below}
-use Rattle.dealing.specs.Deal.{fits}
-use Rattle.cluster.specs.Columns.{cell, column, zoneCells}
-use Rattle.sizing.specs.Model.{AtMost, nodesOf, capCells}
-use Rattle.cluster.proofs.Columns.{cell-column, length-column}
+use Rattle.cluster.specs.Terms.{mostBits, Topology, partitions}
+use Rattle.cluster.specs.TermsReading.{Accepted}
+use Rattle.incidence.specs.ModelIncidence.{zoneIndex, capAt, cell, column, zoneCells}
+use Rattle.incidence.proofs.TieZones.{zone-below}
+use Rattle.dealing.specs.ModelDeal.{fits}
+use Rattle.sizing.specs.ModelSizing.{AtMost, nodesOf, capCells}
+use Rattle.incidence.proofs.Columns.{cell-column, length-column}
 use Rattle.sizing.proofs.Agree.{SameBelow, fits-agree}
 
 -- The cells of an array that is a column.

@@ -6,11 +6,11 @@ use mathlib.Core.Bool.{Bool, cond}
 use native.Mathlib.Nat.{two-pow-succ}
 use native.Mathlib.Omega.{arith}
 use Rattle.cluster.specs.Terms.{Topology, partitions}
-use Rattle.cluster.specs.Tie.{zoneIndex, capAt}
-use Rattle.dealing.specs.Deal.{fits}
-use Rattle.dealing.specs.Bisect.{bisect, bisectFrom}
-use Rattle.dealing.specs.Size.{bestSize}
-use Rattle.sizing.specs.Model.{nodesOf, sizeOf}
+use Rattle.incidence.specs.ModelIncidence.{zoneIndex, capAt}
+use Rattle.dealing.specs.ModelDeal.{fits}
+use Rattle.dealing.specs.ModelBisect.{bisect, bisectFrom}
+use Rattle.dealing.specs.ModelSize.{bestSize}
+use Rattle.sizing.specs.ModelSizing.{nodesOf, sizeOf}
 
 -- The test of a size.
 abbrev pub passing : Topology → ℕ → Bool

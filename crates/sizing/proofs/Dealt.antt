@@ -5,16 +5,15 @@ use mathlib.Core.Path.{_≡_, refl, ap, ap₂, _∙_}
 use mathlib.Core.List.{List}
 use native.Mathlib.Nat.{mod-lt}
 use native.Mathlib.Omega.{arith}
-use Rattle.sets.specs.Bits.{maskOf}
+use Rattle.sets.specs.ModelBits.{maskOf}
 use Rattle.sets.proofs.Bits.{mask-cong}
-use Rattle.cells.specs.Cells.{put}
+use Rattle.cells.specs.ModelCells.{put}
 use Rattle.cluster.specs.Terms.{Topology, partitions}
-use Rattle.cluster.specs.Tie.{zoneIndex, capAt}
-use Rattle.dealing.specs.Deal.{given, start, among, dealt}
+use Rattle.incidence.specs.ModelIncidence.{zoneIndex, capAt, cell, column, zoneCells}
+use Rattle.dealing.specs.ModelDeal.{given, start, among, dealt}
 use Rattle.dealing.proofs.Given.{given-le}
-use Rattle.cluster.specs.Columns.{cell, column, zoneCells}
-use Rattle.sizing.specs.Line.{reaches}
-use Rattle.sizing.specs.Model.{AtMost, nodesOf, capCells, beginning, dealtRows}
+use Rattle.sizing.specs.ModelLine.{reaches}
+use Rattle.sizing.specs.ModelSizing.{AtMost, nodesOf, capCells, beginning, dealtRows}
 use Rattle.cells.proofs.Cells.{put-cong}
 use Rattle.sizing.proofs.Agree.{SameBelow, start-agree, dealt-agree}
 use Rattle.sizing.proofs.Arrays.{cells-agree, zones-hold, caps-hold}

@@ -7,11 +7,11 @@ use mathlib.Core.List.{List}
 use native.Mathlib.Omega.{arith}
 use lib.Dec.{leb}
 use borrow.Author.Tests.{le-leb, lt-leb}
-use Rattle.sums.specs.Sum.{sumTo}
+use Rattle.sums.specs.TermsSums.{sumTo}
 use Rattle.sums.proofs.Sum.{sum-cong}
-use Rattle.dealing.specs.Deal.{inZone, fits}
-use Rattle.cluster.specs.Columns.{cell, column}
-use Rattle.cluster.proofs.Columns.{cell-column}
+use Rattle.dealing.specs.ModelDeal.{inZone, fits}
+use Rattle.incidence.specs.ModelIncidence.{cell, column}
+use Rattle.incidence.proofs.Columns.{cell-column}
 
 module _ (P n R Z : ℕ) (zone cap : ℕ → ℕ) (few : n ≤ 32) (caps : (b : ℕ) → b < n → cap b ≤ P) where
   total-caps : (s : ℕ) → s ≡ sumTo n (λ b. min P (cap b)) → s ≡ sumTo n cap

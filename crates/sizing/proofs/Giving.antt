@@ -4,13 +4,13 @@ use Prim.Native.Nat.{ℕ, _+_, _-_, _*_, _≤_, _<_, min}
 use mathlib.Core.Path.{_≡_, ap, ap₂, _∙_}
 use mathlib.Core.List.{List}
 use native.Mathlib.Omega.{arith}
-use Rattle.sums.specs.Sum.{sumTo}
+use Rattle.sums.specs.TermsSums.{sumTo}
 use Rattle.sums.proofs.Sum.{sum-cong}
-use Rattle.dealing.specs.Deal.{pour, zoned, first, more, given}
+use Rattle.dealing.specs.ModelDeal.{pour, zoned, first, more, given}
 use Rattle.dealing.proofs.Given.{first-le}
-use Rattle.cluster.specs.Columns.{cell, column}
-use Rattle.sizing.specs.Model.{AtMost}
-use Rattle.cluster.proofs.Columns.{column-cong}
+use Rattle.incidence.specs.ModelIncidence.{cell, column}
+use Rattle.sizing.specs.ModelSizing.{AtMost}
+use Rattle.incidence.proofs.Columns.{column-cong}
 use Rattle.sizing.proofs.Agree.{SameBelow, pour-agree}
 use Rattle.sizing.proofs.Arrays.{cells-agree}
 

@@ -9,12 +9,12 @@ use native.Mathlib.Nat.{add-mod-right, mod-eq-of-lt}
 use native.Mathlib.Omega.{arith}
 use lib.Dec.{ltb}
 use borrow.Author.Tests.{lt-ltb, le-ltb}
-use Rattle.sums.specs.Sum.{sumTo, one-if}
+use Rattle.sums.specs.TermsSums.{sumTo, one-if}
 use Rattle.sums.proofs.Sum.{sum-cong, lt-or-ge}
-use Rattle.dealing.specs.Deal.{inZone, light, heavy, zoneStart, start}
-use Rattle.cluster.specs.Columns.{cell, column}
-use Rattle.sizing.specs.Model.{AtMost}
-use Rattle.sizing.specs.Line.{lightOf, heavyOf, zoneBegins, reaches}
+use Rattle.dealing.specs.ModelDeal.{inZone, light, heavy, zoneStart, start}
+use Rattle.incidence.specs.ModelIncidence.{cell, column}
+use Rattle.sizing.specs.ModelSizing.{AtMost}
+use Rattle.sizing.specs.ModelLine.{lightOf, heavyOf, zoneBegins, reaches}
 use Rattle.sizing.proofs.Adding.{sum-bound, zone-bound}
 use Rattle.sizing.proofs.Agree.{SameBelow}
 use Rattle.sizing.proofs.Arrays.{cells-agree}

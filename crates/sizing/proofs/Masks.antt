@@ -3,7 +3,7 @@
 use Prim.Native.Nat.{ℕ, _+_, _≤_, _<_}
 use mathlib.Core.Path.{_≡_, sym, ap, _∙_}
 use native.Mathlib.Numerals.{add-one}
-use Rattle.sets.specs.Bits.{maskOf, withOf}
+use Rattle.sets.specs.ModelBits.{maskOf, withOf}
 use Rattle.sets.proofs.Bits.{mask-same}
 use Rattle.sets.proofs.Laws.{mask-with}
 

@@ -3,8 +3,8 @@
 use Prim.Native.Nat.{ℕ, _+_, _-_, min}
 use mathlib.Core.Path.{_≡_, refl}
 use native.Mathlib.Omega.{arith}
-use Rattle.sums.specs.Sum.{sumTo}
-use Rattle.dealing.specs.Deal.{pour}
+use Rattle.sums.specs.TermsSums.{sumTo}
+use Rattle.dealing.specs.ModelDeal.{pour}
 use Rattle.sizing.proofs.Adding.{sum-next}
 
 module _ (f : ℕ → ℕ) (room b left v x : ℕ) (l : left ≡ room - sumTo b f) (e : v ≡ f b) (h : x ≡ min v left) where

@@ -2,23 +2,21 @@
 -- Assumes nothing.
 use Prim.Native.Nat.{ℕ, _≤_, _<_, min}
 use mathlib.Core.Path.{_≡_, sym, ap, ap₂, _∙_}
-use mathlib.Core.Bool.{Bool, _&&_}
+use mathlib.Core.Bool.{Bool, _&&_, cond}
 use mathlib.Core.List.{List}
 use native.Mathlib.Nat.{zero-add}
 use native.Mathlib.Omega.{arith}
 use lib.ListN.{length}
 use borrow.Author.Tests.{eq-eqb, ne-eqb, le-leb}
-use Rattle.sums.specs.Sum.{is, pick}
-use Rattle.sets.specs.Bits.{bit, maskOf}
+use Rattle.sums.specs.ModelSums.{is}
+use Rattle.sets.specs.ModelBits.{bit, maskOf}
 use Rattle.sets.proofs.Bits.{bit-maskOf, mask-cong}
-use Rattle.cells.specs.Cells.{put}
+use Rattle.cells.specs.ModelCells.{put}
 use Rattle.cells.proofs.Cells.{length-put, getD-put-in, getD-put-out}
-use Rattle.cluster.specs.Terms.{Topology, topology, partitions}
-use Rattle.cluster.specs.Faults.{faultOf}
-use Rattle.cluster.specs.Tie.{zoneIndex}
+use Rattle.cluster.specs.Terms.{Topology, topology, partitions, faultOf}
+use Rattle.incidence.specs.ModelIncidence.{zoneIndex, cell, column, zoneCells}
 use Rattle.cluster.specs.declared.Cluster.{Cluster}
-use Rattle.cluster.specs.Columns.{cell, column, zoneCells}
-use Rattle.sizing.specs.Model.{nodesOf, mateCells, sizeOf, sizeIn, beginning, dealtRows, dealtIn}
+use Rattle.sizing.specs.ModelSizing.{nodesOf, mateCells, sizeOf, sizeIn, beginning, dealtRows, dealtIn}
 use Rattle.sizing.proofs.Agree.{SameBelow}
 use Rattle.sizing.proofs.Arrays.{cells-agree, zones-hold}
 use Rattle.sizing.proofs.Sizes.{beginning-le}
@@ -26,12 +24,12 @@ use Rattle.sizing.proofs.Sizes.{beginning-le}
 -- Without fault the size is answered.
 pub size-in : (c : Cluster) → faultOf c ≡ 0 → sizeIn c ≡ sizeOf (topology c)
 unfolding sizeIn
-size-in c e = ap (λ (b : Bool). pick b (sizeOf (topology c)) 0) (eq-eqb (faultOf c) 0 e)
+size-in c e = ap (λ (b : Bool). cond b (sizeOf (topology c)) 0) (eq-eqb (faultOf c) 0 e)
 
 -- With a fault it is 0.
 pub size-fault : (c : Cluster) → (faultOf c ≡ 0 → ⊥) → sizeIn c ≡ 0
 unfolding sizeIn
-size-fault c h = ap (λ (b : Bool). pick b (sizeOf (topology c)) 0) (ne-eqb (faultOf c) 0 h)
+size-fault c h = ap (λ (b : Bool). cond b (sizeOf (topology c)) 0) (ne-eqb (faultOf c) 0 h)
 
 -- The mates of each node, from the array of zones.
 pub mates-hold : (t : Topology) → nodesOf t ≤ 32 → (zones mates : List ℕ) → zones ≡ zoneCells t → mates ≡ mateCells zones (nodesOf t)
@@ -48,7 +46,7 @@ mates-hold t few zones mates z e b l =
 pub deal-in : (c : Cluster) (s : ℕ) (l : List ℕ) → faultOf c ≡ 0 → partitions (topology c) ≤ length l → dealtIn c s l ≡ dealtRows (topology c) s l
 unfolding dealtIn
 deal-in c s l e h =
-    ap (λ (b : Bool). pick b (dealtRows (topology c) s l) l)
+    ap (λ (b : Bool). cond b (dealtRows (topology c) s l) l)
     (ap₂ _&&_ (eq-eqb (faultOf c) 0 e) (le-leb (partitions (topology c)) (length l) h))
 
 module _ (t : Topology) (s : ℕ) (l : List ℕ) where

@@ -5,17 +5,16 @@ use mathlib.Core.Path.{_≡_}
 use native.Mathlib.Nat.{le-div-iff-mul-le, div-mul-le-self, mul-le-mul-left, div-eq-of-lt}
 use native.Mathlib.Omega.{arith}
 use lib.Pow.{pow-pos}
-use Rattle.exchange.specs.Row.{Within}
+use Rattle.exchange.specs.ModelRow.{Within}
 use Rattle.cluster.specs.Terms.{Topology, partitions, nodeAt, Layout, ValidAt, IsSize}
-use Rattle.cluster.specs.Faults.{Accepted}
-use Rattle.cluster.specs.Tie.{zoneIndex, capAt, incidence, layoutOf}
-use Rattle.cluster.proofs.TieZones.{zone-below}
-use Rattle.cluster.proofs.TieLayouts.{within-of-valid, valid-of-within}
-use Rattle.dealing.specs.Deal.{dealt}
-use Rattle.dealing.specs.Size.{Caps, Best}
+use Rattle.cluster.specs.TermsReading.{Accepted}
+use Rattle.incidence.specs.ModelIncidence.{zoneIndex, capAt, incidence, layoutOf}
+use Rattle.incidence.proofs.TieZones.{zone-below}
+use Rattle.incidence.proofs.TieLayouts.{within-of-valid, valid-of-within}
+use Rattle.dealing.specs.ModelSize.{Caps, Best}
 use Rattle.dealing.proofs.Size.{best-size}
 use Rattle.dealing.proofs.Exists.{dealt-le}
-use Rattle.sizing.specs.Model.{nodesOf, Fits32, sizeOf, beginning}
+use Rattle.sizing.specs.ModelSizing.{nodesOf, Fits32, sizeOf, beginning}
 
 -- A larger size leaves room for no more copies.
 copies-fall : (n s s′ : ℕ) → 1 ≤ s → s ≤ s′ → n / s′ ≤ n / s

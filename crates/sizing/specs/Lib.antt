@@ -1,2 +1,2 @@
-pub mod Line
-pub mod Model
+pub mod ModelLine
+pub mod ModelSizing

@@ -2,9 +2,9 @@
 ghost use mathlib.Core.Path.{_≡_};
 ghost use Prim.Native.Nat.{_≤_, _<_, _-_, _+_};
 ghost use lib.ListN.{length};
-ghost use Rattle.dealing.specs.Deal.{pour, zoned, given};
-ghost use Rattle.cluster.specs.Columns.{cell, column};
-ghost use Rattle.sizing.specs.Model.{AtMost};
+ghost use Rattle.dealing.specs.ModelDeal.{pour, zoned, given};
+ghost use Rattle.incidence.specs.ModelIncidence.{cell, column};
+ghost use Rattle.sizing.specs.ModelSizing.{AtMost};
 use super::totals;
 use super::totals::least;
 

@@ -3,14 +3,12 @@
 ghost use mathlib.Core.Path.{_≡_};
 ghost use Prim.Native.Nat.{_≤_};
 ghost use lib.ListN.{length};
-ghost use Rattle.cluster.specs.Terms.{topology, partitions};
-ghost use Rattle.cluster.specs.Faults.{faultOf};
-ghost use Rattle.cluster.specs.Tie.{zoneIndex, capAt};
-ghost use Rattle.dealing.specs.Deal.{fits};
-ghost use Rattle.cluster.specs.Columns.{zoneCells};
-ghost use Rattle.sizing.specs.Model.{mateCells, capCells, Fits32, sizeOf, sizeIn, dealtRows, dealtIn};
+ghost use Rattle.cluster.specs.Terms.{topology, partitions, faultOf};
+ghost use Rattle.incidence.specs.ModelIncidence.{zoneIndex, capAt, zoneCells};
+ghost use Rattle.dealing.specs.ModelDeal.{fits};
+ghost use Rattle.sizing.specs.ModelSizing.{mateCells, capCells, Fits32, sizeOf, sizeIn, dealtRows, dealtIn};
 use cluster::Cluster;
-use cluster::zones;
+use incidence::zones;
 
 mod copies;
 mod line;

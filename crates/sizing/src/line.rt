@@ -2,13 +2,13 @@
 ghost use mathlib.Core.Path.{_≡_};
 ghost use Prim.Native.Nat.{ℕ, _≤_, _<_, _-_, _+_, _%_};
 ghost use lib.ListN.{length};
-ghost use Rattle.sums.specs.Sum.{sumTo};
-ghost use Rattle.sets.specs.Bits.{maskOf};
-ghost use Rattle.cells.specs.Cells.{put};
-ghost use Rattle.dealing.specs.Deal.{start};
-ghost use Rattle.cluster.specs.Columns.{cell, column};
-ghost use Rattle.sizing.specs.Model.{AtMost};
-ghost use Rattle.sizing.specs.Line.{lightOf, heavyOf, zoneBegins, reaches};
+ghost use Rattle.sums.specs.TermsSums.{sumTo};
+ghost use Rattle.sets.specs.ModelBits.{maskOf};
+ghost use Rattle.cells.specs.ModelCells.{put};
+ghost use Rattle.dealing.specs.ModelDeal.{start};
+ghost use Rattle.incidence.specs.ModelIncidence.{cell, column};
+ghost use Rattle.sizing.specs.ModelSizing.{AtMost};
+ghost use Rattle.sizing.specs.ModelLine.{lightOf, heavyOf, zoneBegins, reaches};
 use super::totals;
 
 // The copies of the first n zones that have fewer than P.

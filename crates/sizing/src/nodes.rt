@@ -2,13 +2,13 @@
 ghost use mathlib.Core.Path.{_≡_};
 ghost use Prim.Native.Nat.{_≤_, _/_, _^_, min};
 ghost use lib.ListN.{length};
-ghost use Rattle.sums.specs.Sum.{is};
-ghost use Rattle.sets.specs.Bits.{maskOf};
+ghost use Rattle.sums.specs.ModelSums.{is};
+ghost use Rattle.sets.specs.ModelBits.{maskOf};
 ghost use Rattle.cluster.specs.Terms.{topology, nodeAt};
-ghost use Rattle.cluster.specs.Columns.{cell, column};
+ghost use Rattle.incidence.specs.ModelIncidence.{cell, column};
 use super::totals::least;
 use cluster::Cluster;
-use cluster::zones;
+use incidence::zones;
 
 // A number of nodes, cut to what a cluster has at most.
 pub fn cut(n: usize) -> usize

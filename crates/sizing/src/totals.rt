@@ -1,13 +1,11 @@
 // Sums over the nodes, of numbers that are at most 256 each.
 ghost use mathlib.Core.Path.{_≡_};
-ghost use mathlib.Core.Bool.{_&&_};
 ghost use Prim.Native.Nat.{_≤_, _<_, _*_, min};
-ghost use lib.Dec.{leb};
 ghost use lib.ListN.{length};
-ghost use Rattle.sums.specs.Sum.{sumTo};
-ghost use Rattle.dealing.specs.Deal.{inZone, fits};
-ghost use Rattle.cluster.specs.Columns.{cell, column};
-ghost use Rattle.sizing.specs.Model.{AtMost};
+ghost use Rattle.sums.specs.TermsSums.{sumTo};
+ghost use Rattle.dealing.specs.ModelDeal.{inZone, fits};
+ghost use Rattle.incidence.specs.ModelIncidence.{cell, column};
+ghost use Rattle.sizing.specs.ModelSizing.{AtMost};
 
 // The lesser of two numbers.
 pub fn least(x: u32, y: u32) -> u32

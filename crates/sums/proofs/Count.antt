@@ -6,7 +6,8 @@ use mathlib.Core.Bool.{Bool, true, false}
 use mathlib.Core.Logic.{_⊎_, inl, inr, ⊎-elim}
 use native.Mathlib.Nat.{mul-one, one-mul, mul-le-mul-left, mul-le-mul-right}
 use native.Mathlib.Omega.{arith}
-use Rattle.sums.specs.Sum.{sumTo, is, maxTo, hits}
+use Rattle.sums.specs.TermsSums.{sumTo}
+use Rattle.sums.specs.ModelSums.{is, maxTo, hits}
 use Rattle.sums.proofs.Sum.{lt-or-ge, is-le, is-one, sum-const, sum-zero, sum-swap, sum-is, sum-witness, sum-cong}
 
 -- Where a test holds of some index below the bound, it holds of a first one; else it fails of each.

@@ -8,7 +8,8 @@ use native.Mathlib.Nat.{add-zero, add-suc, zero-mul, suc-mul, one-mul, mul-zero,
 use native.Mathlib.Omega.{arith}
 use lib.Dec.{ltb, eqb}
 use borrow.Author.Tests.{ltb-true, ltb-false, eqb-true, eqb-false, eq-eqb, ne-eqb}
-use Rattle.sums.specs.Sum.{sumTo, one-if, is}
+use Rattle.sums.specs.TermsSums.{sumTo, one-if}
+use Rattle.sums.specs.ModelSums.{is}
 
 -- ---- cases
 

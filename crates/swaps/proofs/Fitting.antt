@@ -8,15 +8,15 @@ use native.Mathlib.Omega.{arith}
 use lib.ListN.{getD}
 use lib.Dec.{ltb}
 use borrow.Author.Tests.{lt-ltb, le-ltb}
-use Rattle.sums.specs.Sum.{is}
+use Rattle.sums.specs.ModelSums.{is}
 use Rattle.sums.proofs.Sum.{lt-or-ge, is-le}
-use Rattle.sets.specs.Bits.{bit, unionOf, meetOf, differenceOf, belowOf, countOf}
+use Rattle.sets.specs.ModelBits.{bit, unionOf, meetOf, differenceOf, belowOf, countOf}
 use Rattle.sets.proofs.Laws.{bit-le, bit-high, bit-union, bit-meet, bit-difference, bit-below, bit-below-not, meet-lt, difference-lt}
-use Rattle.exchange.specs.Row.{zoneCount, cover, Valid, swap}
-use Rattle.exchange.specs.Swap.{fits}
+use Rattle.exchange.specs.ModelRow.{zoneCount, cover, Valid, swap}
+use Rattle.exchange.specs.ModelSwap.{fits}
 use Rattle.exchange.proofs.Row.{fits-valid, valid-fits}
 use Rattle.swaps.specs.ModelSwaps.{targetsIn, targetsOf, coverOf, coveredOf}
-use Rattle.swaps.specs.Mates.{Mates}
+use Rattle.swaps.specs.ModelMates.{Mates}
 use Rattle.swaps.proofs.Steps.{targets-spare, targets-crowded, targets-few}
 use Rattle.swaps.proofs.Touching.{bit-mate, mates-count, cover-law, covered-law}
 

@@ -10,7 +10,7 @@ use lib.Dec.{ltb}
 use lib.ListN.{getD}
 use borrow.Author.Tests.{eq-eqb, ne-eqb, lt-ltb, le-ltb}
 use Rattle.sums.proofs.Sum.{eq-or-ne}
-use Rattle.sets.specs.Bits.{withoutOf, unionOf, meetOf, differenceOf, countOf, leastOf}
+use Rattle.sets.specs.ModelBits.{withoutOf, unionOf, meetOf, differenceOf, countOf, leastOf}
 use Rattle.sets.proofs.Laws.{without-lt, without-none, least-none, least-taken, count-difference, count-empty}
 use Rattle.swaps.specs.ModelSwaps.{restOf, coverIn, coveredIn, coverOf, coveredOf, targetsIn, targetsOf}
 

@@ -8,14 +8,15 @@ use native.Mathlib.Nat.{mul-one, mul-zero, zero-mul}
 use native.Mathlib.Omega.{arith}
 use lib.ListN.{getD}
 use lib.Pow.{pow-mono}
-use Rattle.sums.specs.Sum.{sumTo, is}
+use Rattle.sums.specs.TermsSums.{sumTo}
+use Rattle.sums.specs.ModelSums.{is}
 use Rattle.sums.proofs.Sum.{lt-or-ge, eq-or-ne, is-eq, is-ne, is-le, is-cases, sum-cong, sum-add, sum-zero, sum-is}
-use Rattle.sets.specs.Bits.{bit, withoutOf, unionOf, meetOf, countOf, leastOf}
+use Rattle.sets.specs.ModelBits.{bit, withoutOf, unionOf, meetOf, countOf, leastOf}
 use Rattle.sets.proofs.Laws.{bit-le, bit-zero, bit-high, bit-lt, bit-maskOf, bit-without, bit-union, bit-meet, bit-difference, meet-lt, difference-lt, count-sum, count-none, count-le, least-some, least-at}
-use Rattle.exchange.specs.Row.{zoneCount, cover}
+use Rattle.exchange.specs.ModelRow.{zoneCount, cover}
 use Rattle.exchange.proofs.Row.{zone-one}
 use Rattle.swaps.specs.ModelSwaps.{restOf, coverIn, coveredIn, coverOf, coveredOf}
-use Rattle.swaps.specs.Mates.{Mates}
+use Rattle.swaps.specs.ModelMates.{Mates}
 use Rattle.swaps.proofs.Steps.{cover-more, cover-done, covered-more, covered-done, rest-count}
 
 -- A bit and an indicator, as a product.

@@ -1,2 +1,2 @@
 pub mod ModelSwaps
-pub mod Mates
+pub mod ModelMates

@@ -1,12 +1,11 @@
 -- What the functions compute, over sets of nodes as masks and slices as lists.
 -- Assumes nothing.
 use Prim.Native.Nat.{ℕ, zero, suc, _+_}
-use mathlib.Core.Bool.{Bool, _||_}
+use mathlib.Core.Bool.{Bool, _||_, cond}
 use mathlib.Core.List.{List}
 use lib.ListN.{getD}
 use lib.Dec.{eqb, ltb}
-use Rattle.sums.specs.Sum.{pick}
-use Rattle.sets.specs.Bits.{withoutOf, unionOf, meetOf, differenceOf, countOf, leastOf}
+use Rattle.sets.specs.ModelBits.{withoutOf, unionOf, meetOf, differenceOf, countOf, leastOf}
 
 -- What is left of a set without its least node and that node's zone.
 unfoldable pub restOf : List ℕ → ℕ → ℕ
@@ -15,13 +14,13 @@ restOf mates left = differenceOf (withoutOf left (leastOf left)) (getD mates (le
 -- The zones told by the nodes that are left, added to a count; each step takes a node at least, so that there are as many steps as nodes at most.
 unfoldable pub coverIn : ℕ → List ℕ → ℕ → ℕ → ℕ
 coverIn zero mates left n = n
-coverIn (suc k) mates left n = pick (eqb left 0) n (coverIn k mates (restOf mates left) (n + 1))
+coverIn (suc k) mates left n = cond (eqb left 0) n (coverIn k mates (restOf mates left) (n + 1))
 
 -- The nodes of these zones, added to a set.
 unfoldable pub coveredIn : ℕ → List ℕ → ℕ → ℕ → ℕ
 coveredIn zero mates left nodes = nodes
 coveredIn (suc k) mates left nodes =
-    pick (eqb left 0) nodes (coveredIn k mates (restOf mates left) (unionOf nodes (getD mates (leastOf left) 0)))
+    cond (eqb left 0) nodes (coveredIn k mates (restOf mates left) (unionOf nodes (getD mates (leastOf left) 0)))
 
 -- How many zones a row touches.
 unfoldable pub coverOf : List ℕ → ℕ → ℕ
@@ -34,7 +33,7 @@ coveredOf mates row = coveredIn 32 mates row 0
 -- The nodes of `all` that may take the place of a node of the zone `mate` in the row.
 unfoldable pub targetsIn : ℕ → ℕ → ℕ → Bool → ℕ → ℕ
 targetsIn all row mate spare covered =
-    pick (spare || ltb 1 (countOf (meetOf row mate))) (differenceOf all row)
+    cond (spare || ltb 1 (countOf (meetOf row mate))) (differenceOf all row)
     (meetOf (differenceOf all row) (unionOf mate (differenceOf all covered)))
 
 -- The nodes of `all` that may take a's place in a row that is to touch z zones.

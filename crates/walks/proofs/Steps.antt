@@ -9,12 +9,12 @@ use native.Mathlib.Numerals.{add-one}
 use native.Mathlib.Omega.{arith}
 use lib.ListN.{getD}
 use borrow.Author.Tests.{lt-ltb, le-ltb, eq-eqb, ne-eqb}
-use Rattle.sums.specs.Sum.{sumTo}
+use Rattle.sums.specs.TermsSums.{sumTo}
 use Rattle.sums.proofs.Sum.{sum-cong}
-use Rattle.sets.specs.Bits.{memberOf}
+use Rattle.sets.specs.ModelBits.{memberOf}
 use Rattle.swaps.specs.ModelSwaps.{targetsOf}
-use Rattle.exchange.specs.Circuit.{cost}
-use Rattle.exchange.specs.Uncross.{Walk, crosses, wrap, inner, walk-costs}
+use Rattle.exchange.specs.ModelCircuit.{cost}
+use Rattle.exchange.specs.ModelUncross.{Walk, crosses, wrap, inner, walk-costs}
 use Rattle.exchange.proofs.Uncross.{wrap-low, wrap-end}
 use Rattle.walks.specs.ModelWalks.{okOf, suitsOf, suitsAt, walkIn, innerGains}
 

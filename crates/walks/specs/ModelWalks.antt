@@ -6,11 +6,11 @@ use mathlib.Core.Bool.{Bool, _&&_, not}
 use mathlib.Core.List.{List}
 use lib.ListN.{getD}
 use lib.Dec.{eqb, ltb}
-use Rattle.sets.specs.Bits.{bit, memberOf}
+use Rattle.sets.specs.ModelBits.{bit, memberOf}
 use Rattle.swaps.specs.ModelSwaps.{targetsOf}
 use Rattle.cycles.specs.ModelGraph.{weightOf}
-use Rattle.exchange.specs.Levels.{firstFrom}
-use Rattle.exchange.specs.Uncross.{Walk, walk, inner, walk-costs}
+use Rattle.exchange.specs.ModelLevels.{firstFrom}
+use Rattle.exchange.specs.ModelUncross.{Walk, walk, inner, walk-costs}
 
 -- The row of partition p, a list of masks, as a function of the node.
 abbrev pub bitsOf : List ℕ → ℕ → ℕ → ℕ

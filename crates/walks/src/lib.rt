@@ -2,11 +2,11 @@
 // whether the part between two arcs gains. A row is a set of nodes below 32; a walk is two slices, its nodes and the partitions of its arcs. Every
 // public function is total: a cell past a slice's end counts as 0, and the arcs are numbered by u32, so that the next one is always an index.
 ghost use mathlib.Core.Path.{_≡_};
-ghost use Prim.Native.Nat.{ℕ, suc, _+_, _-_, _≤_, _<_, _^_};
+ghost use Prim.Native.Nat.{_+_, _-_, _≤_, _<_, _^_};
 ghost use lib.ListN.{getD};
-ghost use Rattle.sets.specs.Bits.{bit};
-ghost use Rattle.exchange.specs.Circuit.{cost};
-ghost use Rattle.exchange.specs.Uncross.{crosses, partner, first};
+ghost use Rattle.sets.specs.ModelBits.{bit};
+ghost use Rattle.exchange.specs.ModelCircuit.{cost};
+ghost use Rattle.exchange.specs.ModelUncross.{crosses, partner, first};
 ghost use Rattle.cycles.specs.ModelGraph.{weightOf};
 ghost use Rattle.walks.specs.ModelWalks.{bitsOf, okOf, suitsOf, witnessOf, walkIn, innerGains};
 

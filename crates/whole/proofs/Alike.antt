@@ -8,7 +8,7 @@ use mathlib.Core.Logic.{⊎-elim}
 use native.Mathlib.Omega.{arith}
 use lib.ListN.{length}
 use lib.Seq.{ext-getD}
-use Rattle.sums.specs.Sum.{one-if}
+use Rattle.sums.specs.TermsSums.{one-if}
 use Rattle.sums.proofs.Sum.{sum-zero, sum-term}
 use Rattle.cluster.specs.Terms.{Topology, partitions, Layout, row, mem, rising, onlyIn, distance}
 use Rattle.cluster.proofs.Lists.{same-test, mem-head, mem-tail, mem-none, mem-cases, rising-same}

@@ -3,7 +3,7 @@
 -- Assumes nothing.
 use Prim.Native.Nat.{ℕ, _+_, _^_, _≤_, _<_}
 use mathlib.Core.Path.{_≡_, refl, sym, ap, _∙_}
-use mathlib.Core.Bool.{Bool, true, false, false≢true}
+use mathlib.Core.Bool.{Bool, true, false, false≢true, cond}
 use mathlib.Core.List.{List, [], _++_}
 use mathlib.Core.Logic.{⊎-elim}
 use native.Mathlib.Omega.{arith}
@@ -11,22 +11,19 @@ use native.Mathlib.Nat.{le-antisymm, mul-le-mul, eq-zero-or-pos}
 use lib.Dec.{eqb}
 use lib.ListN.{length, drop, getD, List·getD-eq-default}
 use borrow.Author.Tests.{eq-eqb, ne-eqb, eqb-true}
-use Rattle.sums.specs.Sum.{pick}
 use Rattle.sums.proofs.Sum.{lt-or-ge}
-use Rattle.cluster.specs.Limits.{layoutCells}
-use Rattle.cluster.specs.Terms.{Topology, topology, partitions, nodeAt, Layout, row, ValidAt, IsSize, IsFormer, distance}
-use Rattle.cluster.specs.TermsCells.{cellsOf, rowsIn}
-use Rattle.cluster.specs.Faults.{Accepted}
-use Rattle.cluster.specs.Tie.{layoutOf}
+use Rattle.cluster.specs.Terms.{layoutCells, Topology, topology, partitions, nodeAt, Layout, row, ValidAt, IsSize, IsFormer, distance, cellsOf, rowsIn}
+use Rattle.cluster.specs.TermsReading.{Accepted}
+use Rattle.incidence.specs.ModelIncidence.{layoutOf}
 use Rattle.cluster.specs.declared.Cluster.{Cluster}
 use Rattle.cluster.proofs.Lists.{index-mem}
-use Rattle.cluster.proofs.TieRows.{known-id}
-use Rattle.cluster.proofs.TieDistance.{former-few, distance-law}
+use Rattle.incidence.proofs.TieRows.{known-id}
+use Rattle.incidence.proofs.TieDistance.{former-few, distance-law}
 use Rattle.masks.proofs.Laws.{formed-former}
-use Rattle.sizing.specs.Model.{Fits32, sizeOf, beginning}
+use Rattle.sizing.specs.ModelSizing.{Fits32, sizeOf, beginning}
 use Rattle.sizing.proofs.Sizes.{size-best, size-largest, beginning-valid}
 use Rattle.planner.specs.Demand.{Demand3, Rules}
-use Rattle.planner.specs.ModelRun.{planOf}
+use Rattle.planner.specs.ModelPlan.{planOf}
 use Rattle.planner.specs.TermsPlan.{unusable, planRefusal, answerOf, refusedWith, answered, plannedOf, assignmentAfter}
 use Rattle.planner.proofs.Machines.{few-partitions}
 use Rattle.planner.proofs.Refusals.{Usable, usable-has}
@@ -39,21 +36,21 @@ module _ (c : Cluster) (former : List ℕ) (a s : ℕ) where
   pub none-refused : unusable c former a s ≡ 0 → 1 ≤ sizeOf (topology c) → planRefusal c former a s ≡ 0
   unfolding planRefusal
   none-refused u l =
-      ap (λ (b : Bool). pick b (pick (eqb (sizeOf (topology c)) 0) 9 0) (unusable c former a s)) (eq-eqb (unusable c former a s) 0 u)
-      ∙ ap (λ (b : Bool). pick b 9 0) (ne-eqb (sizeOf (topology c)) 0 (λ e. omega arith))
+      ap (λ (b : Bool). cond b (cond (eqb (sizeOf (topology c)) 0) 9 0) (unusable c former a s)) (eq-eqb (unusable c former a s) 0 u)
+      ∙ ap (λ (b : Bool). cond b 9 0) (ne-eqb (sizeOf (topology c)) 0 (λ e. omega arith))
 
   -- And where nothing is refused, both hold.
   pub usable-sized : planRefusal c former a s ≡ 0 → Usable c former a s × (1 ≤ sizeOf (topology c))
   unfolding planRefusal
   usable-sized e = go (eqb (unusable c former a s) 0) refl e
     where
-      size : (b : Bool) → eqb (sizeOf (topology c)) 0 ≡ b → _≡_ {A = ℕ} (pick b 9 0) 0 → 1 ≤ sizeOf (topology c)
+      size : (b : Bool) → eqb (sizeOf (topology c)) 0 ≡ b → _≡_ {A = ℕ} (cond b 9 0) 0 → 1 ≤ sizeOf (topology c)
       size true q h = absurd (omega arith)
       size false q h =
           ⊎-elim (λ z. absurd (false≢true (sym q ∙ eq-eqb (sizeOf (topology c)) 0 z))) (λ l. l) (eq-zero-or-pos (sizeOf (topology c)))
 
       go : (b : Bool) → eqb (unusable c former a s) 0 ≡ b
-          → _≡_ {A = ℕ} (pick b (pick (eqb (sizeOf (topology c)) 0) 9 0) (unusable c former a s)) 0
+          → _≡_ {A = ℕ} (cond b (cond (eqb (sizeOf (topology c)) 0) 9 0) (unusable c former a s)) 0
           → Usable c former a s × (1 ≤ sizeOf (topology c))
       go true q h = (usable-has c former a s (eqb-true (unusable c former a s) 0 q), size (eqb (sizeOf (topology c)) 0) refl h)
       go false q h = absurd (false≢true (sym q ∙ eq-eqb (unusable c former a s) 0 h))
@@ -65,7 +62,7 @@ module _ (c : Cluster) (former : List ℕ) (a s : ℕ) where
     not-refused e = go (eqb (planRefusal c former a s) 0) refl e
       where
         go : (b : Bool) → eqb (planRefusal c former a s) 0 ≡ b
-            → pick b (answered (answerOf c former allowance)) (refusedWith (planRefusal c former a s)) .refusal ≡ 0 → planRefusal c former a s ≡ 0
+            → cond b (answered (answerOf c former allowance)) (refusedWith (planRefusal c former a s)) .refusal ≡ 0 → planRefusal c former a s ≡ 0
         go true q h = eqb-true (planRefusal c former a s) 0 q
         go false q h = h
 
@@ -73,14 +70,14 @@ module _ (c : Cluster) (former : List ℕ) (a s : ℕ) where
     pub plan-answered : planRefusal c former a s ≡ 0 → plannedOf c former allowance a s ≡ answered (answerOf c former allowance)
     unfolding plannedOf
     plan-answered e =
-        ap (λ (b : Bool). pick b (answered (answerOf c former allowance)) (refusedWith (planRefusal c former a s))) (eq-eqb (planRefusal c former a s) 0 e)
+        ap (λ (b : Bool). cond b (answered (answerOf c former allowance)) (refusedWith (planRefusal c former a s))) (eq-eqb (planRefusal c former a s) 0 e)
 
 -- And the cells are those of its layout.
 pub plan-laid : (c : Cluster) (former : List ℕ) (allowance : ℕ) (assignment : List ℕ) (s : ℕ) → planRefusal c former (length assignment) s ≡ 0
     → assignmentAfter c former allowance assignment s ≡ cellsOf (answerOf c former allowance .layout) ++ drop layoutCells assignment
 unfolding assignmentAfter
 plan-laid c former allowance assignment s e =
-    ap (λ (b : Bool). pick b (cellsOf (answerOf c former allowance .layout) ++ drop layoutCells assignment) assignment)
+    ap (λ (b : Bool). cond b (cellsOf (answerOf c former allowance .layout) ++ drop layoutCells assignment) assignment)
     (eq-eqb (planRefusal c former (length assignment) s) 0 e)
 
 -- ---- the terms

@@ -8,20 +8,19 @@ use mathlib.Core.List.{List, _++_}
 use native.Mathlib.Omega.{arith}
 use lib.ListN.{length, take, drop, length-append}
 use lib.Seq.{take-at}
-use Rattle.cluster.specs.Limits.{layoutCells, scratchCells}
-use Rattle.cluster.specs.Terms.{Topology, topology, partitions, nodeAt, Layout, ValidAt, IsFormer, distance}
-use Rattle.cluster.specs.TermsCells.{cellsOf, rowsIn, FitsCells, HoldsRows}
-use Rattle.cluster.specs.Faults.{Accepted}
+use Rattle.cluster.specs.Terms.{layoutCells, scratchCells, Topology, topology, partitions, nodeAt, Layout, ValidAt, IsFormer, distance, cellsOf, rowsIn}
+use Rattle.cluster.specs.ModelRows.{FitsCells, HoldsRows}
+use Rattle.cluster.specs.TermsReading.{Accepted}
 use Rattle.cluster.specs.declared.Cluster.{Cluster}
 use Rattle.cluster.proofs.Accepting.{accepted}
-use Rattle.cluster.proofs.Lists.{one-if-le}
+use Rattle.sums.proofs.Tests.{one-if-le}
 use Rattle.cluster.proofs.CellLayouts.{length-cellsOf, rowsIn-written, holds-cellsOf, holds-append}
 use Rattle.masks.proofs.Laws.{holds-formed}
 use Rattle.layouts.specs.TermsCheck.{passed, checkOf}
 use Rattle.layouts.proofs.CheckMeaning.{valid-fits, valid-passed}
-use Rattle.sizing.specs.Model.{Fits32, sizeOf}
+use Rattle.sizing.specs.ModelSizing.{Fits32, sizeOf}
 use Rattle.planner.specs.Demand.{Answer, Demand3, Rules}
-use Rattle.planner.specs.ModelRun.{planOf}
+use Rattle.planner.specs.ModelPlan.{planOf}
 use Rattle.planner.specs.TermsPlan.{unusable, planRefusal, answerOf, answered, plannedOf, assignmentAfter}
 use Rattle.planner.specs.declared.Planned.{Planned}
 use Rattle.planner.proofs.Refusals.{Usable, usable}

@@ -5,8 +5,8 @@ use mathlib.Core.Path.{_≡_}
 use mathlib.Core.Bool.{true}
 use mathlib.Core.List.{List, _++_}
 use lib.ListN.{take, drop}
-use Rattle.sums.specs.Sum.{one-if}
-use Rattle.cluster.specs.Limits.{layoutCells}
+use Rattle.sums.specs.TermsSums.{one-if}
+use Rattle.cluster.specs.Terms.{layoutCells}
 use Rattle.cluster.specs.declared.Cluster.{Cluster}
 use Rattle.planner.specs.declared.Planned.{Planned}
 use Rattle.layout_record.specs.declared.Numbers.{Numbers}

@@ -4,7 +4,7 @@ use native.Mathlib.Omega.{arith}
 use Rattle.circuits.proofs.Steps.{pair-in, free-stop, free-go, free-end}
 use Rattle.circuits.specs.ModelCircuits.{bitsOf, okOf, walkIn}
 use Rattle.exchange.proofs.Walk.{same-refl}
-use Rattle.exchange.specs.Uncross.{Same, uncross}
+use Rattle.exchange.specs.ModelUncross.{Same, uncross}
 use lib.ListN.{length}
 use mathlib.Core.Path.{_≡_, subst}
 use Prim.Native.Nat.{ℕ, _≤_, _<_}

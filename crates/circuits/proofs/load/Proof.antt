@@ -3,7 +3,7 @@ use borrow.Author.Needs.{needs}
 use native.Mathlib.Omega.{arith}
 use Rattle.circuits.specs.ModelCircuits.{witnessIn}
 use Rattle.cells.proofs.Cells.{put-none, put-next}
-use Rattle.cells.specs.Cells.{put}
+use Rattle.cells.specs.ModelCells.{put}
 use lib.ListN.{length, getD}
 use mathlib.Core.Path.{_≡_, refl, ap, _∙_}
 use Prim.Native.Nat.{ℕ, _≤_, _-_}

@@ -3,7 +3,7 @@ use borrow.Author.Needs.{needs}
 use native.Mathlib.Omega.{arith}
 use Rattle.circuits.proofs.Steps.{exchanged-row, exchanged-store}
 use Rattle.circuits.specs.ModelCircuits.{exchanged}
-use Rattle.sets.specs.Bits.{withOf}
+use Rattle.sets.specs.ModelBits.{withOf}
 use lib.ListN.{length, getD, set, length-set}
 use mathlib.Core.Logic.{⊎-elim}
 use mathlib.Core.Path.{_≡_, refl, ap, _∙_}

@@ -1,11 +1,7 @@
 -- `cluster_record::allowed_after` meets its contract.
 -- Assumes nothing.
 use borrow.Author.Tests.{lt-ltb, le-ltb}
-use mathlib.Core.Path.{_≡_, sym, ap, _∙_}
-use Rattle.sets.specs.Bits.{withOf}
 use Rattle.cluster_record.specs.RecordClusterFaults.{allowedAfter}
-use borrow.Author.Needs.{needs}
-use native.Mathlib.Omega.{arith}
 use borrow.Author.Needs.{needs}
 use Rattle.cluster_record.proofs.allowed_after.Statement.{statement}
 use Rattle.cluster_record.proofs.allowed_after.Tie as tie

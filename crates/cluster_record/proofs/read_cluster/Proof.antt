@@ -4,12 +4,10 @@ use Prim.Native.Nat.{ℕ}
 use mathlib.Core.Path.{sym, ap, _∙_}
 use mathlib.Core.List.{List, _++_}
 use lib.ListN.{drop}
-use Rattle.cluster.specs.Limits.{layoutCells}
+use Rattle.cluster.specs.Terms.{layoutCells}
 use Rattle.cluster_record.specs.declared.ReadCluster.{ReadCluster}
 use Rattle.cluster_record.specs.RecordClusterAnswer.{answerOf}
 use Rattle.cluster_record.proofs.Answers.{short-answer, short-former, long-answer, accepted-former, refused-former}
-use borrow.Author.Needs.{needs}
-use native.Mathlib.Omega.{arith}
 use borrow.Author.Needs.{needs}
 use Rattle.cluster_record.proofs.read_cluster.Statement.{statement}
 use Rattle.cluster_record.proofs.read_cluster.Tie as tie

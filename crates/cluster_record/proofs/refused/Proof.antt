@@ -2,9 +2,8 @@
 -- Assumes nothing.
 use mathlib.Core.Path.{ap}
 use Rattle.cluster.specs.declared.Cluster.{Cluster}
-use Rattle.cluster_record.specs.RecordClusterAnswer.{answerOf, slotsOf}
-use borrow.Author.Needs.{needs}
-use native.Mathlib.Omega.{arith}
+use Rattle.cluster_record.specs.RecordClusterAnswer.{answerOf}
+use Rattle.cluster.specs.TermsReading.{slotsOf}
 use borrow.Author.Needs.{needs}
 use Rattle.cluster_record.proofs.refused.Statement.{statement}
 use Rattle.cluster_record.proofs.refused.Tie as tie

@@ -7,7 +7,6 @@ use lib.ListN.{length}
 use lib.Seq.{length-take-le}
 use Rattle.io.specs.Counts.{Counts}
 use borrow.Author.Needs.{needs}
-use native.Mathlib.Omega.{arith}
 use Rattle.cluster_record_run.proofs.decode.Statement.{statement}
 use Rattle.cluster_record_run.proofs.decode.Tie as tie
 use Rattle.cluster_record_run.proofs.decode.Reads as reads

@@ -3,7 +3,6 @@
 use Prim.Native.Nat.{_-_, _≤_}
 use lib.ListN.{length}
 use borrow.Author.Needs.{needs}
-use native.Mathlib.Omega.{arith}
 use Rattle.cluster_record_run.proofs.run.Statement.{statement}
 use Rattle.cluster_record_run.proofs.run.Tie as tie
 use Rattle.cluster_record_run.proofs.run.Reads as reads

@@ -4,9 +4,9 @@ use mathlib.Core.Path.{_≡_, ap, _∙_}
 use native.Mathlib.Omega.{arith}
 use borrow.Author.Needs.{needs}
 use lib.ListN.{length, length-set}
-use Rattle.cells.specs.Cells.{put}
+use Rattle.cells.specs.ModelCells.{put}
 use Rattle.cells.proofs.Cells.{put-none, put-next}
-use Rattle.sets.specs.Bits.{withOf}
+use Rattle.sets.specs.ModelBits.{withOf}
 use Rattle.cycles.proofs.begin.Statement.{statement}
 use Rattle.cycles.proofs.begin.Tie as tie
 

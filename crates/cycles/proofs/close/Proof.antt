@@ -4,10 +4,10 @@ use mathlib.Core.Path.{_≡_, sym, ap, _∙_}
 use native.Mathlib.Omega.{arith}
 use borrow.Author.Needs.{needs}
 use lib.ListN.{length, length-set}
-use Rattle.cells.specs.Cells.{put}
+use Rattle.cells.specs.ModelCells.{put}
 use Rattle.cells.proofs.Cells.{put-none, put-next}
-use Rattle.sets.specs.Bits.{withOf}
-use Rattle.cycles.specs.Turns.{before, closer}
+use Rattle.sets.specs.ModelBits.{withOf}
+use Rattle.cycles.specs.ModelTurns.{before, closer}
 use Rattle.cycles.proofs.Parts.{closerFrom, closer-start, closer-hit, closer-miss, closer-end}
 use Rattle.cycles.proofs.close.Statement.{statement}
 use Rattle.cycles.proofs.close.Tie as tie

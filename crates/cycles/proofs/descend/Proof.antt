@@ -1,15 +1,10 @@
 -- `cycles::descend` meets its contract. Assumes nothing.
-use Prim.Native.Nat.{ℕ, _≤_, _<_, _-_, _+_, _*_}
-use mathlib.Core.Path.{_≡_, refl, sym, ap, _∙_, subst}
-use mathlib.Core.Bool.{Bool, true, false}
+use Prim.Native.Nat.{ℕ, _≤_, _-_, _+_, _*_}
+use mathlib.Core.Path.{_≡_, ap, _∙_}
 use native.Mathlib.Omega.{arith}
 use borrow.Author.Needs.{needs}
-use lib.ListN.{length, getD, set, take, drop, length-take, length-drop}
-use Rattle.cells.specs.Cells.{put}
-use Rattle.cells.proofs.Cells.{put-none}
-use Rattle.sets.specs.Bits.{withOf, memberOf}
-use Rattle.exchange.specs.Levels.{firstFrom}
-use Rattle.sets.specs.Bits.{meetOf, belowOf}
+use lib.ListN.{length, take, drop, length-take, length-drop}
+use Rattle.sets.specs.ModelBits.{meetOf}
 use Rattle.cycles.proofs.Sweeps.{descended}
 use Rattle.cycles.proofs.descend.Statement.{statement}
 use Rattle.cycles.proofs.descend.Tie as tie

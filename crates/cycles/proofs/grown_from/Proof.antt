@@ -1,14 +1,9 @@
 -- `cycles::grown_from` meets its contract. Assumes nothing.
-use Prim.Native.Nat.{ℕ, _≤_, _<_, _-_, _+_}
-use mathlib.Core.Path.{_≡_, refl, sym, ap, _∙_, subst}
-use mathlib.Core.Bool.{Bool, true, false}
+use Prim.Native.Nat.{_<_, _-_}
+use mathlib.Core.Path.{sym, _∙_}
 use native.Mathlib.Omega.{arith}
 use borrow.Author.Needs.{needs}
-use lib.ListN.{length, getD, set, length-set}
-use Rattle.cells.specs.Cells.{put}
-use Rattle.cells.proofs.Cells.{put-none}
-use Rattle.sets.specs.Bits.{withOf, memberOf}
-use Rattle.exchange.specs.Levels.{firstFrom}
+use lib.ListN.{getD}
 use Rattle.cycles.proofs.Parts.{before-fallen, before-stayed}
 use Rattle.cycles.proofs.grown_from.Statement.{statement}
 use Rattle.cycles.proofs.grown_from.Tie as tie

@@ -1,15 +1,10 @@
 -- `cycles::look` meets its contract: three offers are a look.
 -- Assumes nothing.
-use Prim.Native.Nat.{ℕ, _≤_, _<_, _-_, _+_}
-use mathlib.Core.Path.{_≡_, refl, sym, ap, _∙_, subst}
-use mathlib.Core.Bool.{Bool, true, false}
+use Prim.Native.Nat.{_-_}
+use mathlib.Core.Path.{sym, _∙_}
 use native.Mathlib.Omega.{arith}
 use borrow.Author.Needs.{needs}
-use lib.ListN.{getD}
-use Rattle.sets.specs.Bits.{bit, memberOf}
-use Rattle.exchange.specs.Levels.{Fall, relax}
-use Rattle.cycles.specs.ModelGraph.{graphOf}
-use Rattle.cycles.specs.Turns.{Held, Turns}
+use Rattle.sets.specs.ModelBits.{memberOf}
 use Rattle.cycles.proofs.Sweeps.{look-turns, look-not}
 use Rattle.cycles.proofs.look.Statement.{statement}
 use Rattle.cycles.proofs.look.Tie as tie

@@ -1,11 +1,10 @@
 -- `cycles::offer` meets its contract. The members that are not left have had the offer.
 -- Assumes nothing.
 use Prim.Native.Nat.{ℕ, _≤_, _<_, _-_}
-use mathlib.Core.Path.{_≡_, refl, sym, ap, _∙_, subst}
-use lib.ListN.{length, getD, set, length-set}
-use Rattle.sets.specs.Bits.{bit, countOf, leastOf, withoutOf}
-use Rattle.sets.proofs.Laws.{least-taken, without-lt}
-use Rattle.cycles.specs.Turns.{Turns, offered}
+use mathlib.Core.Path.{_≡_}
+use lib.ListN.{length, length-set}
+use Rattle.sets.specs.ModelBits.{bit, countOf}
+use Rattle.cycles.specs.ModelTurns.{Turns, offered}
 use Rattle.cycles.proofs.Offers.{Offering, offers-start, offers-end, offers-high, offers-less, offers-node, offers-part, offers-skip, offers-take}
 use borrow.Author.Needs.{needs}
 use native.Mathlib.Omega.{arith}

@@ -2,21 +2,15 @@
 -- Assumes nothing.
 use Prim.Native.Nat.{ℕ, suc, _≤_, _<_, _-_, _+_, _*_}
 use mathlib.Core.Path.{_≡_, refl, sym, ap, _∙_, subst}
-use mathlib.Core.Bool.{Bool, true, false}
 use native.Mathlib.Omega.{arith}
 use borrow.Author.Needs.{needs}
 use mathlib.Core.List.{List}
-use lib.ListN.{length, getD, set, take, drop, length-take, length-drop, getD-replicate}
-use Rattle.cells.specs.Cells.{put}
-use Rattle.cells.proofs.Cells.{put-none}
-use Rattle.sets.specs.Bits.{withOf, memberOf}
-use Rattle.exchange.specs.Levels.{firstFrom}
-use Rattle.sets.specs.Bits.{belowOf}
-use Rattle.exchange.specs.Levels.{Graph, Outcome, Potential, Cycle, outcome, search-from}
+use lib.ListN.{length, take, drop, getD-replicate}
+use Rattle.exchange.specs.ModelLevels.{Cycle, outcome, search-from}
 use Rattle.cycles.specs.ModelGraph.{graphOf}
-use Rattle.cycles.specs.ModelFound.{endLength, endWalk}
-use Rattle.cycles.specs.Turns.{before, closer, trail, trailLength}
-use Rattle.cycles.proofs.States.{State, Next, state-start, state-room, state-next}
+use Rattle.cycles.specs.ModelFound.{endWalk}
+use Rattle.cycles.specs.ModelTurns.{before, closer}
+use Rattle.cycles.proofs.States.{State, state-start, state-room, state-next}
 use Rattle.cycles.proofs.Ends.{Turning, part-row, ends-still, ends-closed, search-spent, search-start, closer-le, search-still, row-node, search-on, state-on, search-closed, trail-closes, trail-node, trail-walk, trail-length}
 use Rattle.cycles.proofs.Rows.{level-lt, level-less, level-up, level-next, level-fits, row-fits, row-fits-64, row-end-fits, row-bytes-fit, row-inside, row-length, row-ends, length-enough, length-least, none-closer}
 use Rattle.cycles.proofs.search.Statement.{statement}

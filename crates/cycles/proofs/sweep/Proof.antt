@@ -1,12 +1,12 @@
 -- `cycles::sweep` meets its contract: the nodes below u have been looked at.
 -- Assumes nothing.
-use Prim.Native.Nat.{ℕ, _≤_, _<_, _-_, _+_}
-use mathlib.Core.Path.{_≡_, refl, sym, ap, _∙_, subst}
+use Prim.Native.Nat.{ℕ, _≤_, _<_, _-_}
+use mathlib.Core.Path.{_≡_, subst}
 use native.Mathlib.Omega.{arith}
 use borrow.Author.Needs.{needs}
 use lib.ListN.{length, getD}
-use Rattle.sets.specs.Bits.{bit, memberOf}
-use Rattle.cycles.specs.Turns.{Held}
+use Rattle.sets.specs.ModelBits.{bit}
+use Rattle.cycles.specs.ModelTurns.{Held}
 use Rattle.cycles.proofs.Sweeps.{fallTo, sweep-start, sweep-more}
 use Rattle.cycles.proofs.sweep.Statement.{statement}
 use Rattle.cycles.proofs.sweep.Tie as tie

@@ -4,9 +4,9 @@ use mathlib.Core.Path.{_≡_, _∙_}
 use native.Mathlib.Omega.{arith}
 use borrow.Author.Needs.{needs}
 use lib.ListN.{length, length-set}
-use Rattle.cells.specs.Cells.{put}
+use Rattle.cells.specs.ModelCells.{put}
 use Rattle.cells.proofs.Cells.{put-none, put-next}
-use Rattle.cycles.specs.Turns.{trail, trailLength}
+use Rattle.cycles.specs.ModelTurns.{trail, trailLength}
 use Rattle.cycles.proofs.Parts.{trailFrom, trail-start, trail-next, length-start, length-miss, length-end, trace-found}
 use Rattle.cycles.proofs.trace.Statement.{statement}
 use Rattle.cycles.proofs.trace.Tie as tie

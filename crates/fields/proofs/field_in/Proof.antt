@@ -7,7 +7,7 @@ use borrow.Author.Needs.{needs}
 use borrow.Author.Tests.{not-true, not-false}
 use native.Mathlib.Omega.{arith}
 use lib.ListN.{length}
-use Rattle.sets.specs.Bits.{memberOf}
+use Rattle.sets.specs.ModelBits.{memberOf}
 use Rattle.fields.specs.RecordField.{numberAt, legalAs, Within}
 use Rattle.fields.specs.declared.Field.the-variants.{Body}
 use Rattle.fields.proofs.Numbers.{true-has, false-has}

@@ -4,9 +4,9 @@ use Prim.Native.Nat.{ℕ, _≤_, _<_}
 use mathlib.Core.Path.{sym, ap, _∙_, subst}
 use mathlib.Core.Logic.{inl, inr, ⊎-elim}
 use lib.ListN.{length, getD}
-use Rattle.sets.specs.Bits.{countOf, withoutOf}
+use Rattle.sets.specs.ModelBits.{countOf, withoutOf}
 use Rattle.sets.proofs.Laws.{least-taken}
-use Rattle.graph.specs.Growth.{Grown}
+use Rattle.graph.specs.ModelGrowth.{Grown}
 use Rattle.graph.proofs.Growing.{Left, left-all, least-word, left-less}
 use Rattle.graph.proofs.Turns.{rooming, room-none, room-of, room-turn, room-all}
 use borrow.Author.Needs.{needs}

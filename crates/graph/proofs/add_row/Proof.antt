@@ -1,11 +1,11 @@
 -- `graph::add_row` meets its contract. The loop's invariant: the nodes of the row that are no more left have been noted and counted.
 -- The measure is the number of nodes that are left. Assumes nothing.
 use Prim.Native.Nat.{ℕ, _-_, _≤_, _<_}
-use mathlib.Core.Path.{_≡_, sym, ap, _∙_, subst}
+use mathlib.Core.Path.{sym, ap, _∙_, subst}
 use lib.ListN.{length}
-use Rattle.sets.specs.Bits.{bit, countOf, withoutOf}
+use Rattle.sets.specs.ModelBits.{bit, countOf, withoutOf}
 use Rattle.swaps.proofs.Steps.{targets-are}
-use Rattle.graph.specs.Growth.{Grown, Added}
+use Rattle.graph.specs.ModelGrowth.{Grown, Added}
 use Rattle.graph.proofs.Growing.{added-same, Left, left-all, least-word, left-less}
 use Rattle.graph.proofs.Turns.{doing, row-none, row-turn, row-all, count-turn, count-all}
 use Rattle.sets.proofs.Laws.{bit-le, least-at, least-taken}

@@ -5,7 +5,7 @@ use mathlib.Core.Path.{_≡_, sym, _∙_, subst}
 use lib.ListN.{length, replicate, getD-replicate}
 use borrow.Author.Tests.{lt-ltb}
 use Rattle.graph.specs.ModelArcs.{movesTo, copiesTo, arcsOf}
-use Rattle.graph.specs.Growth.{Grown, Added}
+use Rattle.graph.specs.ModelGrowth.{Grown, Added}
 use Rattle.graph.proofs.Turns.{rows-none, rows-turn, copies-none, copies-turn, copies-le, clear-length, arcs-all}
 use borrow.Author.Needs.{needs}
 use native.Mathlib.Omega.{arith}

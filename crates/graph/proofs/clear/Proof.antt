@@ -3,7 +3,7 @@ use Prim.Native.Nat.{ℕ, _-_, _≤_}
 use mathlib.Core.Path.{_≡_, ap, _∙_}
 use mathlib.Core.List.{List, _++_}
 use lib.ListN.{length, drop, set}
-use Rattle.cells.specs.Cells.{tab}
+use Rattle.sums.specs.TermsSums.{tab}
 use Rattle.cells.proofs.Cells.{tab-none, tab-more}
 use borrow.Author.Needs.{needs}
 use native.Mathlib.Omega.{arith}

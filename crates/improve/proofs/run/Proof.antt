@@ -1,9 +1,9 @@
 use borrow.Author.Needs.{needs}
 use native.Mathlib.Omega.{arith}
-use Prim.Native.Nat.{ℕ, _≤_, _-_}
-use mathlib.Core.Path.{_≡_, refl, sym, ap, _∙_}
+use Prim.Native.Nat.{_≤_, _-_}
+use mathlib.Core.Path.{_≡_, refl, ap, _∙_}
 use lib.ListN.{length}
-use Rattle.improve.specs.Run.{later}
+use Rattle.improve.specs.ModelRun.{later}
 use Rattle.improve.specs.ModelImprove.{ranIn}
 use borrow.Author.Tests.{not-true, not-false}
 use Rattle.improve.proofs.Steps.{stepped-length, ran-begins, ran-on, ran-over, ran-spent}

@@ -2,11 +2,11 @@
 -- Assumes nothing.
 use borrow.Author.Needs.{needs}
 use native.Mathlib.Omega.{arith}
-use Prim.Native.Nat.{ℕ, zero, suc, _+_, _-_, _*_, _^_, _≤_, _<_}
-use mathlib.Core.Path.{_≡_, refl, sym, ap, ap₂, _∙_, subst}
+use Prim.Native.Nat.{ℕ, _+_, _-_}
+use mathlib.Core.Path.{sym, ap, _∙_}
 use mathlib.Core.List.{List, _++_}
 use lib.ListN.{drop}
-use Rattle.cluster.specs.Limits.{layoutCells}
+use Rattle.cluster.specs.Terms.{layoutCells}
 use Rattle.layout_record.specs.declared.ReadLayout.{ReadLayout}
 use Rattle.layout_record.specs.RecordLayoutAnswer.{answerOf}
 use Rattle.layout_record.proofs.RowSteps.{read-short, short-kept, read-long, long-set, long-kept}

@@ -1,8 +1,7 @@
 -- `layout_record::refused` meets its contract.
 -- Assumes nothing.
 use borrow.Author.Needs.{needs}
-use native.Mathlib.Omega.{arith}
-use mathlib.Core.Path.{_≡_, refl, sym, ap, ap₂, _∙_, subst}
+use mathlib.Core.Path.{ap}
 use Rattle.layout_record.specs.declared.Numbers.{Numbers}
 use Rattle.layout_record.specs.RecordLayoutAnswer.{answerOf}
 use Rattle.layout_record.proofs.refused.Statement.{statement}

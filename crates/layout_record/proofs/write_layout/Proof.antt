@@ -1,12 +1,9 @@
 -- `layout_record::write_layout` meets its contract.
 -- Assumes nothing.
 use borrow.Author.Needs.{needs}
-use native.Mathlib.Omega.{arith}
-use Prim.Native.Nat.{ℕ, zero, suc, _+_, _-_, _*_, _^_, _≤_, _<_}
-use mathlib.Core.Path.{_≡_, refl, sym, ap, ap₂, _∙_, subst}
+use Prim.Native.Nat.{ℕ, _-_}
+use mathlib.Core.Path.{sym, ap, _∙_}
 use lib.ListN.{length}
-use Rattle.layout_record.specs.declared.Written.{Written}
-use Rattle.layout_record.specs.RecordLayout.{InRange}
 use Rattle.layout_record.proofs.RowFaults.{fit-range, no-fault}
 use Rattle.layout_record.proofs.RowSteps.{write-refused, write-accepted}
 use Rattle.layout_record.proofs.write_layout.Statement.{statement}

@@ -2,13 +2,13 @@
 -- Assumes nothing.
 use borrow.Author.Needs.{needs}
 use native.Mathlib.Omega.{arith}
-use Prim.Native.Nat.{ℕ, _≤_, _+_, _-_, _*_}
-use mathlib.Core.Path.{_≡_, refl, sym, ap, _∙_}
+use Prim.Native.Nat.{ℕ, _≤_, _-_, _*_}
+use mathlib.Core.Path.{_≡_, refl, ap, _∙_}
 use borrow.Author.Tests.{le-leb, lt-leb}
-use Rattle.sums.specs.Sum.{sumTo}
-use Rattle.cluster.specs.Limits.{bufferRows}
-use Rattle.cluster.specs.RowScan.{rowIds}
-use Rattle.masks.specs.Model.{idsTotal}
+use Rattle.sums.specs.TermsSums.{sumTo}
+use Rattle.cluster.specs.Terms.{bufferRows}
+use Rattle.cluster.specs.ModelRows.{rowIds}
+use Rattle.masks.specs.ModelMasks.{idsTotal}
 use Rattle.masks.proofs.Rows.{row-ids-le, sum-more}
 use Rattle.masks.proofs.count_ids.Statement.{statement}
 use Rattle.masks.proofs.count_ids.Tie as tie

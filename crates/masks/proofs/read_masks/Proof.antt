@@ -7,11 +7,10 @@ use mathlib.Core.Path.{_≡_, ap, ap₂, _∙_}
 use mathlib.Core.List.{List, _++_}
 use lib.ListN.{length, drop, set}
 use borrow.Author.Tests.{le-leb, lt-leb}
-use Rattle.cells.specs.Cells.{tab}
+use Rattle.sums.specs.TermsSums.{tab}
 use Rattle.cells.proofs.Cells.{tab-none, tab-more}
-use Rattle.cluster.specs.Limits.{bufferRows}
-use Rattle.cluster.specs.Terms.{topology}
-use Rattle.masks.specs.Model.{rowMask, masksRead}
+use Rattle.cluster.specs.Terms.{bufferRows, topology}
+use Rattle.masks.specs.ModelMasks.{rowMask, masksRead}
 use Rattle.masks.proofs.read_masks.Statement.{statement}
 use Rattle.masks.proofs.read_masks.Tie as tie
 

@@ -3,12 +3,10 @@
 use borrow.Author.Needs.{needs}
 use Prim.Native.Nat.{ℕ}
 use mathlib.Core.Path.{sym, ap, ap₂}
-use mathlib.Core.Bool.{Bool}
-use Rattle.sums.specs.Sum.{pick}
-use Rattle.cluster.specs.Terms.{topology}
-use Rattle.cluster.specs.TermsCells.{rowAt, idsIn}
+use mathlib.Core.Bool.{Bool, cond}
+use Rattle.cluster.specs.Terms.{topology, rowAt, idsIn}
 use Rattle.cluster.proofs.RowScans.{row-out, row-short, row-whole}
-use Rattle.masks.specs.Model.{named, rowMask}
+use Rattle.masks.specs.ModelMasks.{named, rowMask}
 use Rattle.masks.proofs.row_mask.Statement.{statement}
 use Rattle.masks.proofs.row_mask.Tie as tie
 
@@ -17,7 +15,7 @@ unfolding rowMask
 returns c =
     let a = c .before .before .args in
     sym
-    (ap (λ (t : Bool). pick t (named (topology (a .c) .nodes) (idsIn (rowAt (a .cells .now) (a .partition)))) 0)
+    (ap (λ (t : Bool). cond t (named (topology (a .c) .nodes) (idsIn (rowAt (a .cells .now) (a .partition)))) 0)
     (row-out (a .cells .now) (a .partition) (search needs)))
 
 mul-from : tie.Need-mul-from
@@ -31,7 +29,7 @@ unfolding rowMask
 returns-2 c =
     let a = c .before .before .before .args in
     sym
-    (ap (λ (t : Bool). pick t (named (topology (a .c) .nodes) (idsIn (rowAt (a .cells .now) (a .partition)))) 0)
+    (ap (λ (t : Bool). cond t (named (topology (a .c) .nodes) (idsIn (rowAt (a .cells .now) (a .partition)))) 0)
     (row-short (a .cells .now) (a .partition) (search needs)))
 
 walk-row-requires : tie.Need-walk-row-requires
@@ -42,7 +40,7 @@ unfolding rowMask
 returns-3 c =
     let a = c .before .before .before .before .args in
     sym
-    (ap₂ (λ (t : Bool) (n : ℕ). pick t n 0) (row-whole (a .cells .now) (a .partition) (search needs) (search needs)) (sym (c .walk-row .ensures)))
+    (ap₂ (λ (t : Bool) (n : ℕ). cond t n 0) (row-whole (a .cells .now) (a .partition) (search needs) (search needs)) (sym (c .walk-row .ensures)))
 
 pub row-mask-spec : {M : Type 1} → statement M
 row-mask-spec = tie.close (tie.spec returns mul-from add-if2 returns-2 walk-row-requires returns-3)

@@ -2,20 +2,21 @@
 -- Assumes nothing.
 use borrow.Author.Needs.{needs}
 use native.Mathlib.Omega.{arith}
-use Prim.Native.Nat.{ℕ, _≤_, _+_, _-_}
+use Prim.Native.Nat.{ℕ, _≤_, _-_}
 use mathlib.Core.Path.{_≡_, sym, ap, ap₂, _∙_}
 use mathlib.Core.Bool.{Bool, true, _&&_, and-false}
 use lib.Dec.{ltb, leb}
 use borrow.Author.Tests.{lt-ltb, le-ltb, le-leb, lt-leb}
-use Rattle.cluster.specs.Limits.{bufferRows}
-use Rattle.cluster.specs.RowScan.{illFormed, rowIds}
-use Rattle.masks.specs.Model.{allTo, rowsFormed}
-use Rattle.masks.proofs.Rows.{all-none, all-more, all-not}
+use Rattle.cluster.specs.Terms.{bufferRows}
+use Rattle.cluster.specs.ModelRows.{illFormed, rowIds}
+use Rattle.masks.specs.ModelMasks.{rowsFormed}
+use Rattle.sums.proofs.Tests.{every-none, every-more, every-fails}
+use Rattle.sums.specs.TermsSums.{everyTo}
 use Rattle.masks.proofs.rows_formed.Statement.{statement}
 use Rattle.masks.proofs.rows_formed.Tie as tie
 
 abbrev Inv-loop : tie.InvT-loop
-Inv-loop cells partitions p₀ p = (p ≤ partitions) × (partitions ≤ bufferRows) × (allTo p (λ q. ltb (rowIds cells q) illFormed) ≡ true)
+Inv-loop cells partitions p₀ p = (p ≤ partitions) × (partitions ≤ bufferRows) × (everyTo p (λ q. ltb (rowIds cells q) illFormed) ≡ true)
 
 abbrev μ-loop : tie.MeasureT-loop
 μ-loop cells partitions p₀ p = partitions - p
@@ -25,7 +26,7 @@ unfolding rowsFormed
 returns c = simp (lt-leb (c .before .before .args .partitions) bufferRows (c .if1 .taken))
 
 loop-holds : tie.Need-loop-holds Inv-loop μ-loop
-loop-holds c = (search needs, search needs, all-none _)
+loop-holds c = (search needs, search needs, every-none _)
 
 row-ids-requires : tie.Need-row-ids-requires Inv-loop μ-loop
 row-ids-requires c κs = search needs
@@ -37,7 +38,7 @@ returns-2 c =
     let a = k .before .before .before .args in
     sym
     (ap (λ (t : Bool). leb (a .partitions) bufferRows && t)
-    (all-not (a .partitions) (k .loop .p) (λ q. ltb (rowIds (a .cells .now) q) illFormed) (search needs)
+    (every-fails (a .partitions) (k .loop .p) (λ q. ltb (rowIds (a .cells .now) q) illFormed) (search needs)
     (le-ltb (rowIds (a .cells .now) (k .loop .p)) illFormed (omega (arith, c .before .row-ids .ensures))))
     ∙ and-false (leb (a .partitions) bufferRows))
 
@@ -53,7 +54,7 @@ loop-again c =
     let a = k .before .before .before .args in (
       search needs,
       search needs,
-      all-more (k .loop .p) (λ q. ltb (rowIds (a .cells .now) q) illFormed) (k .loop .inv .2)
+      every-more (k .loop .p) (λ q. ltb (rowIds (a .cells .now) q) illFormed) (k .loop .inv .2)
           (lt-ltb (rowIds (a .cells .now) (k .loop .p)) illFormed (omega (arith, c .before .row-ids .ensures))),
     )
 
@@ -65,7 +66,7 @@ returns-3 c =
     let e : k .loop .p ≡ a .partitions = omega arith in
     sym
     (ap₂ _&&_ (le-leb (a .partitions) bufferRows (search needs))
-    (ap (λ (n : ℕ). allTo n (λ q. ltb (rowIds (a .cells .now) q) illFormed)) (sym e) ∙ k .loop .inv .2))
+    (ap (λ (n : ℕ). everyTo n (λ q. ltb (rowIds (a .cells .now) q) illFormed)) (sym e) ∙ k .loop .inv .2))
 
 pub rows-formed-spec : {M : Type 1} → statement M
 rows-formed-spec =

@@ -3,15 +3,13 @@
 use borrow.Author.Needs.{needs}
 use native.Mathlib.Omega.{arith}
 use Prim.Native.Nat.{ℕ, _≤_, _<_, _+_, _-_, _*_, _^_}
-use mathlib.Core.Path.{_≡_, sym, ap, _∙_}
+use mathlib.Core.Path.{_≡_, ap, _∙_}
 use mathlib.Core.List.{List}
 use mathlib.Core.Logic.{inl, inr, ⊎-elim}
-use lib.ListN.{length, take, drop, getD}
-use Rattle.cluster.specs.Limits.{rowCells}
-use Rattle.cluster.specs.Terms.{topology, noNode}
-use Rattle.cluster.specs.TermsCells.{idsIn}
+use lib.ListN.{take, drop, getD}
+use Rattle.cluster.specs.Terms.{rowCells, topology, noNode, idsIn}
 use Rattle.cluster.specs.declared.Node.{Node}
-use Rattle.masks.specs.Model.{named}
+use Rattle.masks.specs.ModelMasks.{named}
 use Rattle.masks.proofs.Named.{left, left-all, left-end, left-past, left-zero, left-skip, left-node, node-done, walked}
 use Rattle.masks.proofs.Where.{slot-id}
 use Rattle.masks.proofs.walk_row.Statement.{statement}

@@ -4,15 +4,13 @@ use borrow.Author.Needs.{needs}
 use native.Mathlib.Omega.{arith}
 use Prim.Native.Nat.{ℕ, _≤_, _+_, _-_, _*_, _/_, _%_}
 use mathlib.Core.Path.{_≡_, ap, _∙_}
-use mathlib.Core.List.{List, _++_}
+use mathlib.Core.List.{_++_}
 use lib.ListN.{length, drop, getD}
 use borrow.Author.Tests.{le-leb, lt-leb}
-use Rattle.cells.specs.Cells.{tab}
+use Rattle.sums.specs.TermsSums.{tab}
 use Rattle.cells.proofs.Cells.{tab-none}
-use Rattle.cluster.specs.Limits.{rowCells, bufferRows, layoutCells}
-use Rattle.cluster.specs.Terms.{topology, row}
-use Rattle.cluster.specs.TermsCells.{cellsOf}
-use Rattle.masks.specs.Model.{rowsWhere, cellsWritten}
+use Rattle.cluster.specs.Terms.{rowCells, bufferRows, layoutCells, topology, row, cellsOf}
+use Rattle.masks.specs.ModelMasks.{rowsWhere, cellsWritten}
 use Rattle.masks.proofs.Written.{row-written}
 use Rattle.masks.proofs.write_cells.Statement.{statement}
 use Rattle.masks.proofs.write_cells.Tie as tie

@@ -8,12 +8,11 @@ use mathlib.Core.Path.{_≡_, refl, sym, ap, ap₂, _∙_}
 use mathlib.Core.List.{List}
 use mathlib.Core.Logic.{⊎-elim}
 use lib.ListN.{length, drop, getD, set}
-use Rattle.sets.specs.Bits.{bit, withoutOf}
-use Rattle.cells.specs.Cells.{put}
+use Rattle.sets.specs.ModelBits.{bit, withoutOf}
+use Rattle.cells.specs.ModelCells.{put}
 use Rattle.cells.proofs.Cells.{put-none, put-more}
-use Rattle.cluster.specs.Limits.{rowCells}
-use Rattle.cluster.specs.Terms.{topology, noNode}
-use Rattle.cluster.specs.Tie.{idsWhere}
+use Rattle.cluster.specs.Terms.{rowCells, topology, noNode}
+use Rattle.incidence.specs.ModelIncidence.{idsWhere}
 use Rattle.masks.proofs.Where.{slot-id, past-id, where-next, where-others}
 use Rattle.masks.proofs.write_row.Statement.{statement}
 use Rattle.masks.proofs.write_row.Tie as tie

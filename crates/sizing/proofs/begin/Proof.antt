@@ -5,10 +5,10 @@ use native.Mathlib.Omega.{arith}
 use Prim.Native.Nat.{ℕ, _≤_, _<_}
 use mathlib.Core.Path.{_≡_}
 use Rattle.cluster.specs.Terms.{topology, partitions}
-use Rattle.cluster.specs.Faults.{Accepted}
+use Rattle.cluster.specs.TermsReading.{Accepted}
 use Rattle.cluster.proofs.Accepting.{accepted}
-use Rattle.dealing.specs.Deal.{start}
-use Rattle.cluster.specs.Columns.{cell}
+use Rattle.dealing.specs.ModelDeal.{start}
+use Rattle.incidence.specs.ModelIncidence.{cell}
 use Rattle.sizing.proofs.Arrays.{partitions-few, zones-most, caps-most}
 use Rattle.sizing.proofs.Dealt.{copies-most, starts-low, arrays-deal}
 use Rattle.sizing.proofs.begin.Statement.{statement}

@@ -7,10 +7,9 @@ use mathlib.Core.Path.{_≡_, ap, _∙_, subst}
 use mir.Val.{Fits}
 use mir.Syntax.{w32}
 use Rattle.cluster.specs.Terms.{topology, nodeAt}
-use Rattle.cluster.specs.Tie.{capAt}
-use Rattle.cluster.specs.Columns.{cell, column}
-use Rattle.sizing.specs.Model.{nodesOf, capCells}
-use Rattle.cluster.proofs.Columns.{column-cong}
+use Rattle.incidence.specs.ModelIncidence.{capAt, cell, column}
+use Rattle.sizing.specs.ModelSizing.{nodesOf, capCells}
+use Rattle.incidence.proofs.Columns.{column-cong}
 use Rattle.sizing.proofs.Arrays.{cells-agree}
 use Rattle.sizing.proofs.caps.Statement.{statement}
 use Rattle.sizing.proofs.caps.Tie as tie

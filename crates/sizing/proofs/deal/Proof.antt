@@ -3,15 +3,13 @@
 use borrow.Author.Needs.{needs}
 use native.Mathlib.Omega.{arith}
 use mathlib.Core.Path.{_≡_, sym, ap, ap₂, _∙_}
-use mathlib.Core.Bool.{Bool, _&&_}
+use mathlib.Core.Bool.{Bool, _&&_, cond}
 use lib.Dec.{leb}
 use lib.ListN.{length}
 use borrow.Author.Tests.{eq-eqb, ne-eqb, le-leb, lt-leb}
-use Rattle.sums.specs.Sum.{pick}
-use Rattle.cluster.specs.Terms.{topology, partitions}
-use Rattle.cluster.specs.Faults.{faultOf}
+use Rattle.cluster.specs.Terms.{topology, partitions, faultOf}
 use Rattle.cluster.proofs.Accepting.{accepted}
-use Rattle.sizing.specs.Model.{dealtRows, dealtIn}
+use Rattle.sizing.specs.ModelSizing.{dealtRows, dealtIn}
 use Rattle.sizing.proofs.Arrays.{partitions-few}
 use Rattle.sizing.proofs.deal.Statement.{statement}
 use Rattle.sizing.proofs.deal.Tie as tie
@@ -47,7 +45,7 @@ returns c =
     let a = q .before .before .before .before .args in
     let o = known q in
     d .begin .ensures
-    ∙ ap (λ (b : Bool). pick b (dealtRows (topology (a .c)) (a .size) (a .rows .now)) (a .rows .now))
+    ∙ ap (λ (b : Bool). cond b (dealtRows (topology (a .c)) (a .size) (a .rows .now)) (a .rows .now))
     (sym (ap₂ _&&_ (eq-eqb (faultOf (a .c)) 0 (o .0)) (le-leb (partitions (topology (a .c))) (length (a .rows .now)) (omega (arith, o .1)))))
 
 returns-2 : tie.Need-returns-2
@@ -56,7 +54,7 @@ returns-2 c =
     let q = c .before in
     let a = q .before .before .before .before .args in
     let o = known q in
-    ap (λ (b : Bool). pick b (dealtRows (topology (a .c)) (a .size) (a .rows .now)) (a .rows .now))
+    ap (λ (b : Bool). cond b (dealtRows (topology (a .c)) (a .size) (a .rows .now)) (a .rows .now))
     (sym (ap₂ _&&_ (eq-eqb (faultOf (a .c)) 0 (o .0)) (lt-leb (partitions (topology (a .c))) (length (a .rows .now)) (omega (arith, o .1)))))
 
 returns-3 : tie.Need-returns-3
@@ -64,7 +62,7 @@ unfolding dealtIn
 returns-3 c =
     let f = c .before in
     let a = f .before .before .args in
-    ap (λ (b : Bool). pick (b && leb (partitions (topology (a .c))) (length (a .rows .now))) (dealtRows (topology (a .c)) (a .size) (a .rows .now)) (a .rows .now))
+    ap (λ (b : Bool). cond (b && leb (partitions (topology (a .c))) (length (a .rows .now))) (dealtRows (topology (a .c)) (a .size) (a .rows .now)) (a .rows .now))
     (sym (ne-eqb (faultOf (a .c)) 0 (λ e. c .if1 .left (f .fault .ensures ∙ e))))
 
 pub deal-spec : {M : Type 1} → statement M

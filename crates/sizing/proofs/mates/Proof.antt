@@ -4,11 +4,11 @@ use borrow.Author.Needs.{needs}
 use native.Mathlib.Omega.{arith}
 use Prim.Native.Nat.{ℕ, _-_, _≤_}
 use mathlib.Core.Path.{_≡_, ap, _∙_}
-use Rattle.sums.specs.Sum.{is}
-use Rattle.sets.specs.Bits.{maskOf}
-use Rattle.cluster.specs.Columns.{cell, column}
-use Rattle.sizing.specs.Model.{mateCells}
-use Rattle.cluster.proofs.Columns.{column-none, column-next, column-end}
+use Rattle.sums.specs.ModelSums.{is}
+use Rattle.sets.specs.ModelBits.{maskOf}
+use Rattle.incidence.specs.ModelIncidence.{cell, column}
+use Rattle.sizing.specs.ModelSizing.{mateCells}
+use Rattle.incidence.proofs.Columns.{column-none, column-next, column-end}
 use Rattle.sizing.proofs.mates.Statement.{statement}
 use Rattle.sizing.proofs.mates.Tie as tie
 

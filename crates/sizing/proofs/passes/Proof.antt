@@ -2,9 +2,8 @@
 -- Assumes nothing.
 use borrow.Author.Needs.{needs}
 use native.Mathlib.Omega.{arith}
-use mathlib.Core.Path.{_∙_}
 use Rattle.cluster.specs.Terms.{topology}
-use Rattle.cluster.specs.Faults.{Accepted}
+use Rattle.cluster.specs.TermsReading.{Accepted}
 use Rattle.cluster.proofs.Accepting.{accepted}
 use Rattle.sizing.proofs.Arrays.{partitions-few, zones-long, zones-most, caps-long, caps-most, arrays-fit}
 use Rattle.sizing.proofs.passes.Statement.{statement}

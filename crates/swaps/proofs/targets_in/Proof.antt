@@ -1,6 +1,6 @@
 -- `swaps::targets_in` meets its contract. Assumes nothing.
 use mathlib.Core.Path.{sym, _∙_}
-use Rattle.sets.specs.Bits.{meetOf}
+use Rattle.sets.specs.ModelBits.{meetOf}
 use Rattle.sets.proofs.Laws.{meet-lt}
 use Rattle.swaps.proofs.Steps.{two-members, one-member, targets-spare, targets-crowded, targets-few, gone-is, near-is}
 use borrow.Author.Needs.{needs}

@@ -2,7 +2,7 @@
 -- The measure is the number of nodes that are left. Assumes nothing.
 use Prim.Native.Nat.{ℕ, _+_, _-_, _^_, _≤_, _<_}
 use mathlib.Core.Path.{_≡_, sym, refl, ap, ap₂, _∙_}
-use Rattle.sets.specs.Bits.{countOf}
+use Rattle.sets.specs.ModelBits.{countOf}
 use Rattle.sets.proofs.Laws.{difference-lt, count-le}
 use Rattle.swaps.specs.ModelSwaps.{restOf, coverOf, coveredOf, coverIn, coveredIn}
 use Rattle.swaps.proofs.Steps.{fuel, cover-more, cover-done, covered-more, covered-done, rest-count, rest-is, nodes-are}

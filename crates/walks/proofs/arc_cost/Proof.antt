@@ -6,8 +6,8 @@ use lib.Dec.{ltb}
 use mathlib.Core.Bool.{true}
 use mathlib.Core.Path.{_≡_, ap}
 use Prim.Native.Nat.{ℕ}
-use Rattle.sets.specs.Bits.{bit}
-use Rattle.exchange.specs.Circuit.{cost}
+use Rattle.sets.specs.ModelBits.{bit}
+use Rattle.exchange.specs.ModelCircuit.{cost}
 use Rattle.walks.proofs.arc_cost.Statement.{statement}
 use Rattle.walks.proofs.arc_cost.Tie as tie
 

@@ -3,8 +3,8 @@ use borrow.Author.Needs.{needs}
 use native.Mathlib.Omega.{arith}
 use Rattle.cycles.proofs.Firsts.{first-hit, first-miss, first-end}
 use Rattle.walks.specs.ModelWalks.{okOf, walkIn}
-use Rattle.exchange.specs.Uncross.{partner, first}
-use Rattle.exchange.specs.Levels.{firstFrom}
+use Rattle.exchange.specs.ModelUncross.{partner, first}
+use Rattle.exchange.specs.ModelLevels.{firstFrom}
 use borrow.Author.Tests.{lt-ltb, le-ltb}
 use lib.Dec.{ltb}
 use native.Mathlib.Nat.{sub-zero}

@@ -3,8 +3,8 @@ use borrow.Author.Needs.{needs}
 use native.Mathlib.Omega.{arith}
 use Rattle.cycles.proofs.Firsts.{first-hit, first-miss, first-end}
 use Rattle.walks.specs.ModelWalks.{okOf, walkIn}
-use Rattle.exchange.specs.Uncross.{crosses, partner}
-use Rattle.exchange.specs.Levels.{firstFrom}
+use Rattle.exchange.specs.ModelUncross.{crosses, partner}
+use Rattle.exchange.specs.ModelLevels.{firstFrom}
 use lib.ListN.{getD}
 use native.Mathlib.Numerals.{add-one}
 use mathlib.Core.Bool.{Bool}

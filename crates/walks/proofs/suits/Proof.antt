@@ -1,15 +1,12 @@
 -- `walks::suits` meets its contract. Assumes nothing.
 use borrow.Author.Needs.{needs}
 use native.Mathlib.Omega.{arith}
-use borrow.Author.Tests.{not-true, not-false}
-use Rattle.sets.specs.Bits.{bit}
-use borrow.Author.Tests.{ne-eqb, eq-eqb}
-use mathlib.Core.Path.{_≡_}
+use borrow.Author.Tests.{not-true, not-false, ne-eqb, eq-eqb}
+use Rattle.sets.specs.ModelBits.{bit, memberOf}
+use mathlib.Core.Path.{_≡_, sym, ap, _∙_}
 use Prim.Native.Nat.{ℕ, _+_}
 use Rattle.walks.specs.ModelWalks.{suitsOf}
-use Rattle.sets.specs.Bits.{memberOf}
 use mathlib.Core.Bool.{true, false}
-use mathlib.Core.Path.{sym, ap, _∙_}
 use Rattle.walks.proofs.suits.Statement.{statement}
 use Rattle.walks.proofs.suits.Tie as tie
 

@@ -4,7 +4,7 @@ use native.Mathlib.Omega.{arith}
 use Rattle.cycles.proofs.Firsts.{first-hit, first-miss, first-end}
 use Rattle.walks.proofs.Steps.{suits-at}
 use Rattle.walks.specs.ModelWalks.{suitsAt, witnessOf}
-use Rattle.exchange.specs.Levels.{firstFrom}
+use Rattle.exchange.specs.ModelLevels.{firstFrom}
 use native.Mathlib.Nat.{sub-zero}
 use mathlib.Core.Bool.{Bool}
 use mathlib.Core.Path.{_≡_, sym, ap₂, _∙_}

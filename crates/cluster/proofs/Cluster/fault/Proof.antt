@@ -1,7 +1,6 @@
 use borrow.Author.Needs.{needs}
-use mathlib.Core.Path.{sym, _∙_}
 use borrow.Author.Tests.{lt-ltb, le-ltb}
-use Rattle.cluster.specs.Faults.{faultOf}
+use Rattle.cluster.specs.Terms.{faultOf}
 use Rattle.cluster.proofs.Cluster.fault.Statement.{statement}
 use Rattle.cluster.proofs.Cluster.fault.Tie as tie
 use Rattle.cluster.proofs.Cluster.fault.Reads as reads

@@ -1,7 +1,6 @@
 use borrow.Author.Needs.{needs}
-use native.Mathlib.Omega.{arith}
 use borrow.Author.Tests.{lt-ltb, le-ltb, eq-eqb, ne-eqb}
-use Rattle.cluster.specs.Faults.{outOfRange}
+use Rattle.cluster.specs.Terms.{outOfRange}
 use Rattle.cluster.proofs.faults.out_of_range.Statement.{statement}
 use Rattle.cluster.proofs.faults.out_of_range.Tie as tie
 use Rattle.cluster.proofs.faults.out_of_range.Reads as reads

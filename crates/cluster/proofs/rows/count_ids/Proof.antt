@@ -7,9 +7,8 @@ use mathlib.Core.Path.{_≡_, refl, sym, ap, _∙_}
 use mathlib.Core.List.{List, []}
 use lib.ListN.{take, drop, getD}
 use Rattle.cells.proofs.Cells.{rest-none}
-use Rattle.cluster.specs.Limits.{rowCells}
-use Rattle.cluster.specs.RowScan.{idCount}
-use Rattle.cluster.specs.TermsCells.{blank}
+use Rattle.cluster.specs.Terms.{rowCells, blank}
+use Rattle.cluster.specs.ModelRows.{idCount}
 use Rattle.cluster.proofs.RowScans.{scan, scan-start, scan-blank, scan-zero, scan-falls, scan-rises}
 use Rattle.cluster.proofs.rows.count_ids.Statement.{statement}
 use Rattle.cluster.proofs.rows.count_ids.Tie as tie

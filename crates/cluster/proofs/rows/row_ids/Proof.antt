@@ -2,11 +2,10 @@
 -- Assumes nothing.
 use borrow.Author.Needs.{needs}
 use Prim.Native.Nat.{ℕ}
-use mathlib.Core.Path.{_≡_, sym, ap, ap₂, _∙_}
-use mathlib.Core.Bool.{Bool}
-use Rattle.sums.specs.Sum.{pick}
-use Rattle.cluster.specs.TermsCells.{rowAt}
-use Rattle.cluster.specs.RowScan.{illFormed, idCount, rowIds}
+use mathlib.Core.Path.{sym, ap, ap₂}
+use mathlib.Core.Bool.{Bool, cond}
+use Rattle.cluster.specs.Terms.{rowAt}
+use Rattle.cluster.specs.ModelRows.{illFormed, idCount, rowIds}
 use Rattle.cluster.proofs.RowScans.{row-out, row-short, row-whole}
 use Rattle.cluster.proofs.rows.row_ids.Statement.{statement}
 use Rattle.cluster.proofs.rows.row_ids.Tie as tie
@@ -15,7 +14,7 @@ returns : tie.Need-returns
 unfolding rowIds
 returns c =
     let a = c .before .before .args in
-    sym (ap (λ (t : Bool). pick t (idCount (rowAt (a .cells .now) (a .partition))) illFormed) (row-out (a .cells .now) (a .partition) (search needs)))
+    sym (ap (λ (t : Bool). cond t (idCount (rowAt (a .cells .now) (a .partition))) illFormed) (row-out (a .cells .now) (a .partition) (search needs)))
 
 mul-from : tie.Need-mul-from
 mul-from c = search needs
@@ -27,7 +26,7 @@ returns-2 : tie.Need-returns-2
 unfolding rowIds
 returns-2 c =
     let a = c .before .before .before .args in
-    sym (ap (λ (t : Bool). pick t (idCount (rowAt (a .cells .now) (a .partition))) illFormed) (row-short (a .cells .now) (a .partition) (search needs)))
+    sym (ap (λ (t : Bool). cond t (idCount (rowAt (a .cells .now) (a .partition))) illFormed) (row-short (a .cells .now) (a .partition) (search needs)))
 
 count-ids-requires : tie.Need-count-ids-requires
 count-ids-requires c κs = search needs
@@ -37,7 +36,7 @@ unfolding rowIds
 returns-3 c =
     let a = c .before .before .before .before .args in
     sym
-    (ap₂ (λ (t : Bool) (n : ℕ). pick t n illFormed) (row-whole (a .cells .now) (a .partition) (search needs) (search needs)) (sym (c .count-ids .ensures)))
+    (ap₂ (λ (t : Bool) (n : ℕ). cond t n illFormed) (row-whole (a .cells .now) (a .partition) (search needs) (search needs)) (sym (c .count-ids .ensures)))
 
 pub row-ids-spec : {M : Type 1} → statement M
 row-ids-spec = tie.close (tie.spec returns mul-from add-if2 returns-2 count-ids-requires returns-3)

@@ -6,9 +6,8 @@ use Prim.Native.Nat.{ℕ, _+_, _-_, _*_}
 use mathlib.Core.Path.{_≡_, sym, ap, ap₂, _∙_}
 use mathlib.Core.Bool.{Bool, _&&_}
 use lib.ListN.{take, drop}
-use Rattle.cluster.specs.Limits.{rowCells}
-use Rattle.cluster.specs.TermsCells.{rowAt, blank}
-use Rattle.cluster.specs.RowScan.{rowIsBlank}
+use Rattle.cluster.specs.Terms.{rowCells, rowAt, blank}
+use Rattle.cluster.specs.ModelRows.{rowIsBlank}
 use Rattle.cluster.proofs.RowScans.{row-out, row-short, row-whole}
 use Rattle.cluster.proofs.rows.row_is_blank.Statement.{statement}
 use Rattle.cluster.proofs.rows.row_is_blank.Tie as tie

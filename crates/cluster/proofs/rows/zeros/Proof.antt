@@ -1,13 +1,12 @@
 -- `cluster::rows::zeros` meets its contract. The loop's invariant: the cells are blank exactly where those that are still before the scan are.
 -- Assumes nothing.
 use borrow.Author.Needs.{needs}
-use native.Mathlib.Omega.{arith}
 use Prim.Native.Nat.{ℕ, _≤_, _-_}
 use mathlib.Core.Path.{_≡_, refl, sym, ap, _∙_}
 use mathlib.Core.List.{List}
 use lib.ListN.{take, drop, length}
 use Rattle.cells.proofs.Cells.{rest-none}
-use Rattle.cluster.specs.TermsCells.{blank}
+use Rattle.cluster.specs.Terms.{blank}
 use Rattle.cluster.proofs.RowScans.{id-not-blank, zero-blank}
 use Rattle.cluster.proofs.rows.zeros.Statement.{statement}
 use Rattle.cluster.proofs.rows.zeros.Tie as tie

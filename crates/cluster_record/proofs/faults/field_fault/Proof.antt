@@ -9,7 +9,6 @@ use Rattle.cluster.specs.Terms.{topology}
 use Rattle.cluster_record.proofs.FieldFaults.{bits-fault, replication-fault, redundancy-fault, node-fault, row-fault}
 use borrow.Author.Needs.{needs}
 use native.Mathlib.Omega.{arith}
-use borrow.Author.Needs.{needs}
 use Rattle.cluster_record.proofs.faults.field_fault.Statement.{statement}
 use Rattle.cluster_record.proofs.faults.field_fault.Tie as tie
 use Rattle.cluster_record.proofs.faults.field_fault.Reads as reads

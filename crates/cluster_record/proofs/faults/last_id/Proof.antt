@@ -6,7 +6,6 @@ use Rattle.cells.proofs.Cells.{length-of-map}
 use Rattle.cluster_record.proofs.Items.{last-used, last-none}
 use borrow.Author.Needs.{needs}
 use native.Mathlib.Omega.{arith}
-use borrow.Author.Needs.{needs}
 use Rattle.cluster_record.proofs.faults.last_id.Statement.{statement}
 use Rattle.cluster_record.proofs.faults.last_id.Tie as tie
 use Rattle.cluster_record.proofs.faults.last_id.Reads as reads

@@ -1,8 +1,6 @@
 -- `cluster_record::faults::node_fault` meets its contract: the tests stand in the order of the faults.
 -- Assumes nothing.
 use borrow.Author.Tests.{eq-eqb, ne-eqb, le-leb, lt-leb}
-use borrow.Author.Needs.{needs}
-use native.Mathlib.Omega.{arith}
 use Rattle.cluster_record.proofs.faults.node_fault.Statement.{statement}
 use Rattle.cluster_record.proofs.faults.node_fault.Tie as tie
 use Rattle.cluster_record.proofs.faults.node_fault.Reads as reads

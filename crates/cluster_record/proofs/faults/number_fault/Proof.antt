@@ -1,8 +1,6 @@
 -- `cluster_record::faults::number_fault` meets its contract.
 -- Assumes nothing.
 use borrow.Author.Tests.{lt-ltb, le-ltb}
-use borrow.Author.Needs.{needs}
-use native.Mathlib.Omega.{arith}
 use Rattle.cluster_record.proofs.faults.number_fault.Statement.{statement}
 use Rattle.cluster_record.proofs.faults.number_fault.Tie as tie
 use Rattle.cluster_record.proofs.faults.number_fault.Reads as reads

@@ -7,7 +7,6 @@ use Rattle.cluster.specs.Terms.{mem}
 use Rattle.cluster_record.specs.RecordClusterFaults.{idsAt}
 use Rattle.cluster_record.proofs.Items.{zero-found, zero-passed, ids-none}
 use borrow.Author.Needs.{needs}
-use native.Mathlib.Omega.{arith}
 use Rattle.cluster_record.proofs.row_faults.has_zero.Statement.{statement}
 use Rattle.cluster_record.proofs.row_faults.has_zero.Tie as tie
 use Rattle.cluster_record.proofs.row_faults.has_zero.Reads as reads

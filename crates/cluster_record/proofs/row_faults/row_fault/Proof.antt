@@ -1,13 +1,12 @@
 -- `cluster_record::row_faults::row_fault` meets its contract: the tests stand in the order of the faults, both of range before both of order.
 -- Assumes nothing.
 use Prim.Native.Nat.{_^_, _≤_, _<_}
-use mathlib.Core.Path.{_≡_, sym, _∙_}
+use mathlib.Core.Path.{sym, _∙_}
 use borrow.Author.Tests.{le-leb, lt-leb, lt-ltb, le-ltb}
 use Rattle.fields.specs.RecordField.{numberAt}
 use Rattle.cluster_record.proofs.FieldFaults.{shift-one}
 use borrow.Author.Needs.{needs}
 use native.Mathlib.Omega.{arith}
-use borrow.Author.Needs.{needs}
 use Rattle.cluster_record.proofs.row_faults.row_fault.Statement.{statement}
 use Rattle.cluster_record.proofs.row_faults.row_fault.Tie as tie
 use Rattle.cluster_record.proofs.row_faults.row_fault.Reads as reads

@@ -1,18 +1,17 @@
 -- `cluster_record::taking::cluster_with` meets its contract: each tag puts its values where they belong.
 -- Assumes nothing.
 use Prim.Native.Nat.{ℕ, _+_, _≤_, _<_}
-use mathlib.Core.Path.{_≡_, sym, ap, _∙_}
+use mathlib.Core.Path.{sym, ap, _∙_}
 use lib.ListN.{length}
-use Rattle.cluster.specs.Limits.{mostNodes}
+use Rattle.cluster.specs.Terms.{mostNodes}
 use Rattle.cluster.specs.declared.Node.{Node}
 use Rattle.cluster_record.specs.RecordClusterFaults.{Item, BitsOf, ReplicationOf, RedundancyOf, OneNode, withItem}
-use Rattle.cluster_record.specs.RecordClusterAnswer.{slotsOf}
+use Rattle.cluster.specs.TermsReading.{slotsOf}
 use Rattle.cluster_record.proofs.Items.{item-bits, item-replication, item-redundancy, item-node, item-row}
 use Rattle.cluster_record.proofs.FieldFaults.{node-read}
 use Rattle.cluster_record.proofs.Slots.{slots-bits, slots-replication, slots-redundancy, slots-node}
 use borrow.Author.Needs.{needs}
 use native.Mathlib.Omega.{arith}
-use borrow.Author.Needs.{needs}
 use Rattle.cluster_record.proofs.taking.cluster_with.Statement.{statement}
 use Rattle.cluster_record.proofs.taking.cluster_with.Tie as tie
 use Rattle.cluster_record.proofs.taking.cluster_with.Reads as reads

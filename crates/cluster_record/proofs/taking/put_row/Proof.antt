@@ -1,12 +1,12 @@
 -- `cluster_record::taking::put_row` meets its contract. The loop's invariant: the first ids are written.
 -- Assumes nothing.
 use Prim.Native.Nat.{ℕ, _≤_, _+_, _-_, _*_}
-use mathlib.Core.Path.{_≡_, refl, sym, ap, ap₂, _∙_}
+use mathlib.Core.Path.{_≡_, ap, ap₂, _∙_}
 use mathlib.Core.List.{List}
 use lib.ListN.{length, set}
-use Rattle.cells.specs.Cells.{put}
+use Rattle.cells.specs.ModelCells.{put}
 use Rattle.cells.proofs.Cells.{put-none, put-more}
-use Rattle.cluster.specs.Limits.{rowCells}
+use Rattle.cluster.specs.Terms.{rowCells}
 use Rattle.fields.specs.RecordField.{numberAt}
 use borrow.Author.Needs.{needs}
 use native.Mathlib.Omega.{arith}

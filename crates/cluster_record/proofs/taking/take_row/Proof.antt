@@ -1,17 +1,14 @@
 -- `cluster_record::taking::take_row` meets its contract.
 -- Assumes nothing.
-use Prim.Native.Nat.{ℕ, _+_, _≤_, _<_}
+use Prim.Native.Nat.{_+_, _≤_, _<_}
 use mathlib.Core.Path.{_≡_, sym, ap, _∙_}
 use lib.ListN.{length}
-use Rattle.cluster.specs.Limits.{bufferRows, layoutCells}
-use Rattle.cluster.specs.Terms.{Layout}
-use Rattle.cluster.specs.TermsCells.{cellsOf}
+use Rattle.cluster.specs.Terms.{bufferRows, layoutCells, Layout, cellsOf}
 use Rattle.fields.specs.RecordField.{numberAt}
 use Rattle.cluster_record.proofs.Items.{former-kept}
 use Rattle.cluster_record.proofs.Rows.{taken-row}
 use borrow.Author.Needs.{needs}
 use native.Mathlib.Omega.{arith}
-use borrow.Author.Needs.{needs}
 use Rattle.cluster_record.proofs.taking.take_row.Statement.{statement}
 use Rattle.cluster_record.proofs.taking.take_row.Tie as tie
 use Rattle.cluster_record.proofs.taking.take_row.Reads as reads

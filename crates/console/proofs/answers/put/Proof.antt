@@ -2,12 +2,11 @@
 -- Assumes nothing.
 use borrow.Author.Needs.{needs}
 use native.Mathlib.Omega.{arith}
-use native.Mathlib.Numerals.{add-one}
 use Prim.Native.Nat.{ℕ, _≤_, _-_}
 use mathlib.Core.Path.{_≡_, sym, ap, _∙_}
 use mathlib.Core.List.{List, _++_}
 use lib.ListN.{length, drop, getD, set}
-use Rattle.cells.specs.Cells.{tab}
+use Rattle.sums.specs.TermsSums.{tab}
 use Rattle.cells.proofs.Cells.{tab-none, tab-more, tab-getD}
 use Rattle.console.proofs.Answered.{answered-short, answered-long}
 use Rattle.console.proofs.answers.put.Statement.{statement}

@@ -1,7 +1,6 @@
 -- `console::check::dezghuri_check` meets its contract.
 -- Assumes nothing.
 use borrow.Author.Needs.{needs}
-use native.Mathlib.Omega.{arith}
 use mathlib.Core.Path.{_∙_}
 use Rattle.console.proofs.CheckAnswers.{check-short, check-long}
 use Rattle.console.proofs.check.dezghuri_check.Statement.{statement}

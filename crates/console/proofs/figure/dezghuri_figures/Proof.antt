@@ -1,7 +1,6 @@
 -- `console::figure::dezghuri_figures` meets its contract.
 -- Assumes nothing.
 use borrow.Author.Needs.{needs}
-use native.Mathlib.Omega.{arith}
 use mathlib.Core.Path.{_∙_}
 use Rattle.console.proofs.CheckAnswers.{figures-short, figures-long}
 use Rattle.console.proofs.figure.dezghuri_figures.Statement.{statement}

@@ -1,7 +1,7 @@
 -- `console::plan::verdict` meets its contract.
 -- Assumes nothing.
 use mathlib.Core.Path.{sym, ap}
-use Rattle.sums.specs.Sum.{one-if}
+use Rattle.sums.specs.TermsSums.{one-if}
 use Rattle.console.proofs.plan.verdict.Statement.{statement}
 use Rattle.console.proofs.plan.verdict.Tie as tie
 

@@ -1,8 +1,8 @@
 use borrow.Author.Needs.{needs}
 use native.Mathlib.Omega.{arith}
-use Prim.Native.Nat.{ℕ, _≤_, _-_, _*_}
-use mathlib.Core.Path.{_≡_, refl, sym, ap, _∙_}
-use Rattle.sums.specs.Sum.{sumTo}
+use Prim.Native.Nat.{_≤_, _-_, _*_}
+use mathlib.Core.Path.{_≡_, refl}
+use Rattle.sums.specs.TermsSums.{sumTo}
 use Rattle.improve.specs.ModelImprove.{agreementIn}
 use Rattle.improve.proofs.Steps.{agreement-more, few-shared}
 use Rattle.improve.proofs.sum.agreement_of.Statement.{statement}

@@ -1,9 +1,8 @@
 -- `layout_record::head::halted` meets its contract.
 -- Assumes nothing.
 use borrow.Author.Needs.{needs}
-use native.Mathlib.Omega.{arith}
-use mathlib.Core.Path.{_≡_, refl, sym, ap, ap₂, _∙_, subst}
-use Rattle.layout_record.specs.ReadingParts.{haltedBy}
+use mathlib.Core.Path.{sym, ap}
+use Rattle.layout_record.specs.ModelReading.{haltedBy}
 use Rattle.layout_record.proofs.head.halted.Statement.{statement}
 use Rattle.layout_record.proofs.head.halted.Tie as tie
 

@@ -1,15 +1,10 @@
 -- `layout_record::head::next_field` meets its contract.
 -- Assumes nothing.
 use borrow.Author.Needs.{needs}
-use native.Mathlib.Omega.{arith}
-use mathlib.Core.Path.{_≡_, refl, sym, ap, ap₂, _∙_, subst}
-use Prim.Native.Nat.{ℕ, zero, suc, _+_, _-_, _*_, _^_, _≤_, _<_}
+use mathlib.Core.Path.{sym, ap, _∙_, subst}
+use Prim.Native.Nat.{ℕ, _-_}
 use lib.ListN.{length}
-use Rattle.sets.specs.Bits.{withOf}
 use Rattle.fields.specs.RecordField.{fieldAt, Within}
-use Rattle.layout_record.proofs.NumberFields.{next-missing, next-there}
-use Rattle.layout_record.proofs.NumberFields.{next-missing, next-there}
-use Rattle.layout_record.proofs.NumberFields.{next-missing, next-there}
 use Rattle.layout_record.proofs.NumberFields.{next-missing, next-there}
 use Rattle.layout_record.proofs.head.next_field.Statement.{statement}
 use Rattle.layout_record.proofs.head.next_field.Tie as tie

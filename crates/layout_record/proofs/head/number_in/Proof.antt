@@ -2,14 +2,11 @@
 -- Assumes nothing.
 use borrow.Author.Needs.{needs}
 use native.Mathlib.Omega.{arith}
-use mathlib.Core.Path.{_≡_, refl, sym, ap, ap₂, _∙_, subst}
-use Prim.Native.Nat.{ℕ, zero, suc, _+_, _-_, _*_, _^_, _≤_, _<_}
+use mathlib.Core.Path.{subst}
+use Prim.Native.Nat.{_-_}
 use lib.ListN.{length}
-use Rattle.sets.specs.Bits.{withOf}
+use Rattle.sets.specs.ModelBits.{withOf}
 use Rattle.fields.specs.RecordField.{Whole, Within}
-use Rattle.layout_record.proofs.NumberFields.{narrow, number-stopped, number-low, number-high, number-read}
-use Rattle.layout_record.proofs.NumberFields.{narrow, number-stopped, number-low, number-high, number-read}
-use Rattle.layout_record.proofs.NumberFields.{narrow, number-stopped, number-low, number-high, number-read}
 use Rattle.layout_record.proofs.NumberFields.{narrow, number-stopped, number-low, number-high, number-read}
 use Rattle.layout_record.proofs.head.number_in.Statement.{statement}
 use Rattle.layout_record.proofs.head.number_in.Tie as tie

@@ -1,19 +1,15 @@
 -- `layout_record::head::read_head` meets its contract: each field is read from the byte after the one before it.
 -- Assumes nothing.
 use borrow.Author.Needs.{needs}
-use native.Mathlib.Omega.{arith}
-use Prim.Native.Nat.{ℕ, zero, suc, _+_, _-_, _*_, _^_, _≤_, _<_}
-use mathlib.Core.Path.{_≡_, refl, sym, ap, ap₂, _∙_, subst}
-use mathlib.Core.Logic.{_⊎_, inl, inr}
-use Rattle.cluster.specs.Limits.{mostBits, mostCopies}
+use Prim.Native.Nat.{_-_}
+use mathlib.Core.Path.{_≡_, refl, sym, ap, _∙_}
+use mathlib.Core.Logic.{inl, inr}
+use Rattle.cluster.specs.Terms.{mostBits, mostCopies}
 use Rattle.fields.specs.RecordField.{ruleOf}
 use Rattle.layout_record.specs.declared.head.Number.the-variants.{Value}
 use Rattle.layout_record.specs.RecordLayout.{mostSize, mostDistance, mostVerdict, mostImprovements}
 use Rattle.layout_record.specs.RecordLayoutFaults.{numberIn}
-use Rattle.layout_record.specs.ReadingParts.{haltedBy}
-use Rattle.layout_record.proofs.NumberFields.{stop-1, stop-2, stop-3, stop-4, stop-5, stop-6, head-read}
-use Rattle.layout_record.proofs.NumberFields.{stop-1, stop-2, stop-3, stop-4, stop-5, stop-6, head-read}
-use Rattle.layout_record.proofs.NumberFields.{stop-1, stop-2, stop-3, stop-4, stop-5, stop-6, head-read}
+use Rattle.layout_record.specs.ModelReading.{haltedBy}
 use Rattle.layout_record.proofs.NumberFields.{stop-1, stop-2, stop-3, stop-4, stop-5, stop-6, head-read}
 use Rattle.layout_record.proofs.head.read_head.Statement.{statement}
 use Rattle.layout_record.proofs.head.read_head.Tie as tie

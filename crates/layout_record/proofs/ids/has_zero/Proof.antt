@@ -7,7 +7,6 @@ use Rattle.cluster.specs.Terms.{mem}
 use Rattle.layout_record.specs.RecordLayoutFaults.{idsAt}
 use Rattle.layout_record.proofs.IdBytes.{zero-found, zero-passed, ids-none}
 use borrow.Author.Needs.{needs}
-use native.Mathlib.Omega.{arith}
 use Rattle.layout_record.proofs.ids.has_zero.Statement.{statement}
 use Rattle.layout_record.proofs.ids.has_zero.Tie as tie
 

@@ -1,9 +1,7 @@
 -- `layout_record::range::in_range` meets its contract.
 -- Assumes nothing.
-use borrow.Author.Needs.{needs}
 use native.Mathlib.Omega.{arith}
-use Prim.Native.Nat.{ℕ, zero, suc, _+_, _-_, _*_, _^_, _≤_, _<_}
-use mathlib.Core.Path.{_≡_, refl, sym, ap, ap₂, _∙_, subst}
+use Prim.Native.Nat.{_-_}
 use borrow.Author.Tests.{le-leb, lt-leb}
 use Rattle.layout_record.specs.RecordLayoutFaults.{numbersFit}
 use Rattle.layout_record.proofs.range.in_range.Statement.{statement}

@@ -2,12 +2,9 @@
 -- Assumes nothing.
 use borrow.Author.Needs.{needs}
 use native.Mathlib.Omega.{arith}
-use Prim.Native.Nat.{ℕ, zero, suc, _+_, _-_, _*_, _^_, _≤_, _<_}
-use mathlib.Core.Path.{_≡_, refl, sym, ap, ap₂, _∙_, subst}
+use Prim.Native.Nat.{ℕ, _+_, _-_, _*_, _≤_}
+use mathlib.Core.Path.{ap}
 use Rattle.layout_record.specs.RecordLayout.{recordLength}
-use Rattle.layout_record.proofs.RowFaults.{few-partitions, few-bytes}
-use Rattle.layout_record.proofs.RowFaults.{few-partitions, few-bytes}
-use Rattle.layout_record.proofs.RowFaults.{few-partitions, few-bytes}
 use Rattle.layout_record.proofs.RowFaults.{few-partitions, few-bytes}
 use Rattle.layout_record.proofs.range.record_length.Statement.{statement}
 use Rattle.layout_record.proofs.range.record_length.Tie as tie

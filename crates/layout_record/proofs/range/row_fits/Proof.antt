@@ -2,12 +2,9 @@
 -- Assumes nothing.
 use borrow.Author.Needs.{needs}
 use native.Mathlib.Omega.{arith}
-use Prim.Native.Nat.{ℕ, zero, suc, _+_, _-_, _*_, _^_, _≤_, _<_}
-use mathlib.Core.Path.{_≡_, refl, sym, ap, ap₂, _∙_, subst}
+use Prim.Native.Nat.{ℕ, _-_}
+use mathlib.Core.Path.{ap, _∙_}
 use lib.Dec.{eqb}
-use Rattle.layout_record.proofs.RowFaults.{fits-ids, fits-blank}
-use Rattle.layout_record.proofs.RowFaults.{fits-ids, fits-blank}
-use Rattle.layout_record.proofs.RowFaults.{fits-ids, fits-blank}
 use Rattle.layout_record.proofs.RowFaults.{fits-ids, fits-blank}
 use Rattle.layout_record.proofs.range.row_fits.Statement.{statement}
 use Rattle.layout_record.proofs.range.row_fits.Tie as tie

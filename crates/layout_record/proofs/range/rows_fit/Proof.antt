@@ -2,19 +2,14 @@
 -- Assumes nothing.
 use borrow.Author.Needs.{needs}
 use native.Mathlib.Omega.{arith}
-use Prim.Native.Nat.{ℕ, zero, suc, _+_, _-_, _*_, _^_, _≤_, _<_}
-use mathlib.Core.Path.{_≡_, refl, sym, ap, ap₂, _∙_, subst}
+use Prim.Native.Nat.{ℕ, _-_, _≤_}
+use mathlib.Core.Path.{_≡_, refl, sym, ap, _∙_}
 use mathlib.Core.Bool.{true}
 use borrow.Author.Tests.{not-true, not-false}
-use Rattle.layout_record.specs.RecordLayoutFaults.{everyTo, rowFits, rowsFit}
-use Rattle.layout_record.proofs.RowFaults.{every-more, every-fails}
-use Rattle.cluster.specs.Limits.{bufferRows}
-use Rattle.layout_record.proofs.RowFaults.{every-more, every-fails}
-use Rattle.cluster.specs.Limits.{bufferRows}
-use Rattle.layout_record.proofs.RowFaults.{every-more, every-fails}
-use Rattle.cluster.specs.Limits.{bufferRows}
-use Rattle.layout_record.proofs.RowFaults.{every-more, every-fails}
-use Rattle.cluster.specs.Limits.{bufferRows}
+use Rattle.sums.specs.TermsSums.{everyTo}
+use Rattle.layout_record.specs.RecordLayoutFaults.{rowFits, rowsFit}
+use Rattle.sums.proofs.Tests.{every-more, every-fails}
+use Rattle.cluster.specs.Terms.{bufferRows}
 use Rattle.layout_record.proofs.range.rows_fit.Statement.{statement}
 use Rattle.layout_record.proofs.range.rows_fit.Tie as tie
 

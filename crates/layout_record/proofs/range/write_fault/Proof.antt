@@ -2,16 +2,12 @@
 -- Assumes nothing.
 use borrow.Author.Needs.{needs}
 use native.Mathlib.Omega.{arith}
-use Prim.Native.Nat.{ℕ, zero, suc, _+_, _-_, _*_, _^_, _≤_, _<_}
-use mathlib.Core.Path.{_≡_, refl, sym, ap, ap₂, _∙_, subst}
-use lib.ListN.{length}
+use Prim.Native.Nat.{ℕ, _-_, _^_}
+use mathlib.Core.Path.{_≡_, sym, ap, _∙_}
 use mathlib.Core.Bool.{true}
 use borrow.Author.Tests.{not-true, not-false}
-use Rattle.cluster.specs.Limits.{layoutCells}
-use Rattle.layout_record.specs.RecordLayout.{InRange, recordLength}
+use Rattle.layout_record.specs.RecordLayout.{InRange}
 use Rattle.layout_record.specs.RecordLayoutFaults.{numbersFit, rowsFit}
-use Rattle.layout_record.proofs.RowFaults.{fit-range, write-cells, write-numbers, write-rows, write-room, write-none}
-use Rattle.layout_record.proofs.RowFaults.{fit-range, write-cells, write-numbers, write-rows, write-room, write-none}
 use Rattle.layout_record.proofs.RowFaults.{fit-range, write-cells, write-numbers, write-rows, write-room, write-none}
 use Rattle.layout_record.proofs.range.write_fault.Statement.{statement}
 use Rattle.layout_record.proofs.range.write_fault.Tie as tie

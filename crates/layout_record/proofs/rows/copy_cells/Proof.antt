@@ -1,10 +1,10 @@
 -- `layout_record::rows::copy_cells` meets its contract. The loop's invariant: the first cells are copied, the others are as lent.
 -- Assumes nothing.
 use Prim.Native.Nat.{ℕ, _≤_, _-_}
-use mathlib.Core.Path.{_≡_, sym, ap, _∙_}
+use mathlib.Core.Path.{_≡_, ap, _∙_}
 use mathlib.Core.List.{List, _++_}
 use lib.ListN.{length, drop, getD, set}
-use Rattle.cells.specs.Cells.{tab}
+use Rattle.sums.specs.TermsSums.{tab}
 use Rattle.cells.proofs.Cells.{tab-none, tab-more, tab-getD}
 use borrow.Author.Needs.{needs}
 use native.Mathlib.Omega.{arith}

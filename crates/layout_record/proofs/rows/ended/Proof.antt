@@ -1,16 +1,12 @@
 -- `layout_record::rows::ended` meets its contract.
 -- Assumes nothing.
 use borrow.Author.Needs.{needs}
-use native.Mathlib.Omega.{arith}
-use mathlib.Core.Path.{_≡_, refl, sym, ap, ap₂, _∙_, subst}
-use Prim.Native.Nat.{ℕ, zero, suc, _+_, _-_, _*_, _^_, _≤_, _<_}
+use mathlib.Core.Path.{sym, ap, ap₂, _∙_}
+use Prim.Native.Nat.{ℕ, _-_}
 use Rattle.cluster.specs.Terms.{Layout}
-use Rattle.fields.specs.RecordField.{fieldAt, refusalOf, placeOf}
-use Rattle.layout_record.specs.RecordLayoutFaults.{refusedAt, endIn}
+use Rattle.fields.specs.RecordField.{refusalOf, placeOf}
+use Rattle.layout_record.specs.RecordLayoutFaults.{refusedAt}
 use Rattle.layout_record.specs.RecordLayoutAnswer.{answerOf}
-use Rattle.layout_record.proofs.RowFaults.{end-whole, end-more}
-use Rattle.layout_record.proofs.RowFaults.{end-whole, end-more}
-use Rattle.layout_record.proofs.RowFaults.{end-whole, end-more}
 use Rattle.layout_record.proofs.RowFaults.{end-whole, end-more}
 use Rattle.layout_record.proofs.rows.ended.Statement.{statement}
 use Rattle.layout_record.proofs.rows.ended.Tie as tie

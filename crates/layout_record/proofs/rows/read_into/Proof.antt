@@ -2,15 +2,14 @@
 -- Assumes nothing.
 use borrow.Author.Needs.{needs}
 use native.Mathlib.Omega.{arith}
-use Prim.Native.Nat.{ℕ, zero, suc, _+_, _-_, _*_, _^_, _≤_, _<_}
-use mathlib.Core.Path.{_≡_, refl, sym, ap, ap₂, _∙_, subst}
-use mathlib.Core.List.{[]}
-use Rattle.cluster.specs.TermsCells.{cellsOf}
+use Prim.Native.Nat.{ℕ, _-_}
+use mathlib.Core.Path.{_≡_, sym, ap, ap₂, _∙_}
+use Rattle.cluster.specs.Terms.{cellsOf}
 use Rattle.fields.specs.RecordField.{Bytes}
 use Rattle.layout_record.specs.declared.ReadLayout.{ReadLayout}
 use Rattle.layout_record.specs.declared.head.Head.the-variants.{Read}
 use Rattle.layout_record.specs.RecordLayoutFaults.{Outcome, refusedAt, headIn}
-use Rattle.layout_record.specs.ReadingParts.{haltOf, haltAt}
+use Rattle.layout_record.specs.ModelReading.{haltOf, haltAt}
 use Rattle.layout_record.specs.RecordLayoutAnswer.{answerOf}
 use Rattle.layout_record.proofs.CellsMore.{cells-none}
 use Rattle.layout_record.proofs.HeadExact.{head-refused, head-back}

@@ -2,24 +2,19 @@
 -- Assumes nothing.
 use borrow.Author.Needs.{needs}
 use native.Mathlib.Omega.{arith}
-use Prim.Native.Nat.{ℕ, zero, suc, _+_, _-_, _*_, _^_, _≤_, _<_}
+use Prim.Native.Nat.{ℕ, _+_, _-_, _*_, _^_, _≤_}
 use mathlib.Core.Path.{_≡_, refl, sym, ap, ap₂, _∙_, subst}
-use mathlib.Core.List.{List, [], _∷_, _++_}
+use mathlib.Core.List.{[], _∷_, _++_}
 use native.Mathlib.Nat.{sub-zero}
 use lib.ListN.{length}
-use Rattle.sets.specs.Bits.{withOf}
-use Rattle.cluster.specs.Limits.{rowCells, bufferRows, layoutCells}
-use Rattle.cluster.specs.Terms.{Layout}
-use Rattle.cluster.specs.TermsCells.{cellsOf}
+use Rattle.sets.specs.ModelBits.{withOf}
+use Rattle.cluster.specs.Terms.{bufferRows, layoutCells, Layout, cellsOf}
 use Rattle.cluster.proofs.CellLayouts.{length-cellsOf}
 use Rattle.layout_record.proofs.CellsMore.{length-more}
 use Rattle.fields.specs.RecordField.{numberAt, Whole, Within, refusalOf, placeOf}
 use Rattle.layout_record.specs.declared.ReadLayout.{ReadLayout}
 use Rattle.layout_record.specs.RecordLayoutFaults.{Outcome, refusedAt, idsAt, rowFault, rowsFrom}
 use Rattle.layout_record.specs.RecordLayoutAnswer.{answerOf}
-use Rattle.layout_record.proofs.FieldFaults.{next-refused}
-use Rattle.layout_record.proofs.RowFaults.{few-partitions}
-use Rattle.layout_record.proofs.RowSteps.{rows-stop, rows-fault, rows-on, rows-done, end-layout, cells-next}
 use Rattle.layout_record.proofs.FieldFaults.{next-refused}
 use Rattle.layout_record.proofs.RowFaults.{few-partitions}
 use Rattle.layout_record.proofs.RowSteps.{rows-stop, rows-fault, rows-on, rows-done, end-layout, cells-next}

@@ -2,14 +2,10 @@
 -- Assumes nothing.
 use borrow.Author.Needs.{needs}
 use native.Mathlib.Omega.{arith}
-use Prim.Native.Nat.{ℕ, zero, suc, _+_, _-_, _*_, _^_, _≤_, _<_}
-use mathlib.Core.Path.{_≡_, refl, sym, ap, ap₂, _∙_, subst}
-use lib.ListN.{length}
+use Prim.Native.Nat.{_+_, _-_}
+use mathlib.Core.Path.{refl, _∙_}
 use Rattle.fields.specs.RecordField.{bytesOf}
 use Rattle.fields.proofs.Numbers.{length-bytes}
-use Rattle.layout_record.proofs.Puts.{put-next}
-use Rattle.layout_record.proofs.Puts.{put-next}
-use Rattle.layout_record.proofs.Puts.{put-next}
 use Rattle.layout_record.proofs.Puts.{put-next}
 use Rattle.layout_record.proofs.write.put_head.Statement.{statement}
 use Rattle.layout_record.proofs.write.put_head.Tie as tie

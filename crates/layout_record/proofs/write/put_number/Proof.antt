@@ -2,12 +2,9 @@
 -- Assumes nothing.
 use borrow.Author.Needs.{needs}
 use native.Mathlib.Omega.{arith}
-use Prim.Native.Nat.{ℕ, zero, suc, _+_, _-_, _*_, _^_, _≤_, _<_}
-use mathlib.Core.Path.{_≡_, refl, sym, ap, ap₂, _∙_, subst}
+use Prim.Native.Nat.{_-_}
+use mathlib.Core.Path.{_≡_}
 use mathlib.Core.Logic.{⊎-elim}
-use Rattle.layout_record.proofs.Puts.{put-value}
-use Rattle.layout_record.proofs.Puts.{put-value}
-use Rattle.layout_record.proofs.Puts.{put-value}
 use Rattle.layout_record.proofs.Puts.{put-value}
 use Rattle.layout_record.proofs.write.put_number.Statement.{statement}
 use Rattle.layout_record.proofs.write.put_number.Tie as tie

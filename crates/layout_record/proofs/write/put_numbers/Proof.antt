@@ -2,12 +2,9 @@
 -- Assumes nothing.
 use borrow.Author.Needs.{needs}
 use native.Mathlib.Omega.{arith}
-use Prim.Native.Nat.{ℕ, zero, suc, _+_, _-_, _*_, _^_, _≤_, _<_}
-use mathlib.Core.Path.{_≡_, refl, sym, ap, ap₂, _∙_, subst}
-use mathlib.Core.Logic.{_⊎_, inl, inr}
-use Rattle.layout_record.proofs.Puts.{put-six}
-use Rattle.layout_record.proofs.Puts.{put-six}
-use Rattle.layout_record.proofs.Puts.{put-six}
+use Prim.Native.Nat.{_-_}
+use mathlib.Core.Path.{refl}
+use mathlib.Core.Logic.{inl, inr}
 use Rattle.layout_record.proofs.Puts.{put-six}
 use Rattle.layout_record.proofs.write.put_numbers.Statement.{statement}
 use Rattle.layout_record.proofs.write.put_numbers.Tie as tie

@@ -2,10 +2,10 @@
 -- Assumes nothing.
 use borrow.Author.Needs.{needs}
 use native.Mathlib.Omega.{arith}
-use Prim.Native.Nat.{ℕ, zero, suc, _+_, _-_, _*_, _^_, _≤_, _<_}
-use mathlib.Core.Path.{_≡_, refl, sym, ap, ap₂, _∙_, subst}
+use Prim.Native.Nat.{ℕ, _-_}
+use mathlib.Core.Path.{ap, _∙_}
 use lib.ListN.{length}
-use Rattle.cluster.specs.TermsCells.{rowsIn}
+use Rattle.cluster.specs.Terms.{rowsIn}
 use Rattle.fields.specs.RecordField.{over}
 use Rattle.fields.proofs.Written.{length-written}
 use Rattle.layout_record.specs.RecordLayout.{numberFields, layoutRecord, InRange}

@@ -2,9 +2,7 @@
 -- Assumes nothing.
 use borrow.Author.Needs.{needs}
 use native.Mathlib.Omega.{arith}
-use Prim.Native.Nat.{ℕ, zero, suc, _+_, _-_, _*_, _^_, _≤_, _<_}
-use mathlib.Core.Path.{_≡_, refl, sym, ap, ap₂, _∙_, subst}
-use Rattle.layout_record.proofs.PutRows.{put-cells}
+use Prim.Native.Nat.{_-_}
 use Rattle.layout_record.proofs.PutRows.{put-cells}
 use Rattle.layout_record.proofs.write.put_row.Statement.{statement}
 use Rattle.layout_record.proofs.write.put_row.Tie as tie

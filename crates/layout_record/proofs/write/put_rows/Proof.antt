@@ -2,17 +2,14 @@
 -- Assumes nothing.
 use borrow.Author.Needs.{needs}
 use native.Mathlib.Omega.{arith}
-use Prim.Native.Nat.{ℕ, zero, suc, _+_, _-_, _*_, _^_, _≤_, _<_}
-use mathlib.Core.Path.{_≡_, refl, sym, ap, ap₂, _∙_, subst}
+use Prim.Native.Nat.{ℕ, _+_, _-_, _*_, _≤_}
+use mathlib.Core.Path.{_≡_, ap, _∙_}
 use native.Mathlib.Nat.{zero-mul}
 use lib.ListN.{length}
-use Rattle.cells.specs.Cells.{tab}
-use Rattle.cluster.specs.TermsCells.{rowsIn}
+use Rattle.sums.specs.TermsSums.{tab}
+use Rattle.cluster.specs.Terms.{rowsIn}
 use Rattle.fields.specs.RecordField.{written}
 use Rattle.layout_record.specs.RecordLayout.{rowFields}
-use Rattle.layout_record.proofs.Puts.{written-none}
-use Rattle.layout_record.proofs.RecordLaws.{row-ends}
-use Rattle.layout_record.proofs.PutRows.{next-at, put-row-next}
 use Rattle.layout_record.proofs.Puts.{written-none}
 use Rattle.layout_record.proofs.RecordLaws.{row-ends}
 use Rattle.layout_record.proofs.PutRows.{next-at, put-row-next}

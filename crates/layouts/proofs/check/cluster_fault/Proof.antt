@@ -1,8 +1,6 @@
 -- `layouts::check::cluster_fault` meets its contract.
 -- Assumes nothing.
 use borrow.Author.Needs.{needs}
-use native.Mathlib.Omega.{arith}
-use mathlib.Core.Path.{_≡_}
 use borrow.Author.Tests.{lt-ltb, le-ltb, eq-eqb, ne-eqb}
 use Rattle.layouts.specs.TermsCheck.{clusterFault}
 use Rattle.layouts.proofs.check.cluster_fault.Statement.{statement}

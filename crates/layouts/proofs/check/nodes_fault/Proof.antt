@@ -8,8 +8,7 @@ use mathlib.Core.List.{List}
 use native.Mathlib.Nat.{mul-le-mul-right}
 use lib.ListN.{length, getD}
 use Rattle.cells.proofs.Cells.{length-of-map}
-use Rattle.cluster.specs.Terms.{Topology, topology, partitions, noNode, nodeAt}
-use Rattle.cluster.specs.TermsCells.{rowsIn}
+use Rattle.cluster.specs.Terms.{Topology, topology, partitions, noNode, nodeAt, rowsIn}
 use Rattle.cluster.specs.declared.Node.{Node}
 use Rattle.cluster.proofs.Slots.{node-slot}
 use Rattle.cluster.proofs.Accepting.{accepted, few-nodes, nodes-count}

@@ -1,12 +1,10 @@
 -- `layouts::check::rows_fault` meets its contract. The loop's invariant: the first fault is the first of those from p on.
 -- Assumes nothing.
 use borrow.Author.Needs.{needs}
-use native.Mathlib.Omega.{arith}
 use Prim.Native.Nat.{ℕ, _≤_, _-_}
 use mathlib.Core.Path.{_≡_, refl, sym, ap, _∙_}
 use mathlib.Core.List.{List}
-use Rattle.cluster.specs.Terms.{Topology, topology}
-use Rattle.cluster.specs.Limits.{bufferRows}
+use Rattle.cluster.specs.Terms.{Topology, topology, bufferRows}
 use Rattle.layouts.specs.declared.check.Checked.{Checked}
 use Rattle.layouts.specs.TermsCheck.{fault, firstFrom, rowFault, rowsFault}
 use Rattle.layouts.proofs.FaultScan.{scan-fault, scan-on, scan-end}

@@ -2,12 +2,11 @@
 -- Assumes nothing.
 use borrow.Author.Needs.{needs}
 use native.Mathlib.Omega.{arith}
-use Prim.Native.Nat.{ℕ, _≤_, _-_}
-use mathlib.Core.Path.{_≡_, refl, sym, ap, _∙_}
+use Prim.Native.Nat.{_≤_, _-_}
+use mathlib.Core.Path.{_≡_, sym, ap, _∙_}
 use lib.ListN.{length}
-use Rattle.cluster.specs.Limits.{bufferRows}
-use Rattle.cluster.specs.Terms.{topology, partitions}
-use Rattle.layouts.specs.Scans.{copiesSoFar}
+use Rattle.cluster.specs.Terms.{bufferRows, topology, partitions}
+use Rattle.layouts.specs.ModelScans.{copiesSoFar}
 use Rattle.cluster.proofs.Accepting.{accepted}
 use Rattle.layouts.proofs.FaultMeaning.{each-formed}
 use Rattle.layouts.proofs.CopyWalk.{length-so-far, so-far-none}

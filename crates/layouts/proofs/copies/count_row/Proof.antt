@@ -8,14 +8,13 @@ use mathlib.Core.List.{List, _++_}
 use mathlib.Core.Logic.{⊎-elim}
 use native.Mathlib.Nat.{add-zero}
 use lib.ListN.{length, drop, getD}
-use Rattle.cells.specs.Cells.{tab}
-use Rattle.sets.specs.Bits.{bit}
+use Rattle.sums.specs.TermsSums.{tab}
 use Rattle.sets.proofs.Laws.{member-true, member-false}
 use Rattle.cluster.specs.Terms.{topology}
 use Rattle.cluster.proofs.Accepting.{accepted}
 use Rattle.cluster.proofs.RowScans.{row-of-buffer}
 use Rattle.masks.proofs.Laws.{mask-bits}
-use Rattle.layouts.specs.Scans.{rowNodes, copiesSoFar}
+use Rattle.layouts.specs.ModelScans.{rowNodes}
 use Rattle.layouts.proofs.CopyWalk.{unwritten, oneMore, count-turn, count-end, length-so-far, so-far-few}
 use Rattle.layouts.proofs.copies.count_row.Statement.{statement}
 use Rattle.layouts.proofs.copies.count_row.Tie as tie

@@ -5,9 +5,7 @@ use native.Mathlib.Omega.{arith}
 use Prim.Native.Nat.{ℕ, _≤_}
 use mathlib.Core.Path.{_≡_, sym, ap, _∙_}
 use lib.ListN.{length}
-use Rattle.cluster.specs.Limits.{layoutCells}
-use Rattle.cluster.specs.Terms.{topology}
-use Rattle.cluster.specs.Faults.{faultOf}
+use Rattle.cluster.specs.Terms.{layoutCells, topology, faultOf}
 use Rattle.layouts.specs.declared.check.Checked.{Checked}
 use Rattle.layouts.specs.declared.figures.Figured.{Figured}
 use Rattle.layouts.specs.TermsCheck.{fault, rowsFault}

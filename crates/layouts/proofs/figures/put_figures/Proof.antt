@@ -6,11 +6,11 @@ use Prim.Native.Nat.{ℕ}
 use mathlib.Core.Path.{ap, _∙_}
 use mathlib.Core.List.{List}
 use lib.ListN.{length, getD}
-use Rattle.cells.specs.Cells.{put}
+use Rattle.cells.specs.ModelCells.{put}
 use Rattle.cells.proofs.Cells.{length-put}
 use Rattle.cluster.specs.Terms.{topology, partitions}
 use Rattle.cluster.proofs.Accepting.{accepted, few-nodes}
-use Rattle.layouts.specs.Scans.{zoneSum}
+use Rattle.layouts.specs.ModelScans.{zoneSum}
 use Rattle.layouts.proofs.Sound.{few-rows}
 use Rattle.layouts.proofs.CopyWalk.{so-far-few}
 use Rattle.layouts.proofs.FigureWalk.{all-figures}

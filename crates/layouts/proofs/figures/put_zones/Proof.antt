@@ -6,10 +6,10 @@ use Prim.Native.Nat.{ℕ, _≤_, _+_, _-_}
 use mathlib.Core.Path.{_≡_, ap, ap₂, _∙_}
 use mathlib.Core.List.{List}
 use lib.ListN.{length, set}
-use Rattle.cells.specs.Cells.{put}
+use Rattle.cells.specs.ModelCells.{put}
 use Rattle.cells.proofs.Cells.{put-none, put-more}
 use Rattle.cluster.specs.Terms.{topology}
-use Rattle.layouts.specs.Scans.{zoneSum}
+use Rattle.layouts.specs.ModelScans.{zoneSum}
 use Rattle.layouts.proofs.figures.put_zones.Statement.{statement}
 use Rattle.layouts.proofs.figures.put_zones.Tie as tie
 

@@ -5,7 +5,7 @@ use native.Mathlib.Omega.{arith}
 use Prim.Native.Nat.{ℕ, _≤_, _-_, _*_}
 use mathlib.Core.Path.{_≡_, refl, sym, ap, _∙_}
 use lib.ListN.{length, getD}
-use Rattle.sums.specs.Sum.{sumTo}
+use Rattle.sums.specs.TermsSums.{sumTo}
 use Rattle.cells.proofs.Cells.{length-of-map}
 use Rattle.cluster.specs.Terms.{topology, noNode, nodeAt}
 use Rattle.cluster.specs.declared.Node.{Node}

@@ -2,18 +2,17 @@
 -- Assumes nothing.
 use borrow.Author.Needs.{needs}
 use native.Mathlib.Omega.{arith}
-use Prim.Native.Nat.{ℕ, _≤_, _<_}
+use Prim.Native.Nat.{ℕ, _<_}
 use mathlib.Core.Path.{_≡_, sym, ap, ap₂, _∙_}
 use mathlib.Core.List.{List}
-use Rattle.sets.specs.Bits.{countOf}
-use Rattle.cluster.specs.Limits.{bufferRows}
-use Rattle.cluster.specs.Terms.{topology, partitions}
-use Rattle.cluster.specs.Faults.{Accepted}
-use Rattle.cluster.specs.RowScan.{rowIds}
-use Rattle.cluster.specs.Columns.{zoneCells}
+use Rattle.sets.specs.ModelBits.{countOf}
+use Rattle.cluster.specs.Terms.{bufferRows, topology}
+use Rattle.cluster.specs.TermsReading.{Accepted}
+use Rattle.cluster.specs.ModelRows.{rowIds}
+use Rattle.incidence.specs.ModelIncidence.{zoneCells}
 use Rattle.cluster.proofs.Accepting.{accepted}
-use Rattle.masks.specs.Model.{rowMask}
-use Rattle.layouts.specs.Scans.{zonesIn}
+use Rattle.masks.specs.ModelMasks.{rowMask}
+use Rattle.layouts.specs.ModelScans.{zonesIn}
 use Rattle.layouts.proofs.Sound.{few-rows}
 use Rattle.layouts.proofs.RowFaults.{fault-ids, fault-nodes, fault-zones, fault-none}
 use Rattle.layouts.proofs.rows.own_row_fault.Statement.{statement}

@@ -2,11 +2,9 @@
 -- Assumes nothing.
 use borrow.Author.Needs.{needs}
 use native.Mathlib.Omega.{arith}
-use Prim.Native.Nat.{ℕ, _≤_}
 use mathlib.Core.Path.{_≡_, sym, ap, _∙_}
-use mathlib.Core.Bool.{Bool}
-use Rattle.sums.specs.Sum.{pick}
-use Rattle.cluster.specs.Terms.{topology, partitions}
+use mathlib.Core.Bool.{Bool, cond}
+use Rattle.cluster.specs.Terms.{topology}
 use Rattle.cluster.proofs.Accepting.{accepted}
 use Rattle.layouts.specs.TermsCheck.{rowFault}
 use Rattle.layouts.proofs.RowFaults.{fault-beyond}
@@ -28,17 +26,17 @@ row-is-blank-requires c κs = search needs
 -- The fault of a row from P on.
 beyond : (c : tie.After-row-is-blank)
     → rowFault (topology (c .before .before .before .before .args .c)) (c .before .before .before .before .args .cells .now) (c .before .before .before .before .args .p)
-    ≡ pick (c .row-is-blank .result) 0 10
+    ≡ cond (c .row-is-blank .result) 0 10
 beyond c =
     let s = c .before .before .before .before in
     fault-beyond (topology (s .args .c)) (s .args .cells .now) (s .args .p) (accepted (s .args .c) (s .pre .0)) (s .pre .3) (s .pre .2) (omega arith)
-    ∙ ap (λ (b : Bool). pick b 0 10) (sym (c .row-is-blank .ensures))
+    ∙ ap (λ (b : Bool). cond b 0 10) (sym (c .row-is-blank .ensures))
 
 returns-2 : tie.Need-returns-2
-returns-2 c = sym (beyond (c .before) ∙ ap (λ (b : Bool). pick b 0 10) (c .if2 .taken))
+returns-2 c = sym (beyond (c .before) ∙ ap (λ (b : Bool). cond b 0 10) (c .if2 .taken))
 
 returns-3 : tie.Need-returns-3
-returns-3 c = sym (beyond (c .before) ∙ ap (λ (b : Bool). pick b 0 10) (c .if2 .left))
+returns-3 c = sym (beyond (c .before) ∙ ap (λ (b : Bool). cond b 0 10) (c .if2 .left))
 
 pub row-fault-spec : {M : Type 1} → statement M
 row-fault-spec =

@@ -3,11 +3,11 @@
 use borrow.Author.Needs.{needs}
 use native.Mathlib.Omega.{arith}
 use Prim.Native.Nat.{ℕ, _≤_, _-_}
-use mathlib.Core.Path.{_≡_, refl, sym, ap, _∙_}
+use mathlib.Core.Path.{_≡_, sym, ap, _∙_}
 use mathlib.Core.Logic.{⊎-elim}
 use lib.ListN.{getD}
-use Rattle.sets.specs.Bits.{withOf}
-use Rattle.layouts.specs.Scans.{zonesIn}
+use Rattle.sets.specs.ModelBits.{withOf}
+use Rattle.layouts.specs.ModelScans.{zonesIn}
 use Rattle.layouts.proofs.RowWalks.{zonesTo, zones-none, zones-put, zones-pass}
 use Rattle.layouts.proofs.rows.zones_in.Statement.{statement}
 use Rattle.layouts.proofs.rows.zones_in.Tie as tie

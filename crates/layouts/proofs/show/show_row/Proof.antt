@@ -6,7 +6,7 @@ use borrow.Author.Tests.{lt-ltb, le-ltb, le-leb, lt-leb}
 use Prim.Native.Nat.{_+_, _-_, _*_}
 use mathlib.Core.Path.{_≡_, refl}
 use lib.ListN.{length}
-use Rattle.cluster.specs.Limits.{rowCells, bufferRows, layoutCells}
+use Rattle.cluster.specs.Terms.{rowCells, bufferRows, layoutCells}
 use Rattle.layouts.specs.TermsShow.{shown, showCode, showByte}
 use Rattle.layouts.proofs.show.show_row.Statement.{statement}
 use Rattle.layouts.proofs.show.show_row.Tie as tie

@@ -1,7 +1,6 @@
 -- `plan::print::row` ends and is safe.
 -- Assumes nothing.
 use borrow.Author.Needs.{needs}
-use native.Mathlib.Omega.{arith}
 use Prim.Native.Nat.{_≤_, _-_}
 use lib.ListN.{length}
 use Rattle.plan.proofs.print.row.Statement.{statement}

@@ -1,12 +1,9 @@
 use borrow.Author.Needs.{needs}
 use native.Mathlib.Omega.{arith}
 use mathlib.Core.Path.{_≡_, sym, ap, _∙_}
-use mathlib.Core.Bool.{Bool}
-use lib.ListN.{length}
-use Rattle.cluster.specs.Terms.{topology, partitions}
-use Rattle.cluster.specs.Faults.{faultOf}
+use Rattle.cluster.specs.Terms.{topology, partitions, faultOf}
 use Rattle.cluster.proofs.Accepting.{accepted}
-use Rattle.masks.specs.Model.{rowsFormed}
+use Rattle.masks.specs.ModelMasks.{rowsFormed}
 use Rattle.planner.proofs.Refusals.{short-former, short-assignment, short-scratch, faulty, usable, ill-formed}
 use Rattle.planner.proofs.refuse.unusable.Statement.{statement}
 use Rattle.planner.proofs.refuse.unusable.Tie as tie

@@ -7,8 +7,8 @@ use lib.ListN.{length}
 use Rattle.cells.proofs.Cells.{length-of-map}
 use Rattle.cluster.specs.Terms.{topology}
 use Rattle.cluster.proofs.Accepting.{accepted, few-nodes, nodes-count}
-use Rattle.sizing.specs.Model.{nodesOf}
-use Rattle.improve.specs.Run.{Ran}
+use Rattle.sizing.specs.ModelSizing.{nodesOf}
+use Rattle.improve.specs.ModelRun.{Ran}
 use Rattle.planner.proofs.Settling.{run-is}
 use Rattle.planner.proofs.settle.improved.Statement.{statement}
 use Rattle.planner.proofs.settle.improved.Tie as tie
@@ -19,7 +19,7 @@ use Rattle.planner.proofs.refuse.partitions.Reads as partitions-reads
 use Rattle.sizing.proofs.caps.Reads as caps-reads
 use Rattle.sizing.proofs.deal.Reads as deal-reads
 use Rattle.sizing.proofs.mates.Reads as mates-reads
-use Rattle.cluster.proofs.zones.zones.Reads as zones-reads
+use Rattle.incidence.proofs.zones.zones.Reads as zones-reads
 
 long : (c : tie.Start) → length (c .args .c .nodes) ≡ 32
 long c = search length-of-map

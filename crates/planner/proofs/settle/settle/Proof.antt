@@ -1,6 +1,5 @@
 use borrow.Author.Needs.{needs}
-use native.Mathlib.Omega.{arith}
-use mathlib.Core.Path.{_≡_, sym, ap, _∙_}
+use mathlib.Core.Path.{_∙_}
 use Rattle.cluster.proofs.Accepting.{accepted}
 use Rattle.planner.proofs.Settling.{measurable, answer-is, cells-are}
 use Rattle.planner.proofs.settle.settle.Statement.{statement}

@@ -4,10 +4,10 @@ use borrow.Author.Needs.{needs}
 use native.Mathlib.Omega.{arith}
 use Prim.Native.Nat.{_-_, _≤_}
 use mathlib.Core.Path.{_≡_}
-use Rattle.sums.specs.Sum.{sumTo}
-use Rattle.dealing.specs.Deal.{pour, zoned}
-use Rattle.cluster.specs.Columns.{cell, column}
-use Rattle.cluster.proofs.Columns.{column-none, column-next, column-end}
+use Rattle.sums.specs.TermsSums.{sumTo}
+use Rattle.dealing.specs.ModelDeal.{pour, zoned}
+use Rattle.incidence.specs.ModelIncidence.{cell, column}
+use Rattle.incidence.proofs.Columns.{column-none, column-next, column-end}
 use Rattle.sizing.proofs.Pouring.{pour-here, pour-left}
 use Rattle.sizing.proofs.copies.first.Statement.{statement}
 use Rattle.sizing.proofs.copies.first.Tie as tie

@@ -2,7 +2,7 @@
 -- Assumes nothing.
 use borrow.Author.Needs.{needs}
 use native.Mathlib.Omega.{arith}
-use Rattle.dealing.specs.Deal.{zoned}
+use Rattle.dealing.specs.ModelDeal.{zoned}
 use Rattle.sizing.proofs.copies.zoned.Statement.{statement}
 use Rattle.sizing.proofs.copies.zoned.Tie as tie
 

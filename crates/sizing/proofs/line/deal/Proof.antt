@@ -5,12 +5,11 @@ use native.Mathlib.Omega.{arith}
 use Prim.Native.Nat.{ℕ, _-_, _≤_}
 use mathlib.Core.Path.{_≡_, ap, _∙_}
 use lib.ListN.{length}
-use Rattle.sets.specs.Bits.{maskOf}
-use Rattle.cells.specs.Cells.{put}
-use Rattle.cells.proofs.Cells.{put-none}
-use Rattle.cluster.specs.Columns.{cell}
-use Rattle.sizing.specs.Line.{reaches}
-use Rattle.cells.proofs.Cells.{put-next}
+use Rattle.sets.specs.ModelBits.{maskOf}
+use Rattle.cells.specs.ModelCells.{put}
+use Rattle.cells.proofs.Cells.{put-none, put-next}
+use Rattle.incidence.specs.ModelIncidence.{cell}
+use Rattle.sizing.specs.ModelLine.{reaches}
 use Rattle.sizing.proofs.line.deal.Statement.{statement}
 use Rattle.sizing.proofs.line.deal.Tie as tie
 

@@ -5,9 +5,9 @@ use native.Mathlib.Omega.{arith}
 use Prim.Native.Nat.{ℕ, _-_, _≤_}
 use mathlib.Core.Path.{_≡_, refl, ap, _∙_}
 use mathlib.Core.Logic.{⊎-elim}
-use Rattle.sets.specs.Bits.{maskOf}
-use Rattle.cluster.specs.Columns.{cell}
-use Rattle.sizing.specs.Line.{reaches}
+use Rattle.sets.specs.ModelBits.{maskOf}
+use Rattle.incidence.specs.ModelIncidence.{cell}
+use Rattle.sizing.specs.ModelLine.{reaches}
 use Rattle.sizing.proofs.Masks.{mask-here, mask-not-here}
 use Rattle.sizing.proofs.Lining.{reaches-some, reaches-none}
 use Rattle.sizing.proofs.line.row.Statement.{statement}

@@ -4,9 +4,9 @@ use borrow.Author.Needs.{needs}
 use native.Mathlib.Omega.{arith}
 use Prim.Native.Nat.{ℕ, _-_, _%_, _≤_}
 use mathlib.Core.Path.{_≡_, ap}
-use Rattle.dealing.specs.Deal.{start}
-use Rattle.cluster.specs.Columns.{cell, column}
-use Rattle.cluster.proofs.Columns.{column-none, column-next, column-end}
+use Rattle.dealing.specs.ModelDeal.{start}
+use Rattle.incidence.specs.ModelIncidence.{cell, column}
+use Rattle.incidence.proofs.Columns.{column-none, column-next, column-end}
 use Rattle.sizing.proofs.Adding.{zone-bound}
 use Rattle.sizing.proofs.Lining.{begins-bound, totals-most, start-cells}
 use Rattle.sizing.proofs.line.starts.Statement.{statement}

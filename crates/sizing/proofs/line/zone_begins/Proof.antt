@@ -4,7 +4,7 @@ use borrow.Author.Needs.{needs}
 use native.Mathlib.Omega.{arith}
 use Prim.Native.Nat.{_+_}
 use mathlib.Core.Path.{sym, ap₂, _∙_}
-use Rattle.cluster.specs.Columns.{cell}
+use Rattle.incidence.specs.ModelIncidence.{cell}
 use Rattle.sizing.proofs.Lining.{begins-light, begins-heavy, light-bound, heavy-bound}
 use Rattle.sizing.proofs.line.zone_begins.Statement.{statement}
 use Rattle.sizing.proofs.line.zone_begins.Tie as tie

@@ -6,8 +6,8 @@ use Prim.Native.Nat.{_-_, _≤_}
 use mathlib.Core.Path.{_≡_, sym, ap}
 use Rattle.cluster.specs.Terms.{topology, nodeAt}
 use Rattle.cluster.specs.declared.Node.{Node}
-use Rattle.cluster.specs.Columns.{column}
-use Rattle.cluster.proofs.Columns.{column-none, column-next, column-end}
+use Rattle.incidence.specs.ModelIncidence.{column}
+use Rattle.incidence.proofs.Columns.{column-none, column-next, column-end}
 use Rattle.cluster.proofs.Slots.{node-slot}
 use Rattle.sizing.proofs.nodes.capacities.Statement.{statement}
 use Rattle.sizing.proofs.nodes.capacities.Tie as tie

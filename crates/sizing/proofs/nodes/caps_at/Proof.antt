@@ -4,8 +4,8 @@ use borrow.Author.Needs.{needs}
 use native.Mathlib.Omega.{arith}
 use Prim.Native.Nat.{_/_, _-_, _^_, _≤_, min}
 use mathlib.Core.Path.{_≡_}
-use Rattle.cluster.specs.Columns.{cell, column}
-use Rattle.cluster.proofs.Columns.{column-none, column-next, column-end}
+use Rattle.incidence.specs.ModelIncidence.{cell, column}
+use Rattle.incidence.proofs.Columns.{column-none, column-next, column-end}
 use Rattle.sizing.proofs.nodes.caps_at.Statement.{statement}
 use Rattle.sizing.proofs.nodes.caps_at.Tie as tie
 

@@ -5,10 +5,10 @@ use native.Mathlib.Omega.{arith}
 use Prim.Native.Nat.{_-_, _≤_}
 use mathlib.Core.Path.{_≡_, refl, ap, _∙_}
 use mathlib.Core.Logic.{⊎-elim}
-use Rattle.sums.specs.Sum.{is}
+use Rattle.sums.specs.ModelSums.{is}
 use Rattle.sums.proofs.Sum.{is-eq, is-ne}
-use Rattle.sets.specs.Bits.{maskOf}
-use Rattle.cluster.specs.Columns.{cell}
+use Rattle.sets.specs.ModelBits.{maskOf}
+use Rattle.incidence.specs.ModelIncidence.{cell}
 use Rattle.sizing.proofs.Masks.{mask-here, mask-not-here}
 use Rattle.sizing.proofs.nodes.of_zone.Statement.{statement}
 use Rattle.sizing.proofs.nodes.of_zone.Tie as tie

@@ -5,9 +5,9 @@ use native.Mathlib.Omega.{arith}
 use Prim.Native.Nat.{_*_, _-_, _≤_}
 use mathlib.Core.Path.{_≡_, refl, ap, _∙_}
 use mathlib.Core.Logic.{⊎-elim}
-use Rattle.sums.specs.Sum.{sumTo}
-use Rattle.dealing.specs.Deal.{inZone}
-use Rattle.cluster.specs.Columns.{cell}
+use Rattle.sums.specs.TermsSums.{sumTo}
+use Rattle.dealing.specs.ModelDeal.{inZone}
+use Rattle.incidence.specs.ModelIncidence.{cell}
 use Rattle.sizing.proofs.Adding.{zone-here, zone-not-here}
 use Rattle.sizing.proofs.totals.in_zone.Statement.{statement}
 use Rattle.sizing.proofs.totals.in_zone.Tie as tie

@@ -4,8 +4,8 @@ use borrow.Author.Needs.{needs}
 use native.Mathlib.Omega.{arith}
 use Prim.Native.Nat.{ℕ, _*_, _-_, _≤_, min}
 use mathlib.Core.Path.{_≡_, refl, ap, _∙_}
-use Rattle.sums.specs.Sum.{sumTo}
-use Rattle.cluster.specs.Columns.{cell}
+use Rattle.sums.specs.TermsSums.{sumTo}
+use Rattle.incidence.specs.ModelIncidence.{cell}
 use Rattle.sizing.proofs.Adding.{sum-next}
 use Rattle.sizing.proofs.totals.total.Statement.{statement}
 use Rattle.sizing.proofs.totals.total.Tie as tie

@@ -5,10 +5,10 @@ use native.Mathlib.Omega.{arith}
 use Prim.Native.Nat.{ℕ, _-_, _≤_, _<_}
 use mathlib.Core.Path.{_≡_, ap, _∙_}
 use lib.ListN.{length}
-use Rattle.sums.specs.Sum.{sumTo}
-use Rattle.dealing.specs.Deal.{inZone}
-use Rattle.cluster.specs.Columns.{cell}
-use Rattle.cluster.proofs.Columns.{cell-blank, column-cells}
+use Rattle.sums.specs.TermsSums.{sumTo}
+use Rattle.dealing.specs.ModelDeal.{inZone}
+use Rattle.incidence.specs.ModelIncidence.{cell}
+use Rattle.incidence.proofs.Columns.{cell-blank, column-cells}
 use Rattle.sizing.proofs.Adding.{zone-bound, zones-next}
 use Rattle.sizing.proofs.totals.zone_totals.Statement.{statement}
 use Rattle.sizing.proofs.totals.zone_totals.Tie as tie

@@ -1,0 +1,61 @@
+-- What the parts of a search do: an offer of a distance to the members of a set, a look at the arcs of a node, a sweep over the nodes, the
+-- ways that grow by a level, and the trace back through the rows of all levels.
+-- Assumes nothing.
+use Prim.Native.Nat.{ℕ, zero, suc, _+_, _-_, _*_, _≤_, _<_}
+use mathlib.Core.Path.{_≡_}
+use mathlib.Core.Bool.{cond, _&&_}
+use mathlib.Core.List.{List}
+use lib.Dec.{ltb, eqb}
+use lib.ListN.{getD}
+use Rattle.sums.specs.TermsSums.{one-if}
+use Rattle.sets.specs.ModelBits.{bit, memberOf, withoutOf}
+use Rattle.exchange.specs.ModelLevels.{Fall, scan, firstFrom}
+use Rattle.cycles.specs.ModelGraph.{graphOf}
+
+-- The fall f of a node that stood at d is held in cells: its distance x, the node y it came from, where it fell, and its mark b.
+pub record Held (d : ℕ) (f : Fall) (x y b : ℕ) : Type 0 where
+  pub low : f .dist ≤ d
+  pub dist : x ≡ f .dist
+  pub from : f .dist < d → y ≡ f .from
+  pub mark : b ≡ one-if (ltb (f .dist) d)
+
+-- The fall f, after an offer of distance c from u, if b is 1.
+unfoldable pub offered : ℕ → ℕ → ℕ → Fall → Fall
+offered b c u f = cond (eqb b 1 && ltb c (f .dist)) (record { dist = c; from = u }) f
+
+-- The cells of each node that stood at top or below hold its fall after t, where they held one before.
+abbrev pub Turns : ℕ → (ℕ → Fall → Fall) → List ℕ → List ℕ → ℕ → List ℕ → List ℕ → ℕ → Type 0
+Turns top t next row fell next' row' fell' =
+    (v d : ℕ) (f : Fall) → v < 32 → d ≤ top → Held d f (getD next v 0) (getD row v 0) (bit fell v)
+    → Held d (t v f) (getD next' v 0) (getD row' v 0) (bit fell' v)
+
+-- The cells of each node below n hold its fall after a scan of the arcs from the members of a set, where nodes stand at d.
+abbrev pub Swept : List ℕ → ℕ → ℕ → List ℕ → List ℕ → List ℕ → ℕ → Type 0
+Swept arcs n mask d next row fell =
+    (v : ℕ) → v < n
+    → Held (getD d v 0) (scan (graphOf arcs n) (memberOf mask) (λ u. getD d u 0) v n) (getD next v 0) (getD row v 0) (bit fell v)
+
+-- One level down from level k: the scan of each node below n in next, in row k + 1 of the table, and in the set of the nodes that fell. The rows
+-- before it stay.
+pub record Descended (arcs : List ℕ) (n k mask : ℕ) (d next table₀ table : List ℕ) (fell : ℕ) : Type 0 where
+  pub swept : (v : ℕ) → v < n
+      → Held (getD d v 0) (scan (graphOf arcs n) (memberOf mask) (λ u. getD d u 0) v n) (getD next v 0) (getD table ((k + 1) * 32 + v) 0) (bit fell v)
+  pub kept : (i : ℕ) → i < (k + 1) * 32 → getD table i 0 ≡ getD table₀ i 0
+  pub nodes : (v : ℕ) → v < 32 → n ≤ v → bit fell v ≡ 0
+
+-- The way that v's way grows from: that of the node it came from, where it fell, else its own way but v.
+unfoldable pub before : ℕ → List ℕ → List ℕ → ℕ → ℕ
+before fell row way v = cond (memberOf fell v) (getD way (getD row v 0) 0) (withoutOf (getD way v 0) v)
+
+-- The first node that its way comes to again; n where there is none.
+unfoldable pub closer : ℕ → ℕ → List ℕ → List ℕ → ℕ
+closer n fell row way = firstFrom (λ v. memberOf (before fell row way v) v) n 0
+
+-- The node t steps back from v at level k, by a table with a row of 32 for each level.
+unfoldable pub trail : List ℕ → ℕ → ℕ → ℕ → ℕ
+trail table k v zero = v
+trail table k v (suc t) = getD table ((k - t) * 32 + trail table k v t) 0
+
+-- The first step back, from 1 on, that is at v again.
+unfoldable pub trailLength : List ℕ → ℕ → ℕ → ℕ
+trailLength table k v = firstFrom (λ t. eqb (trail table k v t) v) k 1

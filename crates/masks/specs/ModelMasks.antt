@@ -1,0 +1,57 @@
+-- Between rows of ids in lent cells and sets of nodes as masks: what each function of the crate yields. Nobody has to believe this file:
+-- the theorems of proofs/Laws.antt say what it achieves.
+-- Assumes nothing.
+use Prim.Native.Nat.{ℕ, _+_, _*_}
+use mathlib.Core.List.{List, [], _∷_, _++_}
+use mathlib.Core.Bool.{Bool, _&&_, cond}
+use lib.Dec.{ltb, leb}
+use lib.ListN.{length, take, drop, getD}
+use Rattle.sums.specs.TermsSums.{sumTo, everyTo, tab}
+use Rattle.sums.specs.ModelSums.{is}
+use Rattle.sets.specs.ModelBits.{bit}
+use Rattle.cluster.specs.Terms.{rowCells, bufferRows, layoutCells, Layout, rowAt, idsIn, cellsOf}
+use Rattle.cluster.specs.ModelRows.{illFormed, hasRow, rowIds}
+use Rattle.incidence.specs.ModelIncidence.{idsWhere}
+use Rattle.cluster.specs.declared.Node.{Node}
+
+-- ---- from cells to masks
+
+-- At a node, ids below its own are passed. Then its digit is 1 where the next id is its own, and `rest` has the digits of the later nodes.
+unfoldable pub namedAt : Node → (List ℕ → ℕ) → List ℕ → ℕ
+namedAt n rest [] = 0
+namedAt n rest (x ∷ xs) = cond (ltb x (n .id)) (namedAt n rest xs) (is x (n .id) + 2 * rest (x ∷ xs))
+
+-- The nodes that ids name, as a mask, by one walk over both. Where both rise these are all; ids that no node has are left out.
+unfoldable pub named : List Node → List ℕ → ℕ
+named [] r = 0
+named (n ∷ ns) r = namedAt n (λ s. named ns s) r
+
+-- The nodes that row p of the cells names; none where the row is not there whole.
+unfoldable pub rowMask : List Node → List ℕ → ℕ → ℕ
+rowMask ns cells p = cond (hasRow cells p) (named ns (idsIn (rowAt cells p))) 0
+
+-- The first n rows as masks in the first n cells of `masks`; `masks` itself where n is more than a buffer has rows or than `masks` has cells.
+unfoldable pub masksRead : List Node → List ℕ → ℕ → List ℕ → List ℕ
+masksRead ns cells n masks =
+    cond (leb n bufferRows && leb n (length masks)) (tab (λ p. rowMask ns cells p) n ++ drop n masks) masks
+
+-- ---- from masks to cells
+
+-- The layout whose row p has the ids of the nodes in mask p, in their order; a row has room for eight.
+unfoldable pub rowsWhere : List Node → List ℕ → ℕ → Layout
+rowsWhere ns masks n = tab (λ p. take rowCells (idsWhere ns (bit (getD masks p 0)))) n
+
+-- Its cells in the place of the first 2,048; the cells themselves where these are fewer, or n is more than a buffer has rows or than there are masks.
+unfoldable pub cellsWritten : List Node → List ℕ → ℕ → List ℕ → List ℕ
+cellsWritten ns masks n cells =
+    cond (leb n bufferRows && (leb n (length masks) && leb layoutCells (length cells))) (cellsOf (rowsWhere ns masks n) ++ drop layoutCells cells) cells
+
+-- ---- the rows of cells
+
+-- How many ids the first n rows have, each row that is ill formed or not there counted as nine; 0 where n is more than a buffer has rows.
+unfoldable pub idsTotal : List ℕ → ℕ → ℕ
+idsTotal cells n = cond (leb n bufferRows) (sumTo n (λ p. rowIds cells p)) 0
+
+-- Whether the first n rows are there, n at most as many as a buffer has, and each is rising ids followed by zeros.
+unfoldable pub rowsFormed : List ℕ → ℕ → Bool
+rowsFormed cells n = leb n bufferRows && everyTo n (λ p. ltb (rowIds cells p) illFormed)

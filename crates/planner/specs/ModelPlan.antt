@@ -1,0 +1,62 @@
+-- The run of planning over row masks: the graph of the rows, the cycle found in it, the exchanges of the cycle, until there is none or the
+-- allowance is spent. Nobody has to believe this file: the theorem of proofs/Demands.antt says in the paper's terms what it achieves.
+-- Assumes nothing.
+use Prim.Native.Nat.{ℕ, _+_, _-_, _*_}
+use mathlib.Core.Bool.{Bool}
+use mathlib.Core.List.{List, _++_}
+use lib.ListN.{getD, drop, replicate}
+use Rattle.sets.specs.ModelBits.{bit, maskOf}
+use Rattle.sums.specs.TermsSums.{tab}
+use Rattle.cluster.specs.Terms.{bufferRows, Topology, partitions, Layout}
+use Rattle.incidence.specs.ModelIncidence.{incidence, layoutOf, formerPairs, zoneCells}
+use Rattle.sizing.specs.ModelSizing.{nodesOf, mateCells, capCells, sizeOf, dealtRows}
+use Rattle.improve.specs.ModelRun.{Ran}
+use Rattle.improve.specs.ModelImprove.{improvesIn, nextIn, ranIn, agreementIn}
+use Rattle.planner.specs.Demand.{Answer}
+
+-- ---- the plan of a topology
+
+-- The rows as 0/1 rows of the theory.
+abbrev pub bitsAt : List ℕ → ℕ → ℕ → ℕ
+bitsAt rows p b = bit (getD rows p 0) b
+
+-- The nodes of each node's zone.
+abbrev pub matesOf : Topology → List ℕ
+matesOf t = mateCells (zoneCells t) (nodesOf t)
+
+-- The former rows, cut to the nodes of the cluster.
+unfoldable pub formerMasks : Topology → Layout → List ℕ
+formerMasks t F = tab (λ p. maskOf (incidence t F p) (nodesOf t)) (partitions t) ++ drop (partitions t) (replicate bufferRows 0)
+
+-- The rows of the beginning.
+unfoldable pub startRows : Topology → List ℕ
+startRows t = dealtRows t (sizeOf t) (replicate bufferRows 0)
+
+-- The layout that rows stand for.
+unfoldable pub layoutRows : Topology → List ℕ → Layout
+layoutRows t rows = layoutOf t (bitsAt rows)
+
+-- How far the layout of the rows is from the former one.
+unfoldable pub farRows : Topology → Layout → List ℕ → ℕ
+farRows t F rows =
+    t .replication * partitions t + formerPairs t F - 2 * agreementIn rows (formerMasks t F) (partitions t)
+
+abbrev pub improvesAt : Topology → Layout → List ℕ → Bool
+improvesAt t F = improvesIn (formerMasks t F) (partitions t) (matesOf t) (capCells t (sizeOf t)) (nodesOf t) (t .redundancy)
+
+abbrev pub nextAt : Topology → Layout → List ℕ → List ℕ
+nextAt t F = nextIn (formerMasks t F) (partitions t) (matesOf t) (capCells t (sizeOf t)) (nodesOf t) (t .redundancy)
+
+-- Where the run with an allowance ends, from the rows dealt at a size, `before` the former rows as masks.
+unfoldable pub ranFrom : Topology → ℕ → List ℕ → ℕ → Ran (List ℕ)
+ranFrom t s before a =
+    ranIn before (partitions t) (matesOf t) (capCells t s) (nodesOf t) (t .redundancy) a (dealtRows t s (replicate bufferRows 0))
+
+abbrev pub ranOf : Topology → Layout → ℕ → Ran (List ℕ)
+ranOf t F a = ranFrom t (sizeOf t) (formerMasks t F) a
+
+-- The answer of planning, of the nodes in use, the first P former rows and the allowance alone.
+unfoldable pub planOf : Topology → Layout → ℕ → Answer
+planOf t F a =
+    let r = ranOf t F a in
+    record { layout = layoutRows t (r .state); size = sizeOf t; distance = farRows t F (r .state); finished = r .finished; improvements = r .steps }
