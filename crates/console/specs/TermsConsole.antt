@@ -12,7 +12,7 @@ use Rattle.cluster.specs.declared.Node.{Node}
 use Rattle.cluster_record.specs.RecordClusterFaults.{readCluster}
 use Rattle.cluster_record.specs.RecordClusterAnswer.{answerOf, readAnswer, formerAfter}
 use Rattle.cluster_record.specs.declared.ReadCluster.{ReadCluster}
-use Rattle.layout_record.specs.RecordLayoutAnswer.{readAnswer as readLayoutOf, assignmentAfter, writeAnswer, outAfter}
+use Rattle.layout_record.specs.RecordLayoutAnswer.{readLayoutOf, assignmentRead, writeAnswer, outAfter}
 use Rattle.layout_record.specs.declared.Numbers.{Numbers}
 use Rattle.layout_record.specs.declared.ReadLayout.{ReadLayout}
 use Rattle.layouts.specs.TermsCheck.{fault, checkOf}
@@ -71,7 +71,7 @@ unfoldable pub readLayoutRefusal : List ℕ → List ℕ → List ℕ → ℕ
 readLayoutRefusal s assignment answer = unlessShort 8 answer 8 (readLayoutOf s assignment .refusal)
 
 unfoldable pub readLayoutAssignment : List ℕ → List ℕ → List ℕ → List ℕ
-readLayoutAssignment s assignment answer = unlessShort 8 answer assignment (assignmentAfter s assignment)
+readLayoutAssignment s assignment answer = unlessShort 8 answer assignment (assignmentRead s assignment)
 
 unfoldable pub readLayoutAnswer : List ℕ → List ℕ → List ℕ → List ℕ
 readLayoutAnswer s assignment answer = answered 8 (layoutNumbers (readLayoutOf s assignment)) answer
