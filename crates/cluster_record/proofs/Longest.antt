@@ -11,20 +11,19 @@ use lib.ListN.{length, take, drop, replicate, length-append, length-take}
 use lib.Seq.{take-take, take-all}
 use borrow.Author.Tests.{ltb-false}
 use Rattle.sums.proofs.Sum.{lt-or-ge}
-use Rattle.sets.specs.ModelBits.{memberOf}
 use Rattle.cluster.specs.declared.Node.{Node}
-use Rattle.cluster.specs.Terms.{mostCopies, layoutCells, cellsOf, Topology, Layout, row, rising, IsFormer}
+use Rattle.cluster.specs.Terms.{mostCopies, layoutCells, cellsOf, Topology, Layout, row, mem, rising, IsFormer}
 use Rattle.cluster.specs.TermsReading.{Accepted}
 use Rattle.sums.proofs.Tests.{true-or-false, neither}
 use Rattle.fields.specs.RecordField.{numberOf, bytesOf, part, numberAt, field, fieldAt, ruleOf, legalAs, Whole}
 use Rattle.fields.specs.declared.Field.the-variants.{Body}
 use Rattle.fields.proofs.Numbers.{length-bytes, number-there}
-use Rattle.fields.proofs.RecordField.{whole, length-field, lawful, legal-greatest, field-tag, field-length, field-whole}
+use Rattle.fields.proofs.RecordField.{whole, length-field, lawful, legal-greatest, field-tag, field-length, field-whole, refused-some}
 use Rattle.cluster_record.specs.RecordCluster.{bitsField, replicationField, redundancyField, nodeField, nodeFields, idBytes, rowField, rowFields, clusterRecord, longestRecord, decidingBytes}
 use Rattle.cluster_record.specs.RecordClusterFaults.{Item, BitsOf, ReplicationOf, RedundancyOf, OneNode, FormerRow, nodeIn, idsAt, itemIn, Reading, Outcome, beginning, allowedAfter, withItem, upTo, formerWith, readingWith, unordered, faultIn, refusedAt, walk, readCluster}
 use Rattle.cluster_record.specs.RecordClusterAnswer.{outcomeOf, answerOf, readAnswer, formerAfter}
 use Rattle.cluster_record.proofs.Items.{item-node, item-five, faults-none}
-use Rattle.cluster_record.proofs.FieldFaults.{few-partitions, refused-some}
+use Rattle.cluster_record.proofs.FieldFaults.{few-partitions}
 use Rattle.cluster_record.proofs.Rows.{length-next}
 use Rattle.cluster_record.proofs.Walks.{walk-refused, walk-fault, walk-on, walk-holds}
 use Rattle.cluster_record.proofs.Readings.{Kind, number-next, node-next, row-next, kind, tag-range, one-byte, ten-bytes, row-bytes, Well, well-beginning, well-step, rows-few}
@@ -177,7 +176,7 @@ module _ (s : List ℕ) (n : ℕ) where
   field-same : (at last : ℕ) → at + 37 ≤ n → at + 37 ≤ length s → fieldAt (take n s) at (allowedAfter last) 0 ≡ fieldAt s at (allowedAfter last) 0
   field-same at last h k =
       let u : List ℕ = take n s in
-      let allowed : ℕ = allowedAfter last in
+      let allowed : List ℕ = allowedAfter last in
       let tag : ℕ = numberAt s at 1 in
       let len : ℕ = numberAt s (at + 1) 2 in
       let a : numberAt u at 1 ≡ tag = number-same at 1 (omega arith) (omega arith) in
@@ -188,12 +187,12 @@ module _ (s : List ℕ) (n : ℕ) where
       ⊎-elim
       (λ t. ⊎-elim
       (λ l. let g : len ≤ 34 = omega (arith, legal-greatest tag len (lawful 0 tag len l), short-rule tag (tag-range last tag (kind last tag t) .0) (tag-range last tag (kind last tag t) .1)) in
-      field-whole u at allowed 0 hu (ap (memberOf allowed) a ∙ t) (ap₂ (legalAs 0) a b ∙ l) (omega arith)
+      field-whole u at allowed 0 hu (ap (λ (k : ℕ). mem k allowed) a ∙ t) (ap₂ (legalAs 0) a b ∙ l) (omega arith)
       ∙ (ap₂ (λ (x y : ℕ). Body x (at + 3) y) a b ∙ sym (field-whole s at allowed 0 hs t l (omega arith))))
-      (λ l. field-length u at allowed 0 hu (ap (memberOf allowed) a ∙ t) (ap₂ (legalAs 0) a b ∙ l) ∙ sym (field-length s at allowed 0 hs t l))
+      (λ l. field-length u at allowed 0 hu (ap (λ (k : ℕ). mem k allowed) a ∙ t) (ap₂ (legalAs 0) a b ∙ l) ∙ sym (field-length s at allowed 0 hs t l))
       (true-or-false (legalAs 0 tag len)))
-      (λ t. field-tag u at allowed 0 hu (ap (memberOf allowed) a ∙ t) ∙ sym (field-tag s at allowed 0 hs t))
-      (true-or-false (memberOf allowed tag))
+      (λ t. field-tag u at allowed 0 hu (ap (λ (k : ℕ). mem k allowed) a ∙ t) ∙ sym (field-tag s at allowed 0 hs t))
+      (true-or-false (mem tag allowed))
     where
       short-rule : (tag : ℕ) → 1 ≤ tag → tag ≤ 5 → ruleOf tag .greatest ≤ 34
       short-rule zero a b = absurd (omega arith)

@@ -84,7 +84,7 @@ module _ (s : List ℕ) (b : Bytes s) where
       (lt-or-ge j m)
 
   -- The bytes up to the end of a field are those before it, and the field.
-  pub bytes-next : (at allowed exact tag start len : ℕ) → fieldAt s at allowed exact ≡ Body tag start len
+  pub bytes-next : (at : ℕ) (allowed : List ℕ) (exact tag start len : ℕ) → fieldAt s at allowed exact ≡ Body tag start len
       → take (start + len) s ≡ take at s ++ field tag (part s start len)
   bytes-next at allowed exact tag start len e =
       let w = whole s at allowed exact tag start len e in

@@ -14,12 +14,11 @@ use Rattle.cluster.specs.Terms.{mostCopies, Topology, partitions, Layout, noNod
 use Rattle.fields.specs.RecordField.{bytesOf, Bytes, part, numberAt, field, fieldAt, Whole}
 use Rattle.fields.specs.declared.Field.the-variants.{Body}
 use Rattle.fields.proofs.Numbers.{bytes-there, number-at-lt, part-append}
-use Rattle.fields.proofs.RecordField.{whole}
+use Rattle.fields.proofs.RecordField.{whole, refused-some}
 use Rattle.cluster_record.specs.RecordCluster.{bitsField, replicationField, redundancyField, nodeField, nodeFields, idBytes, rowField, rowFields, clusterRecord, FitsRecord, IsRecord}
 use Rattle.cluster_record.specs.RecordClusterFaults.{Item, BitsOf, ReplicationOf, RedundancyOf, OneNode, FormerRow, nodeIn, idsAt, itemIn, Reading, Outcome, beginning, allowedAfter, withItem, upTo, formerWith, readingWith, unordered, faultIn, refusedAt, ended, readCluster}
 use Rattle.sums.proofs.Tests.{neither}
 use Rattle.cluster_record.proofs.Items.{item-node, item-five, length-ids, faults-none}
-use Rattle.cluster_record.proofs.FieldFaults.{refused-some}
 use Rattle.cluster_record.proofs.Rows.{every-snoc, row-upTo, length-upTo}
 use Rattle.cluster_record.proofs.Walks.{walk-holds}
 use Rattle.cluster_record.proofs.Readings.{Kind, number-next, node-next, row-next, kind, one-byte, ten-bytes, row-bytes, Well, well-beginning, well-step}

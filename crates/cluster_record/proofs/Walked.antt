@@ -14,12 +14,12 @@ use Rattle.cluster.proofs.CellLayouts.{length-cellsOf}
 use mathlib.Core.Bool.{not}
 use Rattle.fields.specs.RecordField.{numberAt, fieldAt, Whole}
 use Rattle.fields.specs.declared.Field.the-variants.{Body, Refused}
-use Rattle.fields.proofs.RecordField.{whole}
+use Rattle.fields.proofs.RecordField.{whole, refused-some}
 use Rattle.cluster_record.specs.RecordClusterFaults.{OneNode, FormerRow, nodeIn, idsAt, itemIn, Reading, Outcome, beginning, allowedAfter, withItem, formerWith, readingWith, outside, unordered, tooMany, faultIn, refusedAt, ended, walk, readCluster}
 use Rattle.cluster_record.specs.RecordClusterAnswer.{answerOf}
 use Rattle.sums.proofs.Tests.{neither}
 use Rattle.cluster_record.proofs.Items.{item-node, item-five, faults-none}
-use Rattle.cluster_record.proofs.FieldFaults.{few-partitions, refused-some}
+use Rattle.cluster_record.proofs.FieldFaults.{few-partitions}
 use Rattle.cluster_record.proofs.Rows.{cells-none, cells-upTo}
 use Rattle.cluster.proofs.Slots.{topology-slots}
 use Rattle.cluster_record.proofs.Walks.{walk-ends, walk-refused, walk-fault, walk-on}

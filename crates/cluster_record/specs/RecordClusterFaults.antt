@@ -6,7 +6,6 @@ use mathlib.Core.Bool.{Bool, false, not, _||_, cond}
 use mathlib.Core.List.{List, [], _∷_, _++_}
 use lib.Dec.{ltb, leb, eqb}
 use lib.ListN.{length, replicate}
-use Rattle.sets.specs.ModelBits.{withOf}
 use Rattle.cluster.specs.Terms.{mostBits, mostCopies, mostNodes, Topology, topology, partitions, Layout, idsOf, mem, rising}
 use Rattle.cluster.specs.declared.Node.{Node}
 use Rattle.cluster.specs.TermsReading.{noNodes}
@@ -50,11 +49,10 @@ pub record Reading : Type 0 where
 unfoldable pub beginning : Reading
 beginning = record { last = 0; cluster = topology noNodes; former = [] }
 
--- "1 bits, 2 replication, 3 redundancy, once each in this order; then 4 box; then 5 former row": the set of the tags allowed next.
-unfoldable pub allowedAfter : ℕ → ℕ
+-- "1 bits, 2 replication, 3 redundancy, once each in this order; then 4 box; then 5 former row": the tags allowed after the last one, 0 for none yet.
+unfoldable pub allowedAfter : ℕ → List ℕ
 allowedAfter last =
-    cond (ltb last 3) (withOf 0 (last + 1))
-    (cond (ltb last 5) (withOf (withOf 0 4) 5) (withOf 0 5))
+    cond (ltb last 3) ((last + 1) ∷ []) (cond (ltb last 5) (4 ∷ 5 ∷ []) (5 ∷ []))
 
 -- A cluster with what a field says.
 unfoldable pub withItem : Topology → Item → Topology

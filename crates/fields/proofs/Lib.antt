@@ -1,4 +1,5 @@
 pub mod Numbers
+pub mod Tags
 pub mod RecordField
 pub mod Written
 pub mod Ids

@@ -1,5 +1,5 @@
 -- Numbers and fields in the bytes of a record: a number in its bytes and back, the legal lengths by tag, and the field that stands at a byte.
--- A byte is a number below 256; a set of tags is a mask, as in the crate `sets`.
+-- A byte is a number below 256.
 -- Assumes nothing.
 use Prim.Native.Nat.{ℕ, zero, suc, _+_, _-_, _*_, _/_, _%_, _^_, _≤_, _<_}
 use mathlib.Core.Path.{_≡_}
@@ -7,7 +7,7 @@ use mathlib.Core.Bool.{Bool, true, not, _&&_, _||_, cond}
 use mathlib.Core.List.{List, [], _∷_, _++_}
 use lib.Dec.{leb, eqb}
 use lib.ListN.{length, take, drop, getD}
-use Rattle.sets.specs.ModelBits.{memberOf}
+use Rattle.cluster.specs.Terms.{mem}
 use Rattle.fields.specs.declared.Rule.{Rule}
 use Rattle.fields.specs.declared.Field.{Field}
 use Rattle.fields.specs.declared.Field.the-variants.{Body, Refused}
@@ -94,30 +94,30 @@ legalAs exact tag len = legal tag len && (eqb exact 0 || eqb len exact)
 
 -- What is said of a field with its three bytes of tag and length there: "2, a tag not allowed next; 3, a length not legal for the tag;
 -- 1, body cut short"; else it is whole, and its body begins after the three bytes.
-unfoldable pub judged : ℕ → ℕ → ℕ → ℕ → ℕ → ℕ → Field
+unfoldable pub judged : ℕ → ℕ → List ℕ → ℕ → ℕ → ℕ → Field
 judged end at allowed exact tag len =
-    cond (not (memberOf allowed tag)) (Refused 2 at)
+    cond (not (mem tag allowed)) (Refused 2 at)
     (cond (not (legalAs exact tag len)) (Refused 3 at)
     (cond (not (has end (at + 3) len)) (Refused 1 at) (Body tag (at + 3) len)))
 
 -- The field of s at byte `at`, where the tags `allowed` are allowed next: "1, one or two bytes left", then as above.
 -- "A field that cannot be taken whole ends the reading there, with the refusal and the byte at which the field begins."
-unfoldable pub fieldAt : List ℕ → ℕ → ℕ → ℕ → Field
+unfoldable pub fieldAt : List ℕ → ℕ → List ℕ → ℕ → Field
 fieldAt s at allowed exact =
     cond (not (has (length s) at 3)) (Refused 1 at) (judged (length s) at allowed exact (numberAt s at 1) (numberAt s (at + 1) 2))
 
 -- What is known of a whole field in a record of n bytes.
-pub record Whole (n at allowed exact tag start len : ℕ) : Type 0 where
+pub record Whole (n at : ℕ) (allowed : List ℕ) (exact tag start len : ℕ) : Type 0 where
   pub begins : start ≡ at + 3
   pub ends : start + len ≤ n
-  pub member : memberOf allowed tag ≡ true
+  pub member : mem tag allowed ≡ true
   pub least : ruleOf tag .least ≤ len
   pub greatest : len ≤ ruleOf tag .greatest
   pub step : (len - ruleOf tag .least) % ruleOf tag .step ≡ 0
   pub only : (exact ≡ 0 → ⊥) → len ≡ exact
 
 -- The same of a field's answer: nothing is known of a refused one.
-abbrev pub Within : ℕ → ℕ → ℕ → ℕ → Field → Type 0
+abbrev pub Within : ℕ → ℕ → List ℕ → ℕ → Field → Type 0
 Within n at allowed exact (Body tag start len) = Whole n at allowed exact tag start len
 Within n at allowed exact (Refused refusal byte) = Unit
 

@@ -2,6 +2,7 @@
 ghost use mathlib.Core.Path.{_≡_};
 ghost use Prim.Native.Nat.{_<_, _^_};
 ghost use lib.ListN.{length};
+ghost use Rattle.fields.specs.ModelTags.{tagsOf};
 ghost use Rattle.fields.specs.RecordField.{has, bytesOf, numberAt, written, ruleOf, legalAs, fieldAt, Within, refusalOf, placeOf};
 use reader::Reader;
 
@@ -189,7 +190,7 @@ fn is_legal(exact: usize, tag: usize, len: usize) -> bool
 // The field at byte `at`, where the tags of the set `allowed` are allowed next; where `exact` is not 0, no other length is legal.
 // It looks in this order: three bytes of tag and length, the tag, the length, the body.
 fn field_in(s: &[u8], at: usize, allowed: u32, exact: usize) -> Field
-    ensures { λ r. ⌜ (r ≡ fieldAt (now (s .entry)) at allowed exact) × Within (length (now (s .entry))) at allowed exact r ⌝ }
+    ensures { λ r. ⌜ (r ≡ fieldAt (now (s .entry)) at (tagsOf allowed) exact) × Within (length (now (s .entry))) at (tagsOf allowed) exact r ⌝ }
 {
     if !reaches(s.len(), at, 3) {
         return Field::Refused {
@@ -227,7 +228,7 @@ fn field_in(s: &[u8], at: usize, allowed: u32, exact: usize) -> Field
 
 // The same by a reader that stands at byte `at`. Its parameters are plain, so that whoever calls it needs no proof by hand.
 pub fn field_at(s: &[u8], at: usize, allowed: u32, exact: usize) -> Field
-    ensures { λ r. ⌜ (r ≡ fieldAt (now (s .entry)) at allowed exact) × Within (length (now (s .entry))) at allowed exact r ⌝ }
+    ensures { λ r. ⌜ (r ≡ fieldAt (now (s .entry)) at (tagsOf allowed) exact) × Within (length (now (s .entry))) at (tagsOf allowed) exact r ⌝ }
 {
     reader::next(Reader { src: s, at }, allowed, exact)
 }
