@@ -1,6 +1,6 @@
 -- What was read so far: which tags come next, and what holds of every reading that no fault has ended.
 -- Assumes nothing.
-use Prim.Native.Nat.{ℕ, zero, suc, _+_, _-_, _*_, _/_, _%_, _≤_, _<_}
+use Prim.Native.Nat.{ℕ, zero, suc, _+_, _-_, _/_, _%_, _≤_, _<_}
 use mathlib.Core.Path.{_≡_, refl, sym, ap, _∙_, subst}
 use mathlib.Core.Bool.{true, not}
 use mathlib.Core.List.{List, [], _∷_}
@@ -14,9 +14,9 @@ use Rattle.cluster.specs.Terms.{mostBits, mostCopies, mostNodes, bufferRows, pa
 use Rattle.cluster.specs.declared.Node.{Node}
 use Rattle.cluster.specs.TermsReading.{Accepted}
 use Rattle.cluster.proofs.Lists.{mem-head, mem-tail, mem-cases, rising-none}
-use Rattle.fields.specs.RecordField.{ruleOf, numberAt, Whole}
+use Rattle.fields.specs.RecordField.{ruleOf, numberAt, nodeWidth, rowWidth, Whole, nodeAtByte}
 use Rattle.fields.proofs.RecordField.{one-tag}
-use Rattle.cluster_record.specs.RecordClusterFaults.{Item, BitsOf, ReplicationOf, RedundancyOf, OneNode, FormerRow, nodeIn, idsAt, itemIn, Reading, beginning, allowedAfter, withItem, upTo, formerWith, readingWith, outside, lastOf, unordered, tooMany, faultIn}
+use Rattle.cluster_record.specs.RecordClusterFaults.{Item, BitsOf, ReplicationOf, RedundancyOf, OneNode, FormerRow, idsAt, itemIn, Reading, beginning, allowedAfter, withItem, upTo, formerWith, readingWith, outside, lastOf, unordered, tooMany, faultIn}
 use Rattle.sums.proofs.Tests.{neither}
 use Rattle.cluster_record.proofs.Items.{item-bits, item-replication, item-redundancy, item-node, item-five, length-ids, ids-snoc, rising-snoc, faults-none}
 use Rattle.cluster_record.proofs.FieldFaults.{few-partitions}
@@ -80,21 +80,21 @@ module _ {n at : ℕ} {allowed : List ℕ} {tag start len : ℕ} (w : Whole n at
       go (suc (suc (suc zero))) a b x y = omega arith
       go (suc (suc (suc (suc k)))) a b x y = absurd (omega arith)
 
-  -- that of a node has ten,
-  pub ten-bytes : tag ≡ 4 → len ≡ 10
+  -- that of a node has those of a node,
+  pub node-length : tag ≡ 4 → len ≡ nodeWidth
   unfolding ruleOf
-  ten-bytes e =
-      let a : 10 ≤ len = subst (λ (k : ℕ). ruleOf k .least ≤ len) e (w .least) in
-      let b : len ≤ 10 = subst (λ (k : ℕ). len ≤ ruleOf k .greatest) e (w .greatest) in
+  node-length e =
+      let a : nodeWidth ≤ len = subst (λ (k : ℕ). ruleOf k .least ≤ len) e (w .least) in
+      let b : len ≤ nodeWidth = subst (λ (k : ℕ). len ≤ ruleOf k .greatest) e (w .greatest) in
       omega arith
 
   -- and that of a row two, and four for each of one to eight ids.
-  pub row-bytes : tag ≡ 5 → (6 ≤ len) × (len ≤ 34) × (len ≡ 2 + 4 * ((len - 2) / 4))
+  pub row-bytes : tag ≡ 5 → (rowWidth 1 ≤ len) × (len ≤ rowWidth mostCopies) × (len ≡ rowWidth ((len - 2) / 4))
   unfolding ruleOf
   row-bytes e =
-      let a : 6 ≤ len = subst (λ (k : ℕ). ruleOf k .least ≤ len) e (w .least) in
-      let b : len ≤ 34 = subst (λ (k : ℕ). len ≤ ruleOf k .greatest) e (w .greatest) in
-      let c : (len - 6) % 4 ≡ 0 = subst (λ (k : ℕ). (len - ruleOf k .least) % ruleOf k .step ≡ 0) e (w .step) in
+      let a : rowWidth 1 ≤ len = subst (λ (k : ℕ). ruleOf k .least ≤ len) e (w .least) in
+      let b : len ≤ rowWidth mostCopies = subst (λ (k : ℕ). len ≤ ruleOf k .greatest) e (w .greatest) in
+      let c : (len - rowWidth 1) % 4 ≡ 0 = subst (λ (k : ℕ). (len - ruleOf k .least) % ruleOf k .step ≡ 0) e (w .step) in
       (a, b, omega arith)
 
 -- ---- what holds of a reading
@@ -221,7 +221,7 @@ module _ (r : Reading) (tag : ℕ) (w : Well r) where
             (λ q. subst (λ (x : List ℕ). length x ≤ mostCopies) (sym (row-upTo p F q)) (w .row-few q)) few (omega arith);
       }
 
-pub well-step : (s : List ℕ) (r : Reading) (tag start len : ℕ) → Well r → Kind (r .last) tag → (tag ≡ 5 → len ≤ 34)
+pub well-step : (s : List ℕ) (r : Reading) (tag start len : ℕ) → Well r → Kind (r .last) tag → (tag ≡ 5 → len ≤ rowWidth mostCopies)
     → faultIn (r .cluster) (length (r .former)) (itemIn s tag start len) ≡ 0 → Well (readingWith r tag (itemIn s tag start len))
 well-step s r tag start len w (number-next a e) few =
     ⊎-elim (λ l. by (item-bits s start len tag (omega arith)) (well-bits r tag w (numberAt s start 1) (omega arith) (omega arith)))
@@ -235,7 +235,7 @@ well-step s r tag start len w (number-next a e) few =
     by q h = subst (λ (i : Item). faultIn (r .cluster) (length (r .former)) i ≡ 0 → Well (readingWith r tag i)) (sym q) h
 well-step s r tag start len w (node-next a b e) few =
     subst (λ (i : Item). faultIn (r .cluster) (length (r .former)) i ≡ 0 → Well (readingWith r tag i)) (sym (item-node s start len tag e))
-    (well-node r tag w (nodeIn s start) b e)
+    (well-node r tag w (nodeAtByte s start) b e)
 well-step s r tag start len w (row-next a e) few =
     subst (λ (i : Item). faultIn (r .cluster) (length (r .former)) i ≡ 0 → Well (readingWith r tag i)) (sym (item-five s start len tag e))
     (well-row r tag w (numberAt s start 2) (idsAt s (start + 2) ((len - 2) / 4)) e (omega (arith, few e, length-ids s (start + 2) ((len - 2) / 4))))

@@ -10,7 +10,7 @@ use Rattle.cluster.specs.Terms.{mostBits, mostCopies, mostNodes, Topology, topo
 use Rattle.cluster.specs.declared.Node.{Node}
 use Rattle.cluster.specs.TermsReading.{noNodes}
 unfoldable pub use Rattle.fields.specs.RecordField.{idsAt}
-use Rattle.fields.specs.RecordField.{numberAt, fieldAt}
+use Rattle.fields.specs.RecordField.{numberAt, nodeAtByte, fieldAt}
 use Rattle.fields.specs.declared.Field.{Field}
 use Rattle.fields.specs.declared.Field.the-variants.{Body, Refused}
 
@@ -24,17 +24,13 @@ pub data Item : Type 0 where
   OneNode : Node → Item
   FormerRow : ℕ → List ℕ → Item
 
--- "id 4, zone 2, capacity 4"
-unfoldable pub nodeIn : List ℕ → ℕ → Node
-nodeIn s start = record { id = numberAt s start 4; zone = numberAt s (start + 4) 2; capacity = numberAt s (start + 6) 4 }
-
 -- The values in a body of s that begins at byte `start`, by the field's tag.
 unfoldable pub itemIn : List ℕ → ℕ → ℕ → ℕ → Item
 itemIn s tag start len =
     cond (eqb tag 1) (BitsOf (numberAt s start 1))
     (cond (eqb tag 2) (ReplicationOf (numberAt s start 1))
     (cond (eqb tag 3) (RedundancyOf (numberAt s start 1))
-    (cond (eqb tag 4) (OneNode (nodeIn s start))
+    (cond (eqb tag 4) (OneNode (nodeAtByte s start))
     -- "2 + 4m: partition 2, then m rising ids"
     (FormerRow (numberAt s start 2) (idsAt s (start + 2) ((len - 2) / 4))))))
 

@@ -74,7 +74,8 @@ pub(crate) fn field_fault(
         return number_fault(1, c.replication, fields::byte_at(bytes, start));
     }
     if tag == 4 {
-        return node_fault(c.count, last_id(c), fields::word_at(bytes, start));
+        let n = fields::node_at(bytes, start);
+        return node_fault(c.count, last_id(c), n.id);
     }
     row_faults::row_fault(bytes, c.bits, next, start, (len - 2) / 4)
 }

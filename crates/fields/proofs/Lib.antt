@@ -3,3 +3,5 @@ pub mod Tags
 pub mod RecordField
 pub mod Written
 pub mod Ids
+pub mod Nodes
+pub mod Cut

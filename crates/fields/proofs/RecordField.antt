@@ -17,7 +17,7 @@ use Rattle.sums.proofs.Sum.{lt-or-ge}
 use Rattle.cluster.specs.Terms.{mem}
 use Rattle.cluster.proofs.Lists.{mem-none, mem-cases}
 use Rattle.sums.proofs.Tests.{true-or-false, both}
-use Rattle.fields.specs.RecordField.{bytesOf, Bytes, part, numberAt, field, noLength, rules, ruleOf, legal, legalAs, judged, fieldAt, Whole, Within}
+use Rattle.fields.specs.RecordField.{bytesOf, Bytes, part, numberAt, headWidth, longestField, field, noLength, rules, ruleOf, legal, legalAs, judged, fieldAt, Whole, Within}
 use Rattle.fields.specs.declared.Rule.{Rule}
 use Rattle.fields.specs.declared.Field.{Field}
 use Rattle.fields.specs.declared.Field.the-variants.{Body, Refused}
@@ -51,6 +51,12 @@ step-pos tag = ltb-true 0 (ruleOf tag .step) (passes (λ r. ltb 0 (r .step)) rul
 pub greatest-lt : (tag : ℕ) → ruleOf tag .greatest < 65536
 unfolding ruleOf
 greatest-lt tag = ltb-true (ruleOf tag .greatest) 65536 (passes (λ r. ltb (r .greatest) 65536) rules noLength refl refl tag)
+
+-- No field is longer than the longest.
+pub greatest-le : (tag : ℕ) → headWidth + ruleOf tag .greatest ≤ longestField
+unfolding ruleOf
+greatest-le tag =
+    leb-true (headWidth + ruleOf tag .greatest) longestField (passes (λ r. leb (headWidth + r .greatest) longestField) rules noLength refl refl tag)
 
 -- The rule of a tag that the table has, whatever is said of other tags.
 pub rule-there : (tag : ℕ) (d : Rule) → tag < length rules → getD rules tag d ≡ ruleOf tag

@@ -3,10 +3,14 @@ ghost use mathlib.Core.Path.{_≡_};
 ghost use Prim.Native.Nat.{_<_, _^_};
 ghost use lib.ListN.{length};
 ghost use Rattle.fields.specs.ModelTags.{tagsOf};
-ghost use Rattle.fields.specs.RecordField.{has, bytesOf, numberAt, written, ruleOf, legalAs, fieldAt, Within, refusalOf, placeOf};
+ghost use Rattle.fields.specs.RecordField.{has, bytesOf, numberAt, written, nodeAtByte, ruleOf, legalAs, fieldAt, Within, refusalOf, placeOf};
+use cluster::Node;
 use reader::Reader;
 
 mod reader;
+
+// The bytes of a node: id 4, zone 2, capacity 4.
+const NODE: usize = 10;
 
 // The legal lengths of a body: from the least to the greatest, in steps.
 pub struct Rule {
@@ -41,10 +45,10 @@ const LEGAL: [Rule; 11] = [
         greatest: 1,
         step: 1,
     },
-    // 4 node: id 4, zone 2, capacity 4.
+    // 4 node.
     Rule {
-        least: 10,
-        greatest: 10,
+        least: NODE,
+        greatest: NODE,
         step: 1,
     },
     // 5 former row: partition 2, one to eight ids.
@@ -127,6 +131,25 @@ pub fn word_at(s: &[u8], at: usize) -> u32
         pair_at(s, at) * 65536 + pair_at(s, at + 2)
     } else {
         0
+    }
+}
+
+// The node in ten bytes; all its numbers are 0 where the record does not have them all.
+pub fn node_at(s: &[u8], at: usize) -> Node
+    ensures { λ r. ⌜ r ≡ nodeAtByte (now (s .entry)) at ⌝ }
+{
+    if reaches(s.len(), at, NODE) {
+        Node {
+            id: word_at(s, at),
+            zone: pair_at(s, at + 4) as u16,
+            capacity: word_at(s, at + 6),
+        }
+    } else {
+        Node {
+            id: 0,
+            zone: 0,
+            capacity: 0,
+        }
     }
 }
 
