@@ -21,7 +21,7 @@ use Rattle.fields.proofs.Nodes.{length-node, node-here}
 use Rattle.fields.proofs.RecordField.{legal-true, legal-any, length-field, body-here, rest-here, field-here}
 use Rattle.cluster_record.specs.RecordCluster.{bitsField, replicationField, redundancyField, nodeField, nodeFields, idBytes, rowField, rowFields, clusterRecord, IsRecord}
 use Rattle.cluster_record.specs.RecordClusterFaults.{Item, BitsOf, ReplicationOf, RedundancyOf, OneNode, FormerRow, idsAt, itemIn, Reading, beginning, allowedAfter, withItem, upTo, formerWith, readingWith, outside, lastOf, unordered, tooMany, faultIn, ended, walk, readCluster}
-use Rattle.fields.proofs.Ids.{length-id-bytes, ids-here}
+use Rattle.fields.proofs.IdBytes.{length-id-bytes, ids-here}
 use Rattle.cluster_record.proofs.Items.{item-bits, item-replication, item-redundancy, item-node, item-five, none-faults}
 use Rattle.cluster_record.proofs.FieldFaults.{few-partitions}
 use Rattle.cluster_record.proofs.Rows.{upTo-full, length-next}

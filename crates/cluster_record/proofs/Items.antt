@@ -15,7 +15,7 @@ use Rattle.cluster.specs.declared.Node.{Node}
 use Rattle.cluster.specs.Terms.{Topology, Layout, noNode, idsOf, risingFrom}
 use Rattle.cluster.proofs.Lists.{rising-head, rising-cons, rising-tail, rising-none}
 use Rattle.fields.specs.RecordField.{numberAt, nodeAtByte}
-pub use Rattle.fields.proofs.Ids.{ids-more, ids-none, length-ids, getD-ids, zero-found, zero-passed, fall-found, rise-passed}
+pub use Rattle.fields.proofs.IdBytes.{ids-more, ids-none, length-ids, getD-ids, zero-found, zero-passed, fall-found, rise-passed}
 use Rattle.cluster_record.specs.RecordClusterFaults.{Item, BitsOf, ReplicationOf, RedundancyOf, OneNode, FormerRow, idsAt, itemIn, formerWith, outside, lastOf, unordered, tooMany, faultIn}
 
 -- ---- tests

@@ -29,7 +29,7 @@ use Rattle.cluster_record.proofs.FieldFaults.{few-partitions}
 use Rattle.cluster_record.proofs.Rows.{length-next}
 use Rattle.cluster_record.proofs.Walks.{walk-refused, walk-fault, walk-on, walk-holds}
 use Rattle.cluster_record.proofs.Readings.{Kind, number-next, node-next, row-next, kind, one-byte, node-length, row-bytes, Well, well-beginning, well-step, rows-few}
-use Rattle.fields.proofs.Ids.{length-id-bytes}
+use Rattle.fields.proofs.IdBytes.{length-id-bytes}
 
 -- ---- the longest record
 

@@ -13,7 +13,7 @@ use Rattle.cluster.specs.declared.Node.{Node}
 use Rattle.cluster.specs.Terms.{mostCopies, Topology, partitions, Layout, noNode, rising}
 use Rattle.fields.specs.RecordField.{bytesOf, Bytes, part, numberAt, nodeWidth, FitsNode, field, fieldAt, Whole, nodeAtByte}
 use Rattle.fields.specs.declared.Field.the-variants.{Body}
-use Rattle.fields.proofs.Ids.{ids-back, ids-words}
+use Rattle.fields.proofs.IdBytes.{ids-back, ids-words}
 use Rattle.fields.proofs.Nodes.{node-bytes, fits-none, fits-node}
 use Rattle.fields.proofs.Numbers.{bytes-there, part-append}
 use Rattle.fields.proofs.RecordField.{whole, refused-some}

@@ -7,6 +7,7 @@ ghost use Rattle.fields.specs.RecordField.{has, bytesOf, numberAt, writt
 use cluster::Node;
 use reader::Reader;
 
+pub mod ids;
 mod reader;
 
 // The bytes of a node: id 4, zone 2, capacity 4.

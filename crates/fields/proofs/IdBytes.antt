@@ -1,18 +1,20 @@
 -- Ids in the bytes of a record: what a scan of them finds, how many bytes they take, and that they are read as they were written and written
 -- as they were read.
 -- Assumes nothing.
-use Prim.Native.Nat.{ℕ, zero, suc, _+_, _-_, _*_, _^_, _≤_, _<_}
+use Prim.Native.Nat.{ℕ, zero, suc, _+_, _-_, _*_, _/_, _^_, _≤_, _<_}
 use mathlib.Core.Path.{_≡_, refl, sym, ap, ap₂, _∙_}
 use mathlib.Core.Bool.{Bool, true, false, _&&_}
+use mathlib.Core.Logic.{⊎-elim}
 use mathlib.Core.List.{List, [], _∷_, _++_, append-assoc, append-nil}
 use native.Mathlib.Nat.{add-zero}
 use native.Mathlib.Omega.{arith}
 use lib.ListN.{length, drop, getD, length-append}
 use borrow.Author.Tests.{lt-ltb, le-ltb}
-use Rattle.cluster.specs.Terms.{mem, risingFrom}
-use Rattle.cluster.proofs.Lists.{mem-head, mem-skip}
+use Rattle.sums.proofs.Tests.{true-or-false}
+use Rattle.cluster.specs.Terms.{mem, rising, risingFrom}
+use Rattle.cluster.proofs.Lists.{mem-head, mem-skip, index-mem, rising-fresh}
 use Rattle.fields.specs.RecordField.{bytesOf, Bytes, part, numberAt, idsAt, idBytes}
-use Rattle.fields.proofs.Numbers.{length-bytes, number-here, after-number, bytes-there, part-append, number-at-lt, bytes-byte, bytes-join}
+use Rattle.fields.proofs.Numbers.{length-bytes, number-here, number-none, after-number, bytes-there, part-append, number-at-lt, bytes-byte, bytes-join}
 
 -- The first of some ids, then the others.
 pub ids-more : (s : List ℕ) (at m : ℕ) → 0 < m → idsAt s at m ≡ numberAt s at 4 ∷ idsAt s (at + 4) (m - 1)
@@ -59,6 +61,22 @@ module _ (s : List ℕ) (at m : ℕ) (some : 0 < m) where
   rise-passed last h =
       ap (risingFrom last) (ids-more s at m some)
       ∙ ap (λ (t : Bool). t && risingFrom (numberAt s at 4) (idsAt s (at + 4) (m - 1))) (lt-ltb last (numberAt s at 4) h)
+
+-- Where not all ids are there the last one counts as 0: one of them is 0,
+pub zero-missing : (s : List ℕ) (at m : ℕ) → (length s - at) / 4 < m → mem 0 (idsAt s at m) ≡ true
+zero-missing s at m h =
+    let e : getD (idsAt s at m) (m - 1) 0 ≡ 0 = getD-ids s at m (m - 1) (omega arith) ∙ number-none s (at + 4 * (m - 1)) 4 (omega arith) in
+    ap (λ (k : ℕ). mem k (idsAt s at m)) (sym e) ∙ index-mem (idsAt s at m) (m - 1) (omega (arith, length-ids s at m))
+
+-- and they do not rise.
+pub fall-missing : (s : List ℕ) (at m : ℕ) → (length s - at) / 4 < m → rising (idsAt s at m) ≡ false
+fall-missing s at m h =
+    ⊎-elim
+    (λ t. let a = zero-missing s at m h in
+    let b = rising-fresh 0 0 (idsAt s at m) t (omega arith) in
+    let z : _≡_ {A = ℕ} 0 1 = cc in absurd (omega arith))
+    (λ f. f)
+    (true-or-false (rising (idsAt s at m)))
 
 -- Ids take four bytes each.
 pub length-id-bytes : (l : List ℕ) → length (idBytes l) ≡ 4 * length l
