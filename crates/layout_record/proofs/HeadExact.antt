@@ -8,7 +8,6 @@ use mathlib.Core.Logic.{⊎-elim}
 use native.Mathlib.Nat.{add-zero}
 use native.Mathlib.Omega.{arith}
 use lib.ListN.{length, drop, getD}
-use Rattle.sets.specs.ModelBits.{withOf}
 use Rattle.sums.specs.TermsSums.{tab}
 use Rattle.sums.proofs.Tests.{both, true-or-false}
 use Rattle.cells.proofs.Cells.{tab-getD}
@@ -53,9 +52,9 @@ number-back : (s : List ℕ) (at : ℕ) (e : Entry) (t start len : ℕ) → Byte
     → drop at s ≡ field (e .tag) (bytesOf (e .width) (numberAt s start len)) ++ drop (start + len) s
 number-back s at e t start len b l h =
     let body = next-body s at (e .tag) 0 t start len h in
-    let k = whole s at (withOf 0 (e .tag)) 0 t start len body in
+    let k = whole s at (e .tag ∷ []) 0 t start len body in
     let w = entry-width e (length s) at t start len l k in
-    field-back s at (withOf 0 (e .tag)) 0 t start len body b
+    field-back s at (e .tag ∷ []) 0 t start len body b
     ∙ ap₂ (λ (x : ℕ) (y : List ℕ). field x y ++ drop (start + len) s) (w .0) (sym (bytes-there s start len b (k .ends)) ∙ ap (λ (q : ℕ). bytesOf q (numberAt s start len)) (w .1))
 
 -- The numbers that were read from byte `at` on, after the numbers vs.
@@ -120,7 +119,7 @@ number-found s rest at e v l h d =
     let long : length body ≡ e .width = length-bytes (e .width) v in
     let fits = entry-range e v h in (
       next-there s at (e .tag) 0 (before-end s rest body at (e .tag) d)
-          ∙ (field-here s rest body at (e .tag) d (withOf 0 (e .tag)) 0 (tag-alone (e .tag) (l .small))
+          ∙ (field-here s rest body at (e .tag) d (e .tag ∷ []) 0 (tag-alone (e .tag))
           (legal-any (e .tag) (length body) ∙ (ap (legal (e .tag)) long ∙ l .legal-is))
           ∙ ap (λ (k : ℕ). Body (e .tag) (at + 3) k) long),
       number-here s rest (at + 3) (e .width) v (body-here s rest body at (e .tag) d) (omega (arith, fits .1, l .room)),

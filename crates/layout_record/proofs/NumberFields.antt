@@ -12,7 +12,6 @@ use lib.ListN.{length, drop, getD, length-append}
 use lib.Seq.{drop-cons, drop-length}
 use borrow.Author.Tests.{le-leb, lt-leb, leb-true}
 use Rattle.sums.proofs.Tests.{both}
-use Rattle.sets.specs.ModelBits.{withOf}
 use Rattle.cluster.specs.Terms.{mostBits, mostCopies}
 use Rattle.fields.specs.RecordField.{bytesOf, field, numberAt, written, ruleOf, legal, fieldAt, Whole}
 use Rattle.fields.specs.declared.Field.{Field}
@@ -33,7 +32,7 @@ module _ (s : List ℕ) (at tag exact : ℕ) where
   next-missing h = simp (le-leb (length s) at h)
 
   -- Before it, it is the field at that byte.
-  pub next-there : at < length s → nextField s at tag exact ≡ fieldAt s at (withOf 0 tag) exact
+  pub next-there : at < length s → nextField s at tag exact ≡ fieldAt s at (tag ∷ []) exact
   unfolding nextField
   next-there h = simp (lt-leb (length s) at h)
 
@@ -78,7 +77,7 @@ table-lawful = (
 )
 
 -- A body with the number of an entry has the entry's width.
-pub entry-width : (e : Entry) (n at t start len : ℕ) → Lawful e → Whole n at (withOf 0 (e .tag)) 0 t start len → (t ≡ e .tag) × (len ≡ e .width)
+pub entry-width : (e : Entry) (n at t start len : ℕ) → Lawful e → Whole n at (e .tag ∷ []) 0 t start len → (t ≡ e .tag) × (len ≡ e .width)
 entry-width e n at t start len h w =
     let same : t ≡ e .tag = one-tag (e .tag) t (w .member) in
     let l : ruleOf (e .tag) .least ≤ len = subst (λ (k : ℕ). ruleOf k .least ≤ len) same (w .least) in

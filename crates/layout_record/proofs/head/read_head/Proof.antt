@@ -4,13 +4,12 @@ use borrow.Author.Needs.{needs}
 use native.Mathlib.Omega.{arith}
 use Prim.Native.Nat.{ℕ, _+_, _-_, _≤_}
 use mathlib.Core.Path.{_≡_, refl, sym, ap, ap₂, _∙_, subst}
-use mathlib.Core.List.{List, []}
+use mathlib.Core.List.{List, [], _∷_}
 use mathlib.Core.Logic.{_⊎_}
 use native.Mathlib.Numerals.{add-one}
 use lib.ListN.{length, take, drop, set}
 use lib.Seq.{take-all, take-suc-set}
 use borrow.Author.Tests.{not-true, not-false}
-use Rattle.sets.specs.ModelBits.{withOf}
 use Rattle.fields.specs.RecordField.{Whole, Within, refusalOf, placeOf}
 use Rattle.layout_record.specs.declared.Numbers.{Numbers}
 use Rattle.layout_record.specs.RecordLayout.{headTable, numbersFrom}
@@ -42,8 +41,8 @@ known c =
     let e = n .before .at in
     let g = c .before .f .given .0 in
     let law = lawful-at (k .loop .i) (omega arith) (e .result) (e .ensures) in
-    let w : Whole (length (bytesOf k)) (k .loop .at) (withOf 0 (e .result .tag)) 0 (g .0) (g .1 .0) (g .1 .1 .0) =
-    subst (Within (length (bytesOf k)) (k .loop .at) (withOf 0 (e .result .tag)) 0) (c .before .f .given .1) (n .next-field .ensures .1) in
+    let w : Whole (length (bytesOf k)) (k .loop .at) (e .result .tag ∷ []) 0 (g .0) (g .1 .0) (g .1 .1 .0) =
+    subst (Within (length (bytesOf k)) (k .loop .at) (e .result .tag ∷ []) 0) (c .before .f .given .1) (n .next-field .ensures .1) in
     let same = entry-width (e .result) (length (bytesOf k)) (k .loop .at) (g .0) (g .1 .0) (g .1 .1 .0) law w .1 in
     (w .ends, subst (λ (x : ℕ). (x ≡ 1) ⊎ ((x ≡ 2) ⊎ (x ≡ 4))) (sym same) (law .narrow))
 
@@ -54,7 +53,9 @@ at-requires : tie.Need-at-requires Inv-loop μ-loop
 at-requires c κs = search needs
 
 next-field-requires : tie.Need-next-field-requires Inv-loop μ-loop
-next-field-requires c κs = search needs
+next-field-requires c κs =
+    let k = c .before .before in
+    omega (arith, lawful-at (k .loop .i) (omega arith) (c .at .result) (c .at .ensures) .small)
 
 enum-known-f : tie.Need-enum-known-f Inv-loop μ-loop
 enum-known-f c = search needs
