@@ -12,10 +12,10 @@ use lib.Seq.{take-at, take-take, length-take-le}
 use Rattle.cluster.specs.Terms.{rowCells, bufferRows, Layout, rowAt, idsIn, formedFrom, formed, rowsIn}
 use Rattle.cluster.proofs.CellRows.{formed-cells}
 use Rattle.cluster.proofs.CellLayouts.{length-rowsIn, row-rowsIn}
-use Rattle.fields.specs.RecordField.{bytesOf, written, over}
+use Rattle.fields.specs.RecordField.{bytesOf, written, over, idBytes}
 use Rattle.fields.proofs.Written.{written-over}
 use Rattle.layout_record.specs.declared.Numbers.{Numbers}
-use Rattle.layout_record.specs.RecordLayout.{headFields, idBytes, layoutRowField, layoutRowFields, layoutRecord, recordLength}
+use Rattle.layout_record.specs.RecordLayout.{headFields, layoutRowField, layoutRowFields, layoutRecord, recordLength}
 use Rattle.layout_record.specs.RecordLayoutFaults.{rowFits, rowsFit}
 use Rattle.layout_record.proofs.Puts.{put-next, put-parts}
 use Rattle.layout_record.proofs.NumberFields.{few-bits, length-head}

@@ -10,12 +10,12 @@ use native.Mathlib.Omega.{arith}
 use lib.ListN.{length, take, drop, getD, length-append, length-drop, take-append-drop}
 use lib.Seq.{take-suc, getD-drop, length-take-le}
 use Rattle.sums.proofs.Sum.{lt-or-ge}
-use Rattle.fields.specs.RecordField.{bytesOf, field, written}
+use Rattle.fields.specs.RecordField.{bytesOf, field, written, idBytes}
 use Rattle.fields.proofs.Numbers.{length-bytes}
 use Rattle.fields.proofs.RecordField.{length-field, field-bytes}
 use Rattle.fields.proofs.Written.{written-fits, written-not, written-append, length-written}
-use Rattle.layout_record.specs.RecordLayout.{idBytes, layoutRowField}
-use Rattle.layout_record.proofs.IdBytes.{length-id-bytes, id-bytes-snoc}
+use Rattle.layout_record.specs.RecordLayout.{layoutRowField}
+use Rattle.fields.proofs.IdBytes.{length-id-bytes, id-bytes-snoc}
 
 -- Nothing that is written changes nothing.
 pub written-none : (s : List ℕ) (at : ℕ) → s ≡ written s at []

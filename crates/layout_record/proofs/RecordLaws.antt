@@ -8,12 +8,12 @@ use native.Mathlib.Omega.{arith}
 use lib.ListN.{length, length-append}
 use Rattle.sums.specs.TermsSums.{tab}
 use Rattle.cluster.specs.Terms.{Layout, row, rowAt, idsIn, rowsIn}
-use Rattle.fields.specs.RecordField.{bytesOf}
+use Rattle.fields.specs.RecordField.{bytesOf, idBytes}
 use Rattle.fields.proofs.Numbers.{length-bytes}
 use Rattle.fields.proofs.RecordField.{length-field}
 use Rattle.layout_record.specs.declared.Numbers.{Numbers}
-use Rattle.layout_record.specs.RecordLayout.{HasLayout, headFields, idBytes, layoutRowField, layoutRowFields, layoutRecord, recordLength}
-use Rattle.layout_record.proofs.IdBytes.{length-id-bytes}
+use Rattle.layout_record.specs.RecordLayout.{HasLayout, headFields, layoutRowField, layoutRowFields, layoutRecord, recordLength}
+use Rattle.fields.proofs.IdBytes.{length-id-bytes}
 use Rattle.layout_record.proofs.NumberFields.{length-head}
 use native.Mathlib.Numerals.{add-one}
 

@@ -12,14 +12,14 @@ use borrow.Author.Tests.{eq-eqb, ne-eqb, lt-ltb, le-ltb}
 use Rattle.sums.proofs.Sum.{lt-or-ge}
 use Rattle.cells.specs.ModelCells.{put}
 use Rattle.cluster.specs.Terms.{rowCells, bufferRows, layoutCells, Layout, cellsOf, rowsIn}
-use Rattle.fields.specs.RecordField.{numberAt, over}
+use Rattle.fields.specs.RecordField.{numberAt, over, idsAt}
 use Rattle.fields.specs.declared.Field.{Field}
 use Rattle.fields.specs.declared.Field.the-variants.{Body, Refused}
 use Rattle.layout_record.specs.declared.Numbers.{Numbers}
 use Rattle.layout_record.specs.RecordLayout.{headTable, layoutRecord, recordLength}
-use Rattle.layout_record.specs.RecordLayoutFaults.{nextField, LayoutRead, layoutRefused, idsAt, layoutRowFault, endIn, rowIn, rowsFrom, HeadEnds, HeadRefused, headFrom, rowsAfter, readLayout, writeFault}
+use Rattle.layout_record.specs.RecordLayoutFaults.{nextField, LayoutRead, layoutRefused, layoutRowFault, endIn, rowIn, rowsFrom, HeadEnds, HeadRefused, headFrom, rowsAfter, readLayout, writeFault}
 use Rattle.layout_record.specs.RecordLayoutAnswer.{layoutOutcome, layoutAnswer, readLayoutOf, assignmentRead, writeAnswer, outAfter}
-use Rattle.layout_record.proofs.IdBytes.{length-ids, getD-ids}
+use Rattle.fields.proofs.IdBytes.{length-ids, getD-ids}
 use Rattle.layout_record.proofs.CellsMore.{cells-more}
 use Rattle.layout_record.proofs.RowFaults.{end-whole, end-more}
 use Rattle.layout_record.proofs.FieldFaults.{none-refused}

@@ -13,15 +13,15 @@ use Rattle.sums.proofs.Sum.{lt-or-ge, eq-or-ne}
 use Rattle.cluster.specs.Terms.{mostCopies, bufferRows, Layout, row, mem, rising}
 use Rattle.sums.proofs.Tests.{true-or-false}
 use Rattle.cluster.proofs.Lists.{rising-fresh}
-use Rattle.fields.specs.RecordField.{bytesOf, Bytes, part, numberAt, field, ruleOf, legal, legalAs}
+use Rattle.fields.specs.RecordField.{bytesOf, Bytes, part, numberAt, field, ruleOf, legal, legalAs, idBytes, idsAt}
 use Rattle.fields.specs.declared.Field.{Field}
 use Rattle.fields.specs.declared.Field.the-variants.{Body, Refused}
 use Rattle.fields.proofs.Numbers.{length-bytes, bytes-there, number-here, part-append}
 use Rattle.fields.proofs.RecordField.{one-tag, legal-only, whole, field-back, field-here, body-here, rest-here}
 use Rattle.layout_record.specs.declared.Numbers.{Numbers}
-use Rattle.layout_record.specs.RecordLayout.{idBytes, layoutRowField, layoutRowFields}
-use Rattle.layout_record.specs.RecordLayoutFaults.{nextField, LayoutRead, layoutAccepted, layoutRefused, idsAt, layoutRowFault, endIn, rowIn, rowsFrom}
-use Rattle.layout_record.proofs.IdBytes.{length-ids, length-id-bytes, ids-here, ids-back, ids-words}
+use Rattle.layout_record.specs.RecordLayout.{layoutRowField, layoutRowFields}
+use Rattle.layout_record.specs.RecordLayoutFaults.{nextField, LayoutRead, layoutAccepted, layoutRefused, layoutRowFault, endIn, rowIn, rowsFrom}
+use Rattle.fields.proofs.IdBytes.{length-ids, length-id-bytes, ids-here, ids-back, ids-words}
 use Rattle.layout_record.proofs.CellsMore.{length-more}
 use Rattle.layout_record.proofs.NumberFields.{next-there}
 use Rattle.layout_record.proofs.RowFaults.{fault-partition, fault-zero, fault-next, fault-falls, fault-none, end-whole, end-more}

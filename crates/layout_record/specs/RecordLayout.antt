@@ -7,8 +7,7 @@ use mathlib.Core.List.{List, [], _∷_, _++_}
 use lib.Dec.{leb}
 use lib.ListN.{length, getD}
 use Rattle.cluster.specs.Terms.{mostBits, mostCopies, mostSize, mostDistance, mostVerdict, mostImprovements, Layout, row, rising}
-unfoldable pub use Rattle.fields.specs.RecordField.{idBytes}
-use Rattle.fields.specs.RecordField.{bytesOf, field}
+use Rattle.fields.specs.RecordField.{bytesOf, field, idBytes}
 use Rattle.layout_record.specs.declared.Numbers.{Numbers}
 use Rattle.layout_record.specs.declared.table.Entry.{Entry}
 

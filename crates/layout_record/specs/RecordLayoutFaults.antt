@@ -7,8 +7,7 @@ use lib.Dec.{ltb, leb, eqb}
 use lib.ListN.{length}
 use Rattle.sums.specs.TermsSums.{everyTo}
 use Rattle.cluster.specs.Terms.{bufferRows, layoutCells, Layout, mem, rising, rowAt, idsIn, blank, formed}
-unfoldable pub use Rattle.fields.specs.RecordField.{idsAt}
-use Rattle.fields.specs.RecordField.{numberAt, fieldAt, refusalOf, placeOf}
+use Rattle.fields.specs.RecordField.{numberAt, idsAt, fieldAt, refusalOf, placeOf}
 use Rattle.fields.specs.declared.Field.{Field}
 use Rattle.fields.specs.declared.Field.the-variants.{Body, Refused}
 use Rattle.layout_record.specs.declared.Numbers.{Numbers}

@@ -4,8 +4,8 @@ ghost use mathlib.Core.List.{[], _++_};
 ghost use Prim.Native.Nat.{_+_, _*_, _^_, _≤_};
 ghost use lib.ListN.{length, drop, replicate};
 ghost use Rattle.cluster.specs.Terms.{mostBits, mostCopies, layoutCells, Layout, cellsOf};
-ghost use Rattle.fields.specs.RecordField.{numberAt};
-ghost use Rattle.layout_record.specs.RecordLayoutFaults.{idsAt, layoutRowFault, endIn, rowsFrom, readLayout};
+ghost use Rattle.fields.specs.RecordField.{numberAt, idsAt};
+ghost use Rattle.layout_record.specs.RecordLayoutFaults.{layoutRowFault, endIn, rowsFrom, readLayout};
 ghost use Rattle.layout_record.specs.RecordLayoutAnswer.{layoutAnswer};
 use super::Numbers;
 use super::ReadLayout;
@@ -28,13 +28,13 @@ fn row_fault(bytes: &[u8], start: usize, partitions: usize, next: usize, count: 
     if partitions <= partition {
         return refusal::RANGE;
     }
-    if ids::has_zero(bytes, start + 2, count) {
+    if fields::ids::has_zero(bytes, start + 2, count) {
         return refusal::RANGE;
     }
     if partition != next {
         return refusal::ORDER;
     }
-    if ids::ids_rise(bytes, start + 2, count) {
+    if fields::ids::ids_rise(bytes, start + 2, count) {
         0
     } else {
         refusal::ORDER

@@ -10,9 +10,9 @@ use lib.ListN.{length}
 use Rattle.cluster.specs.Terms.{bufferRows, layoutCells, Layout, cellsOf}
 use Rattle.cluster.proofs.CellLayouts.{length-cellsOf}
 use Rattle.layout_record.proofs.CellsMore.{length-more}
-use Rattle.fields.specs.RecordField.{numberAt, Whole, Within, refusalOf, placeOf}
+use Rattle.fields.specs.RecordField.{numberAt, Whole, Within, refusalOf, placeOf, idsAt}
 use Rattle.layout_record.specs.declared.ReadLayout.{ReadLayout}
-use Rattle.layout_record.specs.RecordLayoutFaults.{LayoutRead, layoutRefused, idsAt, layoutRowFault, rowsFrom}
+use Rattle.layout_record.specs.RecordLayoutFaults.{LayoutRead, layoutRefused, layoutRowFault, rowsFrom}
 use Rattle.layout_record.specs.RecordLayoutAnswer.{layoutAnswer}
 use Rattle.layout_record.proofs.FieldFaults.{next-refused}
 use Rattle.layout_record.proofs.RowFaults.{few-partitions}
