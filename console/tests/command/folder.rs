@@ -47,8 +47,8 @@ impl Folder {
     }
 
     /// Calls the command with these words, in this folder.
-    pub fn console(&self, words: &str) -> Done {
-        let output = Command::new(env!("CARGO_BIN_EXE_console"))
+    pub fn call(&self, words: &str) -> Done {
+        let output = Command::new(env!("CARGO_BIN_EXE_dezghuri"))
             .current_dir(&self.0)
             .args(words.split_whitespace())
             .output()

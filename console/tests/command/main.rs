@@ -17,7 +17,7 @@ fn planned_home(name: &str) -> Folder {
     let folder = Folder::new(name);
     folder.write("home.txt", HOME);
     folder.write("next.txt", HOME_NEXT);
-    let done = folder.console("plan home.txt --out last");
+    let done = folder.call("plan home.txt --out last");
     assert_eq!(done.status, 0, "{}", done.err);
     folder
 }
@@ -28,7 +28,7 @@ fn planned_home(name: &str) -> Folder {
 fn the_first_plan_of_the_sample() {
     let folder = Folder::new("first");
     folder.write("home.txt", HOME);
-    let done = folder.console("plan home.txt --out last");
+    let done = folder.call("plan home.txt --out last");
     assert_eq!((done.status, done.err.as_str()), (0, ""));
     assert_eq!(done.out, include_str!("first.txt"));
     assert_eq!(folder.names(), ["home.txt", "last"]);
@@ -40,10 +40,10 @@ fn the_first_plan_of_the_sample() {
 #[test]
 fn a_plan_after_a_box_was_replaced() {
     let folder = planned_home("next");
-    let done = folder.console("plan next.txt --former last --out next");
+    let done = folder.call("plan next.txt --former last --out next");
     assert_eq!((done.status, done.err.as_str()), (0, ""));
     assert_eq!(done.out, include_str!("next.txt"));
-    let shown = folder.console("show next.txt next");
+    let shown = folder.call("show next.txt next");
     assert_eq!((shown.status, shown.err.as_str()), (0, ""));
     assert_eq!(shown.out, include_str!("show.txt"));
 }
@@ -52,7 +52,7 @@ fn a_plan_after_a_box_was_replaced() {
 fn nothing_moves_where_nothing_changed() {
     let folder = planned_home("same");
     let before = folder.read("last");
-    let done = folder.console("plan home.txt --former last --out last");
+    let done = folder.call("plan home.txt --former last --out last");
     assert_eq!(done.status, 0, "{}", done.err);
     let told = "Transfers: 0 copies are to be sent, 0 copies are to be dropped.\n";
     assert!(done.out.contains(told), "{}", done.out);
@@ -63,14 +63,14 @@ fn nothing_moves_where_nothing_changed() {
 #[test]
 fn a_stopped_plan_says_what_that_means() {
     let folder = planned_home("stopped");
-    let done = folder.console("plan next.txt --former last --out next --allowance 1");
+    let done = folder.call("plan next.txt --former last --out next --allowance 1");
     assert_eq!((done.status, done.err.as_str()), (0, ""));
     let told =
         "Stopped after 1 improvement: the layout is valid, but another one of this size needs \
                 fewer\ntransfers. A larger allowance comes nearer to it.\nWritten to next.\n";
     assert!(done.out.ends_with(told), "{}", done.out);
-    assert_eq!(folder.console("check next.txt next").status, 0);
-    let shown = folder.console("show next.txt next");
+    assert_eq!(folder.call("check next.txt next").status, 0);
+    let shown = folder.call("show next.txt next");
     let told = "Planned: stopped after 1 improvement, another layout of this size needed fewer \
                 transfers.\n";
     assert!(shown.out.ends_with(told), "{}", shown.out);
@@ -81,7 +81,7 @@ fn a_layout_is_checked() {
     let folder = planned_home("check");
     let checked = |file: &str, text: &str| {
         folder.write(file, text);
-        let done = folder.console(&format!("check {file} last"));
+        let done = folder.call(&format!("check {file} last"));
         (done.status, done.out + &done.err)
     };
     let edited = |from: &str, to: &str| {
@@ -134,9 +134,9 @@ fn a_layout_is_checked() {
 fn zones_are_checked_by_name() {
     let folder = Folder::new("zones");
     folder.write("home.txt", THREE);
-    assert_eq!(folder.console("plan home.txt --out last").status, 0);
+    assert_eq!(folder.call("plan home.txt --out last").status, 0);
     folder.write("one.txt", THREE.replace("home", "shop"));
-    let done = folder.console("check one.txt last");
+    let done = folder.call("check one.txt last");
     let told = "refused 11, not valid: partition 0 lies in 1 zone (shop), 2 are wanted\n";
     assert_eq!((done.status, done.err.as_str()), (1, told));
 }
@@ -145,13 +145,13 @@ fn zones_are_checked_by_name() {
 fn one_partition_is_shown() {
     let folder = Folder::new("row");
     folder.write("home.txt", THREE);
-    assert_eq!(folder.console("plan home.txt --out last").status, 0);
-    let shown = folder.console("show home.txt last 1");
+    assert_eq!(folder.call("plan home.txt --out last").status, 0);
+    let shown = folder.call("show home.txt last 1");
     let row =
         "Partition 1 lies on\n\n  box  name   zone\n    1         shop\n    2  tower  shop\n    \
                3         home\n";
     assert_eq!((shown.status, shown.out.as_str()), (0, row));
-    let beyond = folder.console("show home.txt last 2");
+    let beyond = folder.call("show home.txt last 2");
     let told = "last has 2 partitions, numbered from 0\n";
     assert_eq!((beyond.status, beyond.err.as_str()), (2, told));
 }
@@ -167,20 +167,20 @@ fn a_cluster_record_is_written() {
         &[4, 0, 10, 0, 0, 0, 3, 0, 1, 0, 0, 0, 50],
     ]
     .concat();
-    let done = folder.console("record home.txt");
+    let done = folder.call("record home.txt");
     assert_eq!((done.status, done.bytes), (0, expected.clone()));
-    let done = folder.console("record home.txt --out record");
+    let done = folder.call("record home.txt --out record");
     assert_eq!(
         (done.status, done.out.as_str()),
         (0, "51 bytes written to record.\n")
     );
     assert_eq!(folder.read("record"), expected);
 
-    assert_eq!(folder.console("plan home.txt --out last").status, 0);
+    assert_eq!(folder.call("plan home.txt --out last").status, 0);
     let row = |p| [5, 0, 14, 0, p, 0, 0, 0, 1, 0, 0, 0, 2, 0, 0, 0, 3];
     let with_rows = [expected, row(0).to_vec(), row(1).to_vec()].concat();
     assert_eq!(
-        folder.console("record home.txt --former last").bytes,
+        folder.call("record home.txt --former last").bytes,
         with_rows
     );
 }
@@ -191,7 +191,7 @@ fn no_layout_is_told_with_its_reason_and_nothing_is_written() {
         let folder = Folder::new("none");
         folder.write("home.txt", text);
         folder.write("next", "kept");
-        let done = folder.console("plan home.txt --out next");
+        let done = folder.call("plan home.txt --out next");
         let told = format!("refused 9, there is no layout: {why}\n");
         assert_eq!((done.status, done.err, done.out), (1, told, String::new()));
         assert_eq!(folder.read("next"), b"kept");
@@ -219,7 +219,7 @@ fn a_bad_file_is_told_by_line_and_nothing_is_written() {
     let folder = Folder::new("bad");
     folder.write("home.txt", include_str!("bad.txt"));
     folder.write("next", "kept");
-    let done = folder.console("plan home.txt --out next");
+    let done = folder.call("plan home.txt --out next");
     assert_eq!((done.status, done.out.as_str()), (2, ""));
     assert_eq!(done.err, include_str!("bad-told.txt"));
     assert_eq!(folder.read("next"), b"kept");
@@ -229,7 +229,7 @@ fn a_bad_file_is_told_by_line_and_nothing_is_written() {
         "show home.txt next",
         "record home.txt",
     ] {
-        let done = folder.console(line);
+        let done = folder.call(line);
         assert_eq!(
             (done.status, done.err.as_str()),
             (2, include_str!("bad-told.txt"))
@@ -269,7 +269,7 @@ fn a_damaged_layout_is_refused_and_nothing_is_written() {
             "show home.txt last",
             "show home.txt last 0",
         ] {
-            let done = folder.console(line);
+            let done = folder.call(line);
             assert_eq!(
                 (done.status, &done.err, &done.out[..]),
                 (2, &told, ""),
@@ -284,7 +284,7 @@ fn a_damaged_layout_is_refused_and_nothing_is_written() {
 fn a_former_layout_of_other_partitions_is_refused() {
     let folder = planned_home("bits");
     folder.write("next.txt", HOME_NEXT.replace("zones 2", "zones 2\nbits 7"));
-    let done = folder.console("plan next.txt --former last --out next");
+    let done = folder.call("plan next.txt --former last --out next");
     let told = "last was planned with bits 8, next.txt has bits 7: they cannot change\n";
     assert_eq!((done.status, done.err.as_str()), (2, told));
     assert_eq!(folder.names(), ["home.txt", "last", "next.txt"]);
@@ -298,7 +298,7 @@ fn files_that_are_not_there_are_told() {
         ("plan home.txt --former other --out next", "other"),
         ("check home.txt other", "other"),
     ] {
-        let done = folder.console(line);
+        let done = folder.call(line);
         let told = format!("{file}: No such file or directory (os error 2)\n");
         assert_eq!((done.status, done.err), (2, told), "{line}");
     }
@@ -309,15 +309,15 @@ fn files_that_are_not_there_are_told() {
 fn only_a_file_is_replaced() {
     let folder = planned_home("place");
     std::fs::create_dir(folder.path("folder")).unwrap();
-    let done = folder.console("plan home.txt --out folder");
+    let done = folder.call("plan home.txt --out folder");
     let told = "folder: not written: there is something there that is not a file\n";
     assert_eq!((done.status, done.err.as_str()), (2, told));
-    let done = folder.console("plan home.txt --out nowhere/next");
+    let done = folder.call("plan home.txt --out nowhere/next");
     let told = "nowhere/next: not written: No such file or directory (os error 2)\n";
     assert_eq!((done.status, done.err.as_str()), (2, told));
     std::os::unix::fs::symlink("last", folder.path("link")).unwrap();
     folder.write("last", "old");
-    assert_eq!(folder.console("plan home.txt --out link").status, 0);
+    assert_eq!(folder.call("plan home.txt --out link").status, 0);
     assert_eq!(
         folder.read("last").len(),
         29 + 256 * 17,
@@ -337,7 +337,7 @@ fn the_description_is_never_replaced() {
         "plan home.txt --out ./home.txt",
         "record home.txt --out home.txt",
     ] {
-        let done = folder.console(line);
+        let done = folder.call(line);
         assert_eq!(done.status, 2, "{}", done.err);
         assert!(
             done.err.contains("would replace the description"),
@@ -351,13 +351,13 @@ fn the_description_is_never_replaced() {
 #[test]
 fn faulty_calls_end_with_status_2() {
     let folder = Folder::new("usage");
-    let done = folder.console("plan --speed 7 home.txt");
-    let told = "console: --speed is not an option here\n`console help` says how it is called\n";
+    let done = folder.call("plan --speed 7 home.txt");
+    let told = "dezghuri: --speed is not an option here\n`dezghuri help` says how it is called\n";
     assert_eq!((done.status, done.err.as_str()), (2, told));
-    assert_eq!(folder.console("").status, 2);
-    let help = folder.console("help");
+    assert_eq!(folder.call("").status, 2);
+    let help = folder.call("help");
     assert_eq!(help.status, 0);
     assert!(help
         .out
-        .contains("console plan FILE [--former LAST] [--out NEXT] [--allowance N]"));
+        .contains("dezghuri plan FILE [--former LAST] [--out NEXT] [--allowance N]"));
 }

@@ -24,8 +24,8 @@ impl Failure {
             Failure::Refused(what) => vec![what.clone()],
             Failure::Bad(faults) => faults.clone(),
             Failure::Usage(what) => vec![
-                format!("console: {what}"),
-                "`console help` says how it is called".into(),
+                format!("dezghuri: {what}"),
+                "`dezghuri help` says how it is called".into(),
             ],
         }
     }

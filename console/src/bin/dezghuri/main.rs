@@ -1,4 +1,4 @@
-//! The command `console`: plans for owners of a few boxes, from a plain text file.
+//! The command `dezghuri`: plans for owners of a few boxes, from a plain text file.
 
 #![forbid(unsafe_code)]
 
@@ -34,7 +34,7 @@ fn called() -> Result<(), Failure> {
     let command = args::parse(std::env::args_os().skip(1)).map_err(Failure::Usage)?;
     if matches!(command, Command::Record { out: None, .. }) && io::stdout().is_terminal() {
         let what =
-            "a record is not for the screen: use --out RECORD, or `console record FILE | plan`";
+            "a record is not for the screen: use --out RECORD, or `dezghuri record FILE | plan`";
         return Err(Failure::Usage(what.into()));
     }
     print(&commands::run(&command)?)

@@ -3,19 +3,19 @@
 use std::ffi::OsString;
 use std::path::PathBuf;
 
-/// What `console help` prints.
+/// What `dezghuri help` prints.
 pub const HELP: &str = "\
 Plans where the copies of a cluster of storage boxes lie.
 
-  console plan FILE [--former LAST] [--out NEXT] [--allowance N]
+  dezghuri plan FILE [--former LAST] [--out NEXT] [--allowance N]
       plans the cluster that FILE describes, starting from the layout LAST, and
       writes the layout to NEXT; N improvements at most (0 to 65535; without it
       as many as it takes)
-  console check FILE LAYOUT
+  dezghuri check FILE LAYOUT
       says whether LAYOUT is valid for the cluster that FILE describes
-  console show FILE LAYOUT [PARTITION]
+  dezghuri show FILE LAYOUT [PARTITION]
       shows what the boxes hold, or which boxes hold one partition
-  console record FILE [--former LAST] [--out RECORD]
+  dezghuri record FILE [--former LAST] [--out RECORD]
       writes the cluster record that the program `plan` reads
 
 FILE is a text file:
