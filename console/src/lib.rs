@@ -39,11 +39,13 @@ mod cluster;
 #[allow(unsafe_code)]
 pub mod ffi;
 mod layout;
+mod losses;
 mod plan;
 mod refusal;
 
 pub use check::Figures;
 pub use cluster::{Cluster, Node};
 pub use layout::Layout;
+pub use losses::Losses;
 pub use plan::{Plan, Verdict, ENOUGH};
 pub use refusal::{Place, Refusal, Refused};

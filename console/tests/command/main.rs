@@ -1,6 +1,12 @@
 //! The command as its owner calls it: whole outputs, exit status, and what is in the folder after.
 
 mod folder;
+mod lost;
+mod printed;
+mod record_lines;
+mod replaced;
+mod shown;
+mod told;
 
 use folder::Folder;
 
@@ -99,8 +105,8 @@ fn a_layout_is_checked() {
         checked("smaller.txt", &edited("archive   3T", "archive   2T")),
         (
             1,
-            "refused 12, not valid: box 5 is to hold 154 copies of 19,480 MB, 2,999,920 MB \
-             together, and has 2,000,000 MB\n"
+            "not valid: box 5 is to hold 154 copies of 19,480 MB, 2,999,920 MB together, and has \
+             2,000,000 MB (refused 12)\n"
                 .into()
         )
     );
@@ -108,24 +114,21 @@ fn a_layout_is_checked() {
         checked("fewer.txt", &edited("copies 3", "copies 2")),
         (
             1,
-            "refused 10, not valid: it has 3 copies of each partition, 2 are wanted\n".into()
+            "not valid: it has 3 copies of each partition, 2 are wanted (refused 10)\n".into()
         )
     );
     assert_eq!(
         checked("bits.txt", &edited("copies 3", "bits 7\ncopies 3")),
         (
             1,
-            "refused 10, not valid: it has bits 8, 7 are wanted\n".into()
+            "not valid: it has bits 8, 7 are wanted (refused 10)\n".into()
         )
     );
     let (status, told) = checked("gone.txt", &edited("box 5 ", "box 6 "));
     assert_eq!(status, 1);
+    assert!(told.starts_with("not valid: partition "), "{told}");
     assert!(
-        told.starts_with("refused 10, not valid: partition "),
-        "{told}"
-    );
-    assert!(
-        told.ends_with(" lies on box 5, which is not there\n"),
+        told.ends_with(" lies on box 5, which is not there (refused 10)\n"),
         "{told}"
     );
 }
@@ -137,7 +140,7 @@ fn zones_are_checked_by_name() {
     assert_eq!(folder.call("plan home.txt --out last").status, 0);
     folder.write("one.txt", THREE.replace("home", "shop"));
     let done = folder.call("check one.txt last");
-    let told = "refused 11, not valid: partition 0 lies in 1 zone (shop), 2 are wanted\n";
+    let told = "not valid: partition 0 lies in 1 zone (shop), 2 are wanted (refused 11)\n";
     assert_eq!((done.status, done.err.as_str()), (1, told));
 }
 
@@ -170,10 +173,8 @@ fn a_cluster_record_is_written() {
     let done = folder.call("record home.txt");
     assert_eq!((done.status, done.bytes), (0, expected.clone()));
     let done = folder.call("record home.txt --out record");
-    assert_eq!(
-        (done.status, done.out.as_str()),
-        (0, "51 bytes written to record.\n")
-    );
+    let told = "home.txt makes a cluster record of 51 bytes.\nWritten to record.\n";
+    assert_eq!((done.status, done.out.as_str()), (0, told));
     assert_eq!(folder.read("record"), expected);
 
     assert_eq!(folder.call("plan home.txt --out last").status, 0);
@@ -192,7 +193,7 @@ fn no_layout_is_told_with_its_reason_and_nothing_is_written() {
         folder.write("home.txt", text);
         folder.write("next", "kept");
         let done = folder.call("plan home.txt --out next");
-        let told = format!("refused 9, there is no layout: {why}\n");
+        let told = format!("there is no layout: {why} (refused 9)\n");
         assert_eq!((done.status, done.err, done.out), (1, told, String::new()));
         assert_eq!(folder.read("next"), b"kept");
         assert_eq!(folder.names(), ["home.txt", "next"]);
@@ -245,24 +246,24 @@ fn a_damaged_layout_is_refused_and_nothing_is_written() {
     let damaged = [
         (
             record[..record.len() - 1].to_vec(),
-            "refused 1 at byte 4364: one or two bytes left, or a field's body cut short",
+            "one or two bytes left, or a field's body cut short, at byte 4364 (refused 1)",
         ),
         (
             record[..29].to_vec(),
-            "refused 7 at byte 29: the record ends before a field or row that it must have",
+            "the record ends before a field or row that it must have, at byte 29 (refused 7)",
         ),
         (
             [&record[..], &[10, 0, 14]].concat(),
-            "refused 2 at byte 4381: a tag that is not allowed next",
+            "a tag that is not allowed next, at byte 4381 (refused 2)",
         ),
         (
             vec![],
-            "refused 7 at byte 0: the record ends before a field or row that it must have",
+            "the record ends before a field or row that it must have, at byte 0 (refused 7)",
         ),
     ];
     for (bytes, why) in damaged {
         folder.write("last", &bytes);
-        let told = format!("last: this is not a whole layout record ({why})\n");
+        let told = format!("last: this is not a whole layout record: {why}\n");
         for line in [
             "plan next.txt --former last --out next",
             "check home.txt last",
@@ -315,19 +316,7 @@ fn only_a_file_is_replaced() {
     let done = folder.call("plan home.txt --out nowhere/next");
     let told = "nowhere/next: not written: No such file or directory (os error 2)\n";
     assert_eq!((done.status, done.err.as_str()), (2, told));
-    std::os::unix::fs::symlink("last", folder.path("link")).unwrap();
-    folder.write("last", "old");
-    assert_eq!(folder.call("plan home.txt --out link").status, 0);
-    assert_eq!(
-        folder.read("last").len(),
-        29 + 256 * 17,
-        "what the link points to"
-    );
-    assert!(folder.path("link").is_symlink());
-    assert_eq!(
-        folder.names(),
-        ["folder", "home.txt", "last", "link", "next.txt"]
-    );
+    assert_eq!(folder.names(), ["folder", "home.txt", "last", "next.txt"]);
 }
 
 #[test]
@@ -355,9 +344,28 @@ fn faulty_calls_end_with_status_2() {
     let told = "dezghuri: --speed is not an option here\n`dezghuri help` says how it is called\n";
     assert_eq!((done.status, done.err.as_str()), (2, told));
     assert_eq!(folder.call("").status, 2);
-    let help = folder.call("help");
-    assert_eq!(help.status, 0);
-    assert!(help
-        .out
-        .contains("dezghuri plan FILE [--former LAST] [--out NEXT] [--allowance N]"));
+}
+
+#[test]
+fn help_and_version_are_printed() {
+    let folder = Folder::new("help");
+    for line in [
+        "help",
+        "--help",
+        "-h",
+        "plan --help",
+        "plan home.txt -h",
+        "check -h",
+        "show home.txt last --help",
+        "record -h",
+    ] {
+        let help = folder.call(line);
+        assert_eq!((help.status, help.err.as_str()), (0, ""), "{line}");
+        assert_eq!(help.out, include_str!("help.txt"), "{line}");
+    }
+    for line in ["--version", "-V", "version"] {
+        let version = folder.call(line);
+        assert_eq!((version.status, version.err.as_str()), (0, ""), "{line}");
+        assert_eq!(version.out, "dezghuri 0.1.0\n", "{line}");
+    }
 }

@@ -2,6 +2,11 @@
 
 use std::process::ExitCode;
 
+/// The status of a call to which the planner says no.
+pub const REFUSED: u8 = 1;
+/// The status of a call that is at fault itself, or whose files are.
+const BAD: u8 = 2;
+
 /// What went wrong, in lines for the owner.
 #[derive(Debug, PartialEq, Eq)]
 pub enum Failure {
@@ -31,9 +36,9 @@ impl Failure {
     }
 
     pub fn status(&self) -> ExitCode {
-        match self {
-            Failure::Refused(_) => ExitCode::from(1),
-            Failure::Bad(_) | Failure::Usage(_) => ExitCode::from(2),
-        }
+        ExitCode::from(match self {
+            Failure::Refused(_) => REFUSED,
+            Failure::Bad(_) | Failure::Usage(_) => BAD,
+        })
     }
 }

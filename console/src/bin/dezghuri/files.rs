@@ -1,29 +1,43 @@
-//! Files that are read and written.
+//! Files that are read.
 
 use crate::cluster_file::{self, Described};
 use crate::failure::Failure;
-use dezghuri::{ffi, Plan};
-use std::fs::{self, File, OpenOptions};
-use std::io::{self, Read, Write};
-use std::path::{Path, PathBuf};
+use dezghuri::{ffi, Cluster, Plan};
+use std::fs::{self, File};
+use std::io::{self, Read};
+use std::path::Path;
 
 /// No description of a cluster is longer; what is longer is some other file.
 const LONGEST_TEXT: u64 = 1 << 20;
 
+/// What the program `plan` reads of a cluster record: a longer one is refused within these bytes.
+const RECORD_READ: u64 = 11_000;
+
 /// The cluster that a text file describes.
 pub fn read_description(path: &Path) -> Result<Described, Failure> {
     let text = read_at_most(path, LONGEST_TEXT + 1)?;
-    if text.len() as u64 > LONGEST_TEXT {
-        let what = format!("{}: this is too long to describe a cluster", path.display());
-        return Err(Failure::bad(what));
+    if let Some(what) = other_than_text(&text) {
+        return Err(Failure::bad(format!("{}: {what}", path.display())));
     }
     cluster_file::parse(&text).map_err(|faults| {
-        let told = faults.iter().map(|fault| match fault.line {
-            Some(_) => format!("{}, {fault}", path.display()),
-            None => format!("{}: {fault}", path.display()),
-        });
+        let told = faults.iter().map(|fault| fault.told_of(path));
         Failure::Bad(told.collect())
     })
+}
+
+/// One line for a file that is no text, instead of a fault for each of its lines.
+fn other_than_text(bytes: &[u8]) -> Option<&'static str> {
+    if Plan::from_record(bytes).is_ok() {
+        Some("this is a layout record; the text file comes first")
+    } else if Cluster::from_record(bytes).is_ok() {
+        Some("this is a cluster record; `plan --record` plans it, all else takes a text file")
+    } else if bytes.contains(&0) {
+        Some("this is not a text file")
+    } else if bytes.len() as u64 > LONGEST_TEXT {
+        Some("this is too long to describe a cluster")
+    } else {
+        None
+    }
 }
 
 /// The plan of a layout record. Three bytes past the longest are enough to refuse a longer one.
@@ -31,10 +45,26 @@ pub fn read_plan(path: &Path) -> Result<Plan, Failure> {
     let record = read_at_most(path, ffi::LAYOUT_RECORD_BYTES as u64 + 3)?;
     Plan::from_record(&record).map_err(|refused| {
         Failure::bad(format!(
-            "{}: this is not a whole layout record ({refused})",
+            "{}: this is not a whole layout record: {refused}",
             path.display()
         ))
     })
+}
+
+/// As many bytes of a cluster record as the program `plan` reads; `-` is standard input.
+pub fn read_cluster_record(path: &Path) -> Result<Vec<u8>, Failure> {
+    if path != Path::new("-") {
+        return read_at_most(path, RECORD_READ);
+    }
+    if streams::stdin_was_closed() {
+        return Err(Failure::bad("standard input is closed".into()));
+    }
+    let mut bytes = Vec::new();
+    io::stdin()
+        .take(RECORD_READ)
+        .read_to_end(&mut bytes)
+        .map_err(|error| Failure::bad(format!("standard input: {error}")))?;
+    Ok(bytes)
 }
 
 fn read_at_most(path: &Path, most: u64) -> Result<Vec<u8>, Failure> {
@@ -45,57 +75,10 @@ fn read_at_most(path: &Path, most: u64) -> Result<Vec<u8>, Failure> {
     Ok(bytes)
 }
 
-/// Refuses an output that would replace the description of the cluster.
-pub fn are_two(description: &Path, out: Option<&Path>) -> Result<(), Failure> {
-    let Some(out) = out else { return Ok(()) };
-    match (fs::canonicalize(description), fs::canonicalize(out)) {
-        (Ok(first), Ok(second)) if first == second => Err(Failure::Usage(format!(
-            "--out {} would replace the description of the cluster",
-            out.display()
-        ))),
-        _ => Ok(()),
+/// Whether both names lead to one file that is there.
+pub fn are_one(first: &Path, second: &Path) -> bool {
+    match (fs::canonicalize(first), fs::canonicalize(second)) {
+        (Ok(first), Ok(second)) => first == second,
+        _ => false,
     }
-}
-
-/// Puts the bytes into the file. Should anything fail, power included, what was there stays whole:
-/// they go into a new file beside it, which then takes its name.
-pub fn write_whole(path: &Path, bytes: &[u8]) -> Result<(), Failure> {
-    replace(path, bytes)
-        .map_err(|error| Failure::bad(format!("{}: not written: {error}", path.display())))
-}
-
-fn replace(path: &Path, bytes: &[u8]) -> io::Result<()> {
-    let target = match fs::metadata(path) {
-        Ok(found) if !found.is_file() => {
-            let what = "there is something there that is not a file";
-            return Err(io::Error::new(io::ErrorKind::AlreadyExists, what));
-        }
-        // What a link points to is replaced, and the link stays.
-        Ok(_) => fs::canonicalize(path)?,
-        Err(_) => path.to_path_buf(),
-    };
-    let beside = beside(&target)?;
-    let written = write_new(&beside, bytes).and_then(|()| fs::rename(&beside, &target));
-    if written.is_err() {
-        // The first error is the one to tell.
-        let _ = fs::remove_file(&beside);
-    }
-    written
-}
-
-/// A name for a new file in the same folder.
-fn beside(target: &Path) -> io::Result<PathBuf> {
-    let Some(name) = target.file_name() else {
-        let what = "this names no file";
-        return Err(io::Error::new(io::ErrorKind::InvalidInput, what));
-    };
-    let mut name = name.to_os_string();
-    name.push(format!(".{}.new", std::process::id()));
-    Ok(target.with_file_name(name))
-}
-
-fn write_new(path: &Path, bytes: &[u8]) -> io::Result<()> {
-    let mut file = OpenOptions::new().write(true).create_new(true).open(path)?;
-    file.write_all(bytes)?;
-    file.sync_all()
 }

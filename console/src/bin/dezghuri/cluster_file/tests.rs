@@ -5,7 +5,7 @@ use reference::random::Random;
 
 fn faults(text: &str) -> Vec<String> {
     let faults = parse(text.as_bytes()).expect_err(text);
-    faults.iter().map(Fault::to_string).collect()
+    faults.iter().map(Note::to_string).collect()
 }
 
 const GOOD: &str = "copies 2\nzones 1\nbox 1 a 5\n";
@@ -107,7 +107,7 @@ fn what_is_no_text_is_refused_by_line() {
     let mut bytes = GOOD.as_bytes().to_vec();
     bytes.extend(b"box 2 a\x1b[2J 5\nbox 3 \xff 5\n");
     let faults = parse(&bytes).unwrap_err();
-    let told: Vec<_> = faults.iter().map(Fault::to_string).collect();
+    let told: Vec<_> = faults.iter().map(Note::to_string).collect();
     let expected = [
         "line 4: this has a control character in it",
         "line 5: this is not plain text (UTF-8)",
