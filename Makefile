@@ -20,9 +20,9 @@ test:
 # Plans the sample, then the same cluster after one of its boxes was replaced.
 plan: $(LIBRARY)
 	cargo build --release --quiet $(CONSOLE)
-	$(COMMAND) plan samples/home.txt --out build/home.layout
+	$(COMMAND) plan samples/home.txt --out build/home.layout --replace
 	echo
-	$(COMMAND) plan samples/home-next.txt --former build/home.layout --out build/home-next.layout
+	$(COMMAND) plan samples/home-next.txt --former build/home.layout --out build/home-next.layout --replace
 
 library: $(LIBRARY)
 	echo '$(LIBRARY) is made.'

@@ -143,3 +143,99 @@ pub fn zone_of_several_words<'a>(
     words.extend(&name[..more]);
     Some(words)
 }
+
+#[cfg(test)]
+mod tests {
+    use super::*;
+    use crate::cluster_file;
+
+    #[test]
+    fn names_one_letter_off_are_alike() {
+        for (first, second) in [
+            ("workshop", "worksop"),
+            ("workshop", "workshopp"),
+            ("workshop", "wirkshop"),
+            ("workshop", "wrokshop"),
+            ("home", "homes"),
+            ("home", "hom"),
+            ("home", "dome"),
+            ("b\u{fc}ro", "buro"),
+        ] {
+            assert!(alike(first, second), "{first} {second}");
+            assert!(alike(second, first), "{second} {first}");
+        }
+    }
+
+    #[test]
+    fn names_that_count_or_differ_are_not_alike() {
+        for (first, second) in [
+            ("a", "b"),
+            ("hut", "but"),
+            ("home", "shop"),
+            ("north", "south"),
+            ("house1", "house2"),
+            ("house", "house2"),
+            ("room-a", "room-b"),
+            ("a-room", "b-room"),
+            ("wing_a_east", "wing_b_east"),
+            ("workshop", "wroskhop"),
+        ] {
+            assert!(!alike(first, second), "{first} {second}");
+            assert!(!alike(second, first), "{second} {first}");
+        }
+    }
+
+    fn warnings(boxes: &str) -> Vec<String> {
+        let text = format!("copies 1\nzones 1\n{boxes}");
+        let described = cluster_file::parse(text.as_bytes()).expect("no fault");
+        described.warnings.iter().map(Note::to_string).collect()
+    }
+
+    #[test]
+    fn small_boxes_are_told_beside_the_middle_one() {
+        let small = |line: usize, id: usize, megabytes: &str| {
+            format!(
+                "line {line}: box {id} has {megabytes} MB, a thousandth of what others have, or \
+                 less: is a G or T missing?"
+            )
+        };
+        let none: [String; 0] = [];
+        assert_eq!(warnings("box 1 a 4\nbox 2 a 4T\n"), [small(3, 1, "4")]);
+        assert_eq!(
+            warnings("box 1 a 4G\nbox 2 a 4T\nbox 3 a 0\n"),
+            [small(3, 1, "4,000")]
+        );
+        assert_eq!(warnings("box 1 a 4001\nbox 2 a 4T\n"), none);
+        assert_eq!(warnings("box 1 a 4\n"), none);
+        assert_eq!(warnings("box 1 a 0\n"), none);
+        let one_large = "box 1 a 4G\nbox 2 a 4G\nbox 3 a 4000T\n";
+        assert_eq!(warnings(one_large), none);
+    }
+
+    #[test]
+    fn a_remark_stands_apart() {
+        let none: [String; 0] = [];
+        assert_eq!(
+            warnings("# box 1\n#box 2\nbox 1 a 5 # one\nbox 2 a 5 ## two\n"),
+            none
+        );
+        assert_eq!(warnings("box 1 a 5 #\nbox 2 a 5 tower #\r\n"), none);
+        let told = "line 3: # begins a remark, so box 1 has the name 'rack'; a remark has a space \
+                    before and after its #";
+        assert_eq!(warnings("box 1 a 5 rack#4\n"), [told]);
+        assert_eq!(warnings("box 1 a 5 rack #4\n"), [told]);
+        assert_eq!(warnings("box 1 a 5 rack# 4\n"), [told]);
+    }
+
+    #[test]
+    fn units_in_words_are_told_where_the_number_has_none() {
+        let told = |word: &str, written: &str| {
+            format!("line 3: box 1 has 5 MB, and '{word}' is in its name: write {written} if that is its unit")
+        };
+        assert_eq!(warnings("box 1 a 5 Terabytes\n"), [told("Terabytes", "5T")]);
+        assert_eq!(warnings("box 1 a 5 gigs x\n"), [told("gigs", "5G")]);
+        let none: [String; 0] = [];
+        assert_eq!(warnings("box 1 a 5T terabyte\n"), none);
+        assert_eq!(warnings("box 1 a 5 tower\n"), none);
+    }
+}
