@@ -6,6 +6,8 @@
 //! partition that the disks allow, then, among all layouts of that size, one that lies nearest to
 //! the former layout.
 //!
+//! [`Cluster::losses`] names the partitions of which the nodes that are gone had the last copies.
+//!
 //! What is computed is computed by the C functions of `include/dezghuri.h`, whose contracts are
 //! proved; this library lends them their buffers and names their answers. [`ffi`] has them one for
 //! one.

@@ -316,6 +316,7 @@ fn only_a_file_is_replaced() {
     let done = folder.call("plan home.txt --out nowhere/next");
     let told = "nowhere/next: not written: No such file or directory (os error 2)\n";
     assert_eq!((done.status, done.err.as_str()), (2, told));
+    assert_eq!(done.out, "", "it is known before anything is printed");
     assert_eq!(folder.names(), ["folder", "home.txt", "last", "next.txt"]);
 }
 

@@ -43,6 +43,16 @@ fn what_is_no_text_at_all_is_told_in_one_line() {
     }
 }
 
+/// There are lines with a box, so none is told to be missing.
+#[test]
+fn boxes_that_are_all_at_fault_are_told_by_line() {
+    let folder = Folder::new("all-bad");
+    folder.write("home.txt", include_str!("all-bad.txt"));
+    let done = folder.call("plan home.txt --out next");
+    assert_eq!((done.status, done.out.as_str()), (2, ""));
+    assert_eq!(done.err, include_str!("all-bad-told.txt"));
+}
+
 /// Each slip is warned of, and nothing else; all is done all the same. Nine boxes make a record of
 /// 12 + 9 * 13 bytes.
 #[test]

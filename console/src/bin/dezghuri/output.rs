@@ -138,7 +138,10 @@ fn not_written(path: &Path, error: &io::Error) -> Failure {
 fn look(path: &Path, kind: Kind) -> io::Result<Option<Found>> {
     let is_link = match fs::symlink_metadata(path) {
         Ok(there) => there.is_symlink(),
-        Err(error) if error.kind() == ErrorKind::NotFound => return Ok(None),
+        Err(error) if error.kind() == ErrorKind::NotFound => {
+            fs::metadata(folder_of(path))?;
+            return Ok(None);
+        }
         Err(error) => return Err(error),
     };
     let there = fs::metadata(path).map_err(|error| match error.kind() {
@@ -198,13 +201,10 @@ fn keep(found: &Found) -> io::Result<Option<PathBuf>> {
     let old = old_of(&found.target);
     let spare = beside(&found.target, "old")?;
     // Not every file system gives a file two names; a copy serves as well.
-    if fs::hard_link(&found.target, &spare).is_err() {
-        write_new(&spare, &found.bytes, Some(found))?;
-    }
-    let kept = make_room(&old, &found.bytes).and_then(|older| {
-        fs::rename(&spare, &old)?;
-        Ok(older)
-    });
+    let kept = fs::hard_link(&found.target, &spare)
+        .or_else(|_| write_new(&spare, &found.bytes, Some(found)))
+        .and_then(|()| make_room(&old, &found.bytes))
+        .and_then(|older| fs::rename(&spare, &old).map(|()| older));
     // It is still there where something failed, or where both were names of one file already.
     let _ = fs::remove_file(&spare);
     sync_folder(&old);
@@ -261,11 +261,14 @@ fn beside(target: &Path, ending: &str) -> io::Result<PathBuf> {
     }
 }
 
-/// Makes the names in the folder last through a loss of power, where the file system can.
-fn sync_folder(path: &Path) {
-    let folder = match path.parent() {
+fn folder_of(path: &Path) -> &Path {
+    match path.parent() {
         Some(parent) if parent != Path::new("") => parent,
         _ => Path::new("."),
-    };
-    let _ = File::open(folder).and_then(|folder| folder.sync_all());
+    }
+}
+
+/// Makes the names in the folder last through a loss of power, where the file system can.
+fn sync_folder(path: &Path) {
+    let _ = File::open(folder_of(path)).and_then(|folder| folder.sync_all());
 }
