@@ -43,6 +43,20 @@ fn what_is_no_text_at_all_is_told_in_one_line() {
     }
 }
 
+#[test]
+fn a_text_in_the_place_of_the_layout_is_told() {
+    let folder = planned_home("two-texts");
+    for line in [
+        "check home.txt next.txt",
+        "show home.txt next.txt",
+        "plan home.txt --former next.txt --out next",
+    ] {
+        let done = folder.call(line);
+        let told = "next.txt: this is a text file, and not a layout record\n";
+        assert_eq!((done.status, done.err.as_str()), (2, told), "{line}");
+    }
+}
+
 /// There are lines with a box, so none is told to be missing.
 #[test]
 fn boxes_that_are_all_at_fault_are_told_by_line() {

@@ -44,11 +44,18 @@ fn other_than_text(bytes: &[u8]) -> Option<&'static str> {
 pub fn read_plan(path: &Path) -> Result<Plan, Failure> {
     let record = read_at_most(path, ffi::LAYOUT_RECORD_BYTES as u64 + 3)?;
     Plan::from_record(&record).map_err(|refused| {
-        Failure::bad(format!(
-            "{}: this is not a whole layout record: {refused}",
-            path.display()
-        ))
+        let what = match is_text(&record) {
+            true => "this is a text file, and not a layout record".into(),
+            false => format!("this is not a whole layout record: {refused}"),
+        };
+        Failure::bad(format!("{}: {what}", path.display()))
     })
+}
+
+/// Whether there is text and no byte that texts do not have; every record has such bytes.
+fn is_text(bytes: &[u8]) -> bool {
+    let of_text = |byte: &u8| *byte >= b' ' || b"\t\r\n".contains(byte);
+    !bytes.is_empty() && bytes.iter().all(of_text)
 }
 
 /// As many bytes of a cluster record as the program `plan` reads; `-` is standard input.

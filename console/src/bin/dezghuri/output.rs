@@ -113,20 +113,24 @@ impl Output {
             None => &self.path,
         };
         let fresh = beside(target, "new")?;
-        let put = write_new(&fresh, &self.bytes, self.found.as_ref()).and_then(|()| {
-            let kept = match &self.found {
-                Some(found) => keep(found)?,
-                None => None,
-            };
-            fs::rename(&fresh, target)?;
-            sync_folder(target);
-            Ok(kept)
-        });
+        write_new(&fresh, &self.bytes, self.found.as_ref())?;
+        let put = self.take_name(&fresh, target);
         if put.is_err() {
             // The first error is the one to tell.
             let _ = fs::remove_file(&fresh);
         }
         put
+    }
+
+    /// Gives the new file the name, once what has it is kept.
+    fn take_name(&self, fresh: &Path, target: &Path) -> io::Result<Option<PathBuf>> {
+        let kept = match &self.found {
+            Some(found) => keep(found)?,
+            None => None,
+        };
+        fs::rename(fresh, target)?;
+        sync_folder(target);
+        Ok(kept)
     }
 }
 
@@ -201,11 +205,11 @@ fn keep(found: &Found) -> io::Result<Option<PathBuf>> {
     let old = old_of(&found.target);
     let spare = beside(&found.target, "old")?;
     // Not every file system gives a file two names; a copy serves as well.
-    let kept = fs::hard_link(&found.target, &spare)
-        .or_else(|_| write_new(&spare, &found.bytes, Some(found)))
-        .and_then(|()| make_room(&old, &found.bytes))
-        .and_then(|older| fs::rename(&spare, &old).map(|()| older));
-    // It is still there where something failed, or where both were names of one file already.
+    fs::hard_link(&found.target, &spare)
+        .or_else(|_| write_new(&spare, &found.bytes, Some(found)))?;
+    let kept =
+        make_room(&old, &found.bytes).and_then(|older| fs::rename(&spare, &old).map(|()| older));
+    // It is still there where that failed, or where both were names of one file already.
     let _ = fs::remove_file(&spare);
     sync_folder(&old);
     kept
@@ -225,15 +229,23 @@ fn make_room(old: &Path, bytes: &[u8]) -> io::Result<Option<PathBuf>> {
     Ok(Some(free))
 }
 
-/// A new file with these bytes, which stays the owner's and as open to others as the one found.
+/// A new file with these bytes, as open to others as the one found; where it fails, none is left.
 fn write_new(path: &Path, bytes: &[u8], like: Option<&Found>) -> io::Result<()> {
     let mode = like.map_or(0o666, |_| 0o600);
     let mut options = OpenOptions::new();
     let mut file = options.write(true).create_new(true).mode(mode).open(path)?;
+    let filled = fill(&mut file, bytes, like);
+    if filled.is_err() {
+        let _ = fs::remove_file(path);
+    }
+    filled
+}
+
+fn fill(file: &mut File, bytes: &[u8], like: Option<&Found>) -> io::Result<()> {
     file.write_all(bytes)?;
     if let Some(like) = like {
         // Only root may give a file away; for others it is theirs already.
-        let _ = fchown(&file, Some(like.owner.0), Some(like.owner.1));
+        let _ = fchown(&*file, Some(like.owner.0), Some(like.owner.1));
         file.set_permissions(fs::Permissions::from_mode(like.mode))?;
     }
     file.sync_all()
