@@ -22,7 +22,7 @@ use Rattle.layout_record.specs.RecordLayout.{headTable, inRange, HasLayo
 use Rattle.layout_record.specs.RecordLayoutFaults.{LayoutRead, layoutAccepted, HeadRead, HeadEnds, HeadRefused, headFrom, rowsFrom, readLayout, rowFits, rowsFit, writeFault}
 use Rattle.layout_record.specs.RecordLayoutAnswer.{layoutAnswer, readLayoutOf, assignmentRead, writeAnswer, outAfter}
 use Rattle.layout_record.proofs.RecordLaws.{length-record}
-use Rattle.layout_record.specs.RecordLayoutClaims.{Words, ReadsLayout, WasRead, CanWrite, WritesLayout, WasWritten}
+use Rattle.layout_record.specs.RecordLayoutClaims.{Words, WasRecord, ReadsLayout, WasRead, CanWrite, WritesLayout, WasWritten}
 use Rattle.layout_record.proofs.NumberFields.{few-bits, few-copies}
 use Rattle.layout_record.proofs.HeadExact.{head-refused, head-back, head-found}
 use Rattle.layout_record.proofs.RowsExact.{rows-back, rows-found}
@@ -33,17 +33,11 @@ use Rattle.layout_record.proofs.RowSteps.{read-halted, read-on, read-sh
 -- ---- reading
 
 -- A reading without refusal read a record.
-pub record ReadAsRecord (s : List ℕ) : Type 0 where
-  pub numbers : Numbers
-  pub layout : Layout
-  pub outcome : readLayout s ≡ layoutAccepted numbers layout
-  pub is : IsLayoutRecord s numbers layout
-
-pub accepts : (s : List ℕ) → Bytes s → readLayout s .refusal ≡ 0 → ReadAsRecord s
+pub accepts : (s : List ℕ) → Bytes s → readLayout s .refusal ≡ 0 → WasRecord s
 unfolding layoutRecord
 accepts s b z = go (headFrom headTable s 0 []) refl
   where
-    go : (h : HeadRead) → headFrom headTable s 0 [] ≡ h → ReadAsRecord s
+    go : (h : HeadRead) → headFrom headTable s 0 [] ≡ h → WasRecord s
     go (HeadRefused r y) e = absurd (omega (arith, head-refused s r y e, ap (λ (o : LayoutRead). o .refusal) (read-halted s r y e)))
     go (HeadEnds n end) e =
         let on = read-on s n end e in

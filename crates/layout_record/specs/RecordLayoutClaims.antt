@@ -9,6 +9,7 @@ use lib.ListN.{length, take, drop, getD}
 use Rattle.cluster.specs.Terms.{layoutCells, Layout, cellsOf}
 use Rattle.layout_record.specs.declared.Numbers.{Numbers}
 use Rattle.layout_record.specs.RecordLayout.{inRange, HasLayout, layoutRecord, IsLayoutRecord}
+use Rattle.layout_record.specs.RecordLayoutFaults.{layoutAccepted, readLayout}
 use Rattle.layout_record.specs.RecordLayoutAnswer.{readLayoutOf, assignmentRead, writeAnswer, outAfter}
 
 -- Cells are numbers of 32 bits.
@@ -16,6 +17,13 @@ abbrev pub Words : List ℕ → Type 0
 Words l = (i : ℕ) → getD l i 0 < 2 ^ 32
 
 -- ---- reading
+
+-- What is read without refusal: the record of these numbers and of this layout.
+pub record WasRecord (s : List ℕ) : Type 0 where
+  pub numbers : Numbers
+  pub layout : Layout
+  pub outcome : readLayout s ≡ layoutAccepted numbers layout
+  pub is : IsLayoutRecord s numbers layout
 
 -- What the caller has of a record that is read: its numbers, and all 2,048 cells of its layout.
 pub record ReadsLayout (s cells : List ℕ) (n : Numbers) (L : Layout) : Type 0 where
