@@ -1,12 +1,17 @@
 //! The command as its owner calls it: whole outputs, exit status, and what is in the folder after.
 
+mod compared;
 mod folder;
 mod lost;
+mod objects;
 mod printed;
+mod read_json;
 mod record_lines;
 mod replaced;
 mod shown;
 mod told;
+mod tried;
+mod why;
 
 use folder::Folder;
 
@@ -359,6 +364,8 @@ fn help_and_version_are_printed() {
         "check -h",
         "show home.txt last --help",
         "record -h",
+        "diff --help",
+        "what-if -h",
     ] {
         let help = folder.call(line);
         assert_eq!((help.status, help.err.as_str()), (0, ""), "{line}");

@@ -15,7 +15,11 @@ pub fn no_plan(described: &Description, refused: Refused) -> String {
     let (copies, wanted) = (cluster.replication.into(), cluster.redundancy.into());
     let why = if usable.len() < copies {
         format!(
-            "{copies} copies need {copies} boxes with disk space, and {}",
+            "{} with disk space, and {}",
+            match copies {
+                1 => "1 copy needs 1 box".into(),
+                _ => format!("{copies} copies need {copies} boxes"),
+            },
             count(usable.len() as u64, "has any", "have any")
         )
     } else if zones.len() < wanted {

@@ -9,25 +9,23 @@ use dezghuri::{Counts, Description, Plan, Unused};
 /// no owner asks.
 const FAR: u64 = 100;
 
-/// The sentences that tell why the size of a finished or stopped plan is no larger; nothing where
-/// it is as large as can be hoped for.
+/// The sentences that tell why the size of a plan is no larger; nothing where it is about as large
+/// as can be hoped for.
 pub fn not_more(described: &Description, plan: &Plan, hope: u64) -> String {
     let size = u64::from(plan.size);
     if (hope - size) * FAR < hope {
         return String::new();
     }
-    let counts = counts(described, plan);
+    let (cluster, counts) = (&described.cluster, counts(described, plan));
     let mut why = Vec::new();
     if counts.lack_zones() && !counts.whole_zones.is_empty() {
         why.push(zones_bind(described, &counts, size));
     }
-    if counts.lack_room() {
-        why.push(match counts.whole_nodes.is_empty() {
-            true => disks_bind(&counts),
-            false => boxes_bind(described, &counts, size),
-        });
+    // Where as many zones are wanted as copies, the zones tell all.
+    if counts.lack_room() && (why.is_empty() || cluster.redundancy < cluster.replication) {
+        why.push(boxes_bind(described, &counts, size));
     }
-    format!("Why not more: {}\n", why.join("\nAlso: "))
+    format!("Why not more: {}\n", why.join("\nAlso, "))
 }
 
 /// The counts at the next size, at which one of them falls short.
@@ -37,15 +35,18 @@ fn counts(described: &Description, plan: &Plan) -> Counts {
 
 /// Zones with room for everything count once each; the others must take what is left.
 fn zones_bind(described: &Description, counts: &Counts, size: u64) -> String {
-    let cluster = &described.cluster;
-    let wanted = u64::from(cluster.redundancy);
+    let wanted = u64::from(described.cluster.redundancy);
     let whole = zone_names(described, &counts.whole_zones);
     let left = wanted - counts.whole_zones.len() as u64;
+    let others = zone_names(described, &counts.part_zones);
+    let others = match counts.part_zones.len() {
+        1 => format!("the other zone, {others}, has"),
+        _ => format!("the other zones, {others}, have"),
+    };
     format!(
-        "each partition lies in at least {}. Even with every partition in {whole}, the other zones \
-         ({}) have no room for {} of each at more than {} MB. More disk in {whole} would not help.",
+        "each partition lies in at least {}, and besides {whole} {others} no room for {} of each \
+         above {} MB.\nMore disk in {whole} would not help.",
         count(wanted, "zone", "zones"),
-        zone_names(described, &counts.part_zones),
         count(left, "more copy", "more copies"),
         thousands(size),
     )
@@ -55,35 +56,29 @@ fn zones_bind(described: &Description, counts: &Counts, size: u64) -> String {
 fn boxes_bind(described: &Description, counts: &Counts, size: u64) -> String {
     let cluster = &described.cluster;
     let whole = &counts.whole_nodes;
-    let named = listed(whole.iter());
+    if whole.is_empty() {
+        return format!(
+            "at {} MB a partition the disks together have room for {}, and {}.",
+            thousands(counts.size),
+            count(counts.room, "copy", "copies"),
+            count(counts.wanted, "is wanted", "are wanted"),
+        );
+    }
     let (boxes, disks) = match whole.len() {
         1 => ("box", "A larger disk"),
         _ => ("boxes", "Larger disks"),
     };
+    let boxes = format!("{boxes} {}", listed(whole.iter()));
     let left = u64::from(cluster.replication) - whole.len() as u64;
-    let others = (cluster.nodes.len() - whole.len()) as u64;
+    let others = match cluster.nodes.len() - whole.len() {
+        1 => "the other box has".into(),
+        others => format!("the other {others} boxes have"),
+    };
     format!(
-        "a box holds each partition once at most. Even with every partition on {boxes} {named}, the \
-         {} no room for {} of each at more than {} MB. {disks} in {boxes} {named} would not help.",
-        count_others(others),
+        "a box holds each partition once at most, and besides {boxes} {others} no room for {} of \
+         each above {} MB.\n{disks} in {boxes} would not help.",
         count(left, "more copy", "more copies"),
         thousands(size),
-    )
-}
-
-fn count_others(others: u64) -> String {
-    match others {
-        1 => "other box has".into(),
-        _ => format!("other {} have", count(others, "box", "boxes")),
-    }
-}
-
-fn disks_bind(counts: &Counts) -> String {
-    format!(
-        "at {} MB a partition the disks together take {}, and {} are wanted.",
-        thousands(counts.size),
-        count(counts.room, "whole copy", "whole copies"),
-        thousands(counts.wanted),
     )
 }
 

@@ -154,8 +154,16 @@ impl<'a> Compared<'a> {
 
     fn in_words(&self) -> String {
         let (all, unit) = (self.all(), self.unit());
+        let gone = self.boxes.iter().filter(|line| !line.is_present);
+        let gone = match sum(gone.map(|line| line.moved)).dropped {
+            0 => String::new(),
+            gone => format!(
+                ", {} of them on boxes that are not there any more",
+                thousands(gone)
+            ),
+        };
         format!(
-            "Comes: {}, {} {}. Goes: {}, {} {2}. Stays: {}.\n\
+            "Comes: {}, {} {}. Goes: {}, {} {2}{gone}. Stays: {}.\n\
              A copy that comes takes the size of the new layout, one that goes that of the old one: \
              as much as it\ntakes once its partition has grown to that.\n",
             count(all.received, "copy", "copies"),

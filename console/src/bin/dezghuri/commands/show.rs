@@ -48,25 +48,30 @@ pub fn run(
 impl Seen<'_> {
     fn overview(mut self) -> Answer {
         let plan = self.plan.clone();
-        let mut members = self.members();
-        members.push(("wanted", wanted(&self.described.cluster)));
         let (overview, refused) = match Overview::of_valid(&self.described, &plan) {
             Ok(overview) => (overview, None),
             Err(refused) => (Overview::of_other(&self.described, &plan), Some(refused)),
         };
         let why = refused.map(|refused| explain::not_valid(&self.described, &plan, refused));
-        members.push(("valid", refused.is_none().into()));
-        members.push(("why", why.clone().into()));
-        members.extend(overview.json(None));
-        let text = match why {
-            None => [heading(self.file, &self.described), overview.past()].concat(),
-            Some(why) => {
-                self.described.cluster.former = plan.layout.clone();
-                self.described.cluster.bits = plan.bits;
-                let lost = lost_lines(&self.described);
-                [lost, self.other_heading(&why), overview.past()].concat()
-            }
+        let mut members = self.members();
+        members.extend([
+            ("wanted", wanted(&self.described.cluster)),
+            ("valid", refused.is_none().into()),
+            ("refusal", refused.map(|no| no.refusal.number()).into()),
+            ("why", why.clone().into()),
+        ]);
+        let heading = match &why {
+            None => heading(self.file, &self.described),
+            Some(why) => self.other_heading(why),
         };
+        // What the layout has on boxes that are gone is lost, as it is for a plan made from it.
+        self.described.cluster.former = plan.layout.clone();
+        self.described.cluster.bits = plan.bits;
+        let losses = self.described.cluster.losses();
+        members.push(("lost", Json::list(losses.none_left)));
+        members.push(("at_risk", Json::list(losses.one_left)));
+        members.extend(overview.json(None));
+        let text = [lost_lines(&self.described), heading, overview.past()].concat();
         Answer::with_json(text, members)
     }
 
