@@ -59,6 +59,19 @@ fn a_plan_after_a_box_was_replaced() {
     assert_eq!(shown.out, include_str!("show.txt"));
 }
 
+/// The README's sample is that plan, under other names.
+#[test]
+fn the_readme_shows_what_is_printed() {
+    let printed = include_str!("next.txt").replace("next.txt", "shop.txt");
+    let printed = printed.replace("Written to next.", "Written to shop-next.layout.");
+    let indented = |line: &str| match line {
+        "" => "\n".into(),
+        line => format!("    {line}\n"),
+    };
+    let sample: String = printed.lines().map(indented).collect();
+    assert!(include_str!("../../../README.md").contains(&sample));
+}
+
 #[test]
 fn nothing_moves_where_nothing_changed() {
     let folder = planned_home("same");
