@@ -1,18 +1,18 @@
 -- From a machine that improves layouts step by step to the rules of planning by allowance.
 -- Assumes nothing.
 use mathlib.Core.List.{[]}
-use Prim.Native.Nat.{ℕ, zero, suc, _+_, _*_, _≤_, _<_, min}
-use mathlib.Core.Path.{_≡_, sym, ap, _∙_, subst}
+use Prim.Native.Nat.{ℕ, _+_, _*_, _≤_, _<_, min}
+use mathlib.Core.Path.{_≡_, ap, _∙_}
 use mathlib.Core.Bool.{Bool, true, false, not}
 use mathlib.Core.Logic.{_⊎_, ⊎-elim}
 use native.Mathlib.Omega.{arith}
 use lib.ListN.{length}
 use Rattle.sums.proofs.Sum.{lt-or-ge}
 use Rattle.cluster.specs.Terms.{Topology, partitions, Layout, row, ValidAt, IsSize, distance}
-use Rattle.improve.specs.ModelRun.{Ran, after, run}
+use Rattle.improve.specs.ModelRun.{Ran, run}
 use Rattle.planner.specs.Demand.{Answer, Finished, Stopped, Rules}
 use Rattle.sums.proofs.Tests.{true-or-false}
-use Rattle.improve.proofs.Runs.{not-both, run-is, after-next, stopped-improves, finished-done, stopped-spent, finished-larger, finished-smallest, stopped-next}
+use Rattle.improve.proofs.Runs.{not-both, run-is, run-keeps, stopped-improves, finished-done, stopped-spent, finished-larger, finished-smallest, stopped-next}
 
 module _ (t : Topology) (F : Layout) (s : ℕ) {A : Type 0} (improves : A → Bool) (next : A → A) (lay : A → Layout) (far : A → ℕ) (start : A) (Good : A → Type 0) where
   -- States that stand for layouts valid at the size s: an improvement brings the layout nearer, and where there is none, no layout is nearer.
@@ -25,7 +25,7 @@ module _ (t : Topology) (F : Layout) (s : ℕ) {A : Type 0} (improves : A → Bo
     pub falls : (x : A) → Good x → improves x ≡ true → far (next x) + 2 ≤ far x
     pub bounded : (x : A) → Good x → improves x ≡ true → far x ≤ far (next x) + 2 * length (t .nodes)
     pub nearest : (x : A) → Good x → improves x ≡ false → (L : Layout) → ValidAt t L s → far x ≤ distance t L F
-    pub near : (x : A) → Good x → far start ≤ far x + 2 * 2048
+    pub enough : run improves next 2048 start .finished ≡ true
     pub blank : ((p : ℕ) → p < partitions t → row F p ≡ []) → (improves start ≡ false) × (far start ≡ t .replication * partitions t)
 
   -- The answer with an allowance.
@@ -35,24 +35,12 @@ module _ (t : Topology) (F : Layout) (s : ℕ) {A : Type 0} (improves : A → Bo
       record { layout = lay (r .state); size = s; distance = far (r .state); finished = r .finished; improvements = r .steps }
 
   module _ (machine : Machine) where
-    -- All states on the way are good, and each improvement brought its layout two nearer at least.
-    on-the-way : (n : ℕ) → ((j : ℕ) → j < n → improves (after improves next j start) ≡ true)
-        → Good (after improves next n start) × (far (after improves next n start) + 2 * n ≤ far start)
-    unfolding after
-    on-the-way zero h = (machine .starts, omega arith)
-    on-the-way (suc n) h =
-        let w = on-the-way n (λ j l. h j (omega arith)) in
-        let can = h n (omega arith) in
-        subst (λ (x : A). Good x × (far x + 2 * suc n ≤ far start)) (sym (after-next improves next n start))
-        (machine .stays _ (w .0) can, omega (arith, w .1, machine .falls _ (w .0) can))
-
     abbrev state : ℕ → A
     state a = run improves next a start .state
 
+    -- All states that a run ends in are good.
     pub good : (a : ℕ) → Good (state a)
-    good a =
-        let x = run-is improves next a start in
-        subst Good (sym (x .there)) (on-the-way (run improves next a start .steps) (x .before) .0)
+    good a = run-keeps improves next Good (machine .stays) a start (machine .starts)
 
     stopped : (a : ℕ) → run improves next a start .finished ≡ false → Stopped t answer a
     stopped a e =
@@ -81,37 +69,17 @@ module _ (t : Topology) (F : Layout) (s : ℕ) {A : Type 0} (improves : A → Bo
           larger = λ b l. same-answer b a (finished-larger improves next start a e b (omega (arith, steps-few a)));
         }
 
-    -- 2,048 improvements always finish: each brings the layout two nearer, and it is at most twice as far from the nearest.
-    enough : run improves next 2048 start .finished ≡ true
-    enough =
-        ⊎-elim (λ e. e)
-        (λ e.
-        let x = run-is improves next 2048 start in
-        let w = on-the-way (run improves next 2048 start .steps) (x .before) in
-        let can = stopped-improves improves next start 2048 e in
-        let g = good 2048 in
-        absurd
-        (omega (
-          arith,
-          w .1,
-          ap far (x .there),
-          stopped-spent improves next start 2048 e,
-          machine .falls (state 2048) g can,
-          machine .near (next (state 2048)) (machine .stays (state 2048) g can),
-        )))
-        (true-or-false (run improves next 2048 start .finished))
-
     counted : (a : ℕ) → run improves next a start .steps ≡ min a (run improves next 2048 start .steps)
     counted a =
         ⊎-elim
         (λ e.
-        let l = finished-smallest improves next start a e 2048 enough in
+        let l = finished-smallest improves next start a e 2048 (machine .enough) in
         let q = ap (λ (r : Ran A). r .steps) (finished-larger improves next start a e 2048 l) in
         omega (arith, steps-few a, q))
         (λ e.
         ⊎-elim (λ l. omega (arith, stopped-spent improves next start a e))
         (λ g. absurd (not-both (run improves next a start .finished)
-        (ap (λ (r : Ran A). r .finished) (finished-larger improves next start 2048 enough a g) ∙ enough) e))
+        (ap (λ (r : Ran A). r .finished) (finished-larger improves next start 2048 (machine .enough) a g) ∙ machine .enough) e))
         (lt-or-ge a (run improves next 2048 start .steps)))
         (true-or-false (run improves next a start .finished))
 
@@ -143,6 +111,6 @@ module _ (t : Topology) (F : Layout) (s : ℕ) {A : Type 0} (improves : A → Bo
           finished = finished;
           exactly = exactly;
           counted = counted;
-          enough = enough;
+          enough = machine .enough;
           nothing-former = λ h. let b = machine .blank h in (ap not (b .0), b .1);
         }

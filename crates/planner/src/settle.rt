@@ -8,7 +8,7 @@ ghost use Rattle.cluster.specs.Terms.{topology, partitions, cellsOf, faultOf};
 ghost use Rattle.masks.specs.ModelMasks.{rowsFormed, idsTotal};
 ghost use Rattle.sizing.specs.ModelSizing.{Fits32, sizeOf};
 ghost use Rattle.improve.specs.ModelImprove.{agreementIn};
-ghost use Rattle.planner.specs.ModelPlan.{ranFrom};
+ghost use Rattle.planner.specs.ModelPlan.{dealtAt, ranFrom};
 ghost use Rattle.planner.specs.TermsPlan.{answerOf, answered};
 use super::Planned;
 use super::refuse;
@@ -25,9 +25,9 @@ pub(crate) fn improved(
     rows: &mut [u32],
 ) -> Ended
     requires { ⌜ (faultOf c ≡ 0) × (now rows ≡ replicate 256 0) ⌝ }
-    ensures { λ r. ⌜ (now (rows .exit) ≡ ranFrom (topology c) size (now (before .entry)) allowance .state)
-        × (r .finished ≡ ranFrom (topology c) size (now (before .entry)) allowance .finished)
-        × (r .improvements ≡ ranFrom (topology c) size (now (before .entry)) allowance .steps)
+    ensures { λ r. ⌜ (now (rows .exit) ≡ ranFrom (topology c) size (now (before .entry)) (dealtAt (topology c) size) allowance .state)
+        × (r .finished ≡ ranFrom (topology c) size (now (before .entry)) (dealtAt (topology c) size) allowance .finished)
+        × (r .improvements ≡ ranFrom (topology c) size (now (before .entry)) (dealtAt (topology c) size) allowance .steps)
         × Fits32 (topology c) ⌝ }
 {
     let partitions = refuse::partitions(c.bits);
