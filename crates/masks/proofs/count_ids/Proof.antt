@@ -7,14 +7,14 @@ use mathlib.Core.Path.{_≡_, refl, ap, _∙_}
 use borrow.Author.Tests.{le-leb, lt-leb}
 use Rattle.sums.specs.TermsSums.{sumTo}
 use Rattle.cluster.specs.Terms.{bufferRows}
-use Rattle.cluster.specs.ModelRows.{rowIds}
+use Rattle.cluster.specs.ModelRows.{illFormed, rowIds}
 use Rattle.masks.specs.ModelMasks.{idsTotal}
 use Rattle.masks.proofs.Rows.{row-ids-le, sum-more}
 use Rattle.masks.proofs.count_ids.Statement.{statement}
 use Rattle.masks.proofs.count_ids.Tie as tie
 
 abbrev Inv-loop : tie.InvT-loop
-Inv-loop cells partitions total₀ p₀ total p = (p ≤ partitions) × (partitions ≤ bufferRows) × (total ≤ 9 * p) × (total ≡ sumTo p (λ q. rowIds cells q))
+Inv-loop cells partitions total₀ p₀ total p = (p ≤ partitions) × (partitions ≤ bufferRows) × (total ≤ illFormed * p) × (total ≡ sumTo p (λ q. rowIds cells q))
 
 abbrev μ-loop : tie.MeasureT-loop
 μ-loop cells partitions total₀ p₀ total p = partitions - p

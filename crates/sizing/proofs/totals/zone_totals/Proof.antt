@@ -5,10 +5,13 @@ use native.Mathlib.Omega.{arith}
 use Prim.Native.Nat.{ℕ, _-_, _≤_, _<_}
 use mathlib.Core.Path.{_≡_, ap, _∙_}
 use lib.ListN.{length}
+use mathlib.Core.List.{[]}
+use Rattle.cluster.specs.Terms.{mostNodes}
+use Rattle.cluster.proofs.CellRows.{getD-zeros}
 use Rattle.sums.specs.TermsSums.{sumTo}
 use Rattle.dealing.specs.ModelDeal.{inZone}
 use Rattle.incidence.specs.ModelIncidence.{cell}
-use Rattle.incidence.proofs.Columns.{cell-blank, column-cells}
+use Rattle.incidence.proofs.Columns.{column-cells}
 use Rattle.sizing.proofs.Adding.{zone-bound, zones-next}
 use Rattle.sizing.proofs.totals.zone_totals.Statement.{statement}
 use Rattle.sizing.proofs.totals.zone_totals.Tie as tie
@@ -21,7 +24,7 @@ abbrev μ-loop : tie.MeasureT-loop
 
 loop-holds : tie.Need-loop-holds Inv-loop μ-loop
 unfolding inZone sumTo
-loop-holds c = (search needs, search needs, λ z l. cell-blank 32 z)
+loop-holds c = (search needs, search needs, λ z l. getD-zeros [] mostNodes z)
 
 mul-z : tie.Need-mul-z Inv-loop μ-loop
 mul-z c = search needs
