@@ -1,6 +1,6 @@
 -- A cluster has no fault exactly where it is accepted; it has then as many nodes as its count says, and no more partitions than a buffer has rows.
 -- Assumes nothing.
-use Prim.Native.Nat.{ℕ, _^_, _≤_}
+use Prim.Native.Nat.{ℕ, _^_, _≤_, min}
 use mathlib.Core.Path.{_≡_, refl, ap, _∙_}
 use mathlib.Core.Bool.{Bool, true, false, _||_, _&&_, cond}
 use mathlib.Core.List.{List, [], _∷_}
@@ -98,3 +98,7 @@ nodes-count c l h = omega (arith, length-take (c .count) (c .nodes))
 -- There are no more partitions than a buffer has rows.
 pub few-partitions : (k : ℕ) → k ≤ mostBits → 2 ^ k ≤ bufferRows
 few-partitions k h = pow-mono h
+
+-- Bits in range are not cut where the partitions are counted.
+pub partitions-in-range : (k : ℕ) → k ≤ mostBits → 2 ^ min k mostBits ≡ 2 ^ k
+partitions-in-range k h = let e : min k mostBits ≡ k = omega arith in ap (λ (n : ℕ). 2 ^ n) e

@@ -5,7 +5,7 @@ use native.Mathlib.Omega.{arith}
 use Prim.Native.Nat.{ℕ, _^_, min}
 use mathlib.Core.Path.{_≡_, ap}
 use Rattle.cluster.specs.Terms.{mostBits}
-use Rattle.cluster.proofs.Accepting.{few-partitions}
+use Rattle.cluster.proofs.Accepting.{few-partitions, partitions-in-range}
 use Rattle.cluster.proofs.partitions.Statement.{statement}
 use Rattle.cluster.proofs.partitions.Tie as tie
 
@@ -16,8 +16,7 @@ returns : tie.Need-returns
 returns c =
     let b = c .before .args .bits in
     let few = few-partitions b (search needs) in
-    let e : min b mostBits ≡ b = omega arith in
-    (omega (arith, few, ap (λ (k : ℕ). 2 ^ k) e), omega (arith, few))
+    (omega (arith, few, partitions-in-range b (search needs)), omega (arith, few))
 
 returns-2 : tie.Need-returns-2
 returns-2 c =
