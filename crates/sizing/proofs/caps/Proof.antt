@@ -3,12 +3,12 @@
 use borrow.Author.Needs.{needs}
 use native.Mathlib.Omega.{arith}
 use Prim.Native.Nat.{ℕ, _/_, _^_, _<_, min}
-use mathlib.Core.Path.{_≡_, ap, _∙_, subst}
+use mathlib.Core.Path.{ap₂, _≡_, ap, _∙_, subst}
 use mir.Val.{Fits}
 use mir.Syntax.{w32}
-use Rattle.cluster.specs.Terms.{topology, nodeAt}
+use Rattle.cluster.specs.Terms.{mostBits, topology, nodeAt}
 use Rattle.incidence.specs.ModelIncidence.{capAt, cell, column}
-use Rattle.sizing.specs.ModelSizing.{nodesOf, capCells}
+use Rattle.sizing.specs.ModelSizing.{cutBits, capsIn, sizeBits, nodesOf, capCells}
 use Rattle.incidence.proofs.Columns.{column-cong}
 use Rattle.sizing.proofs.Arrays.{cells-agree}
 use Rattle.sizing.proofs.caps.Statement.{statement}
@@ -31,23 +31,37 @@ capacities-requires c κs = search needs
 slice-aggregate-caps-at : tie.Need-slice-aggregate-caps-at
 slice-aggregate-caps-at c = search needs
 
+partitions-requires : tie.Need-partitions-requires
+partitions-requires c κs = search needs
+
+cast-caps-at : tie.Need-cast-caps-at
+cast-caps-at c = search needs
+
 caps-at-requires : tie.Need-caps-at-requires
 caps-at-requires c κs = search needs
 
 returns : tie.Need-returns
-unfolding capCells capAt
+unfolding capsIn capCells capAt
 returns c =
-    let k = c .before .before in
+    let q = c .before in
+    let k = q .before .before in
     let a = k .before .before .args in
     let t = topology (a .c) in (
       c .caps-at .ensures
-          ∙ (ap (column (λ b. min (2 ^ a .c .bits) (cell (k .capacities .result) b / a .size))) (k .before .used .ensures .0)
-          ∙ column-cong (λ b. min (2 ^ a .c .bits) (cell (k .capacities .result) b / a .size)) (capAt t (a .size)) (nodesOf t)
-          (λ b l. ap (λ (x : ℕ). min (2 ^ a .c .bits) (x / a .size)) (held k b l))),
-      λ b l. subst (λ (x : ℕ). x < 2 ^ 32) (held k b l) (low k b .fits),
+          ∙ (ap₂ (λ (m n : ℕ). column (λ b. min m (cell (k .capacities .result) b / a .size)) n) (q .partitions .ensures .0) (k .before .used .ensures .0)
+          ∙ column-cong (λ b. min (2 ^ min (a .c .bits) mostBits) (cell (k .capacities .result) b / a .size)) (capAt (cutBits t) (a .size)) (nodesOf t)
+          (λ b l. ap (λ (x : ℕ). min (2 ^ min (a .c .bits) mostBits) (x / a .size)) (held k b l))),
+      λ b l. subst (λ (x : ℕ). x < 2 ^ sizeBits) (held k b l) (low k b .fits),
     )
 
 pub caps-spec : {M : Type 1} → statement M
 caps-spec =
     tie.close
-    (tie.spec used-requires capacities-requires slice-aggregate-caps-at caps-at-requires returns)
+    (tie.spec
+    used-requires
+    capacities-requires
+    slice-aggregate-caps-at
+    partitions-requires
+    cast-caps-at
+    caps-at-requires
+    returns)

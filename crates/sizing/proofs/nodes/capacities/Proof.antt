@@ -4,7 +4,7 @@ use borrow.Author.Needs.{needs}
 use native.Mathlib.Omega.{arith}
 use Prim.Native.Nat.{_-_, _≤_}
 use mathlib.Core.Path.{_≡_, sym, ap}
-use Rattle.cluster.specs.Terms.{topology, nodeAt}
+use Rattle.cluster.specs.Terms.{mostNodes, topology, nodeAt}
 use Rattle.cluster.specs.declared.Node.{Node}
 use Rattle.incidence.specs.ModelIncidence.{column}
 use Rattle.incidence.proofs.Columns.{column-none, column-next, column-end}
@@ -13,7 +13,7 @@ use Rattle.sizing.proofs.nodes.capacities.Statement.{statement}
 use Rattle.sizing.proofs.nodes.capacities.Tie as tie
 
 abbrev Inv-loop : tie.InvT-loop
-Inv-loop c n capacities₀ b₀ capacities b = (b ≤ n) × (n ≤ 32) × (n ≤ c .count) × (capacities ≡ column (λ i. nodeAt (topology c) i .capacity) b)
+Inv-loop c n capacities₀ b₀ capacities b = (b ≤ n) × (n ≤ mostNodes) × (n ≤ c .count) × (capacities ≡ column (λ i. nodeAt (topology c) i .capacity) b)
 
 abbrev μ-loop : tie.MeasureT-loop
 μ-loop c n capacities₀ b₀ capacities b = n - b

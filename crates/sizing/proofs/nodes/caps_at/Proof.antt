@@ -2,18 +2,19 @@
 -- Assumes nothing.
 use borrow.Author.Needs.{needs}
 use native.Mathlib.Omega.{arith}
-use Prim.Native.Nat.{_/_, _-_, _^_, _≤_, min}
+use Prim.Native.Nat.{_/_, _-_, _≤_, min}
 use mathlib.Core.Path.{_≡_}
+use Rattle.cluster.specs.Terms.{mostNodes}
 use Rattle.incidence.specs.ModelIncidence.{cell, column}
 use Rattle.incidence.proofs.Columns.{column-none, column-next, column-end}
 use Rattle.sizing.proofs.nodes.caps_at.Statement.{statement}
 use Rattle.sizing.proofs.nodes.caps_at.Tie as tie
 
 abbrev Inv-loop : tie.InvT-loop
-Inv-loop capacities n bits size caps₀ b₀ caps b = (b ≤ n) × (n ≤ 32) × (caps ≡ column (λ i. min (2 ^ bits) (cell capacities i / size)) b)
+Inv-loop capacities n most size caps₀ b₀ caps b = (b ≤ n) × (n ≤ mostNodes) × (caps ≡ column (λ i. min most (cell capacities i / size)) b)
 
 abbrev μ-loop : tie.MeasureT-loop
-μ-loop capacities n bits size caps₀ b₀ caps b = n - b
+μ-loop capacities n most size caps₀ b₀ caps b = n - b
 
 loop-holds : tie.Need-loop-holds Inv-loop μ-loop
 loop-holds c = (search needs, search needs, column-none _)
@@ -43,13 +44,13 @@ loop-again : tie.Need-loop-again Inv-loop μ-loop
 loop-again c =
     let k = c .before .before .before in
     let a = k .before .before .args in
-    (search needs, search needs, column-next (λ i. min (2 ^ a .bits) (cell (a .capacities .now) i / a .size)) (k .loop .caps) (k .loop .b) _ (k .loop .inv .2) (c .cap .ensures))
+    (search needs, search needs, column-next (λ i. min (a .most) (cell (a .capacities .now) i / a .size)) (k .loop .caps) (k .loop .b) _ (k .loop .inv .2) (c .cap .ensures))
 
 returns : tie.Need-returns Inv-loop μ-loop
 returns c =
     let k = c .before in
     let a = k .before .before .args in
-    column-end (λ i. min (2 ^ a .bits) (cell (a .capacities .now) i / a .size)) (k .loop .caps) (k .loop .b) _ (k .loop .inv .2) (omega arith)
+    column-end (λ i. min (a .most) (cell (a .capacities .now) i / a .size)) (k .loop .caps) (k .loop .b) _ (k .loop .inv .2) (omega arith)
 
 pub caps-at-spec : {M : Type 1} → statement M
 caps-at-spec =
