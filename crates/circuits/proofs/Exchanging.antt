@@ -2,7 +2,7 @@
 -- and each target outside until it comes in.
 -- Assumes nothing.
 use Prim.Native.Nat.{ℕ, zero, suc, _+_, _-_, _*_, _^_, _≤_, _<_}
-use mathlib.Core.Path.{_≡_, refl, sym, ap, _∙_, subst}
+use mathlib.Core.Path.{_≡_, sym, ap, _∙_, subst}
 use mathlib.Core.List.{List}
 use mathlib.Core.Logic.{_⊎_, inl, inr, ⊎-elim}
 use native.Mathlib.Nat.{one-mul, zero-mul}
@@ -42,12 +42,6 @@ module _ (P : ℕ) (y q : ℕ → ℕ) (rows : List ℕ) where
   cell-kept i p n =
       ⊎-elim (λ l. rw (lt-ltb (q i) P l) (getD-set-other (exchanged P y q i rows) (q i) p (made i) 0 (λ e. n l (sym e))))
       (λ g. rw (le-ltb (q i) P g)) (lt-or-ge (q i) P)
-
-  -- The cells from P on are kept.
-  pub exchanged-beyond : (n p : ℕ) → P ≤ p → getD (exchanged P y q n rows) p 0 ≡ getD rows p 0
-  unfolding exchanged
-  exchanged-beyond zero p h = refl
-  exchanged-beyond (suc i) p h = cell-kept i p (λ l e. omega arith) ∙ exchanged-beyond i p h
 
   -- Words stay words.
   pub exchanged-word : (n p : ℕ) → P ≤ length rows → getD rows p 0 < 2 ^ 32 → getD (exchanged P y q n rows) p 0 < 2 ^ 32

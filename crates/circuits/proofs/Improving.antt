@@ -30,7 +30,7 @@ use Rattle.swaps.proofs.Fitting.{target-valid, valid-target}
 use Rattle.cycles.specs.ModelGraph.{graphOf, arcOf, weightOf}
 use Rattle.circuits.specs.ModelCircuits.{bitsOf, okOf, suitsOf, suitsAt, witnessOf, cycleOf, freedOf, walkedOf, turnedOf}
 use Rattle.circuits.proofs.Steps.{length-exchanged}
-use Rattle.circuits.proofs.Exchanging.{exchanged-beyond, walked-bit, walked-small}
+use Rattle.circuits.proofs.Exchanging.{walked-bit, walked-small}
 
 -- ---- the test of a partition
 
@@ -78,12 +78,6 @@ module _ (rows former : List ℕ) (P : ℕ) (mates arcs : List ℕ) (all z : ℕ
   turned-length =
       let w = freedOf rows former P mates arcs all z nodes m in
       turned-cases (λ l. length l ≡ length rows) refl (length-exchanged P (w .node) (w .partition) rows (w .len))
-
-  -- The rows from P on are kept.
-  pub turned-beyond : (p : ℕ) → P ≤ p → getD (turnedOf rows former P mates arcs all z nodes m) p 0 ≡ getD rows p 0
-  turned-beyond p h =
-      let w = freedOf rows former P mates arcs all z nodes m in
-      turned-cases (λ l. getD l p 0 ≡ getD rows p 0) refl (exchanged-beyond P (w .node) (w .partition) rows (w .len) p h)
 
 -- ---- in planning
 

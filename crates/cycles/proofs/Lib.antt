@@ -1,6 +1,5 @@
 pub mod Ends
 pub mod Firsts
-pub mod Found
 pub mod Offers
 pub mod Parts
 pub mod Rows

@@ -147,10 +147,6 @@ module _ (G : Graph) where
       ⊎-elim (λ a. let w = way-back k (from G (suc k) v) x (omega (arith, way-le k (from G (suc k) v) x)) in (suc (w .0), omega (arith, w .1), w .2))
       (λ b. (0, omega arith, is-one v x (omega (arith, is-le v x)))) (lt-or-ge 0 (way G k (from G (suc k) v) x))
 
-  -- Nothing but nodes is on the way of a node.
-  pub way-node : (k v x : ℕ) → k ≤ G .N → v < G .N → way G k v x ≡ 1 → x < G .N
-  way-node k v x l m e = let w = way-back k v x e in omega (arith, w .2, back-node k v (w .0) l m)
-
 -- ---- no way back comes to its start again
 
 -- No node closes a cycle up to level k.
@@ -231,8 +227,6 @@ cycle-to G k v m l n o f some few e first =
 
 -- What the search has when it ends with a cycle.
 pub record Closing (G : Graph) (k v : ℕ) : Type 0 where
-  pub level-some : 1 ≤ k
-  pub level-few : k ≤ G .N
   pub node : v < G .N
   pub fallen : fell G k v ≡ true
   pub length-le : cycleLength G k v ≤ k
@@ -256,8 +250,6 @@ closing G k v l n o c = ⊎-elim found none (first-cases at (suc k) 1)
     found : (1 ≤ m) × (m < 1 + suc k) × (at m ≡ true) × ((j : ℕ) → 1 ≤ j → j < m → at j ≡ false) → Closing G (suc k) v
     found h =
         record {
-          level-some = omega arith;
-          level-few = l;
           node = n;
           fallen = w .0;
           length-le = omega (arith, h .1);

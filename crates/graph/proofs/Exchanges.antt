@@ -1,14 +1,13 @@
 -- The graph that the 96 sets of a layout stand for is its exchange graph: each exchange has an arc that weighs no more, each node with room an arc
 -- to every node at weight 0, and each arc is an exchange of its weight, or such a step.
 -- Assumes nothing.
-use Prim.Native.Nat.{ℕ, zero, suc, _+_, _*_, _%_, _^_, _≤_, _<_, max}
+use Prim.Native.Nat.{ℕ, zero, suc, _+_, _*_, _^_, _≤_, _<_, max}
 use mathlib.Core.Path.{_≡_, sym, ap, _∙_}
 use mathlib.Core.List.{List}
 use mathlib.Core.Logic.{_⊎_, inl, inr, ⊎-elim}
 use native.Mathlib.Omega.{arith}
 use lib.ListN.{length, getD, drop, List·getD-append}
-use lib.Seq.{drop-at}
-use borrow.Author.Tests.{lt-ltb, le-ltb}
+use borrow.Author.Tests.{le-ltb}
 use Rattle.sums.proofs.Sum.{lt-or-ge}
 use Rattle.sets.specs.ModelBits.{bit, belowOf}
 use Rattle.sets.proofs.Laws.{bit-le, bit-true, bit-false}
@@ -18,7 +17,7 @@ use Rattle.exchange.specs.ModelRow.{Valid, Exchange, copies}
 use Rattle.swaps.specs.ModelMates.{Mates}
 use Rattle.cycles.specs.ModelGraph.{arcOf, weightOf}
 use Rattle.graph.specs.ModelArcs.{cellOf, arcsOf}
-use Rattle.graph.proofs.Members.{any, rowsOf, setOf, exchange-set, room-set, set-witness, cell-high, cell-none}
+use Rattle.graph.proofs.Members.{any, rowsOf, setOf, exchange-set, room-set, set-witness}
 
 -- ---- cells
 
@@ -31,14 +30,6 @@ module _ (rows former : List ℕ) (P : ℕ) (mates caps : List ℕ) (all z : ℕ
       let f = cellOf rows former P mates caps all z in
       rw (le-ltb (length l) 96 g)
       (List·getD-append (tab f 96) (drop 96 l) 0 j (omega (arith, length-tab f 96)) ∙ getD-tab f 96 j 0 h)
-
-  -- The other cells are kept.
-  pub arcs-rest : drop 96 (arcsOf rows former P mates caps all z l) ≡ drop 96 l
-  unfolding arcsOf
-  arcs-rest =
-      let f = cellOf rows former P mates caps all z in
-      ⊎-elim (λ h. rw (lt-ltb (length l) 96 h)) (λ g. rw (le-ltb (length l) 96 g) (drop-at (tab f 96) (drop 96 l) 96 (length-tab f 96)))
-      (lt-or-ge (length l) 96)
 
 -- ---- arcs and their weights
 
@@ -138,12 +129,3 @@ module _ (P N R Z : ℕ) (zone : ℕ → ℕ) (rows former mates caps l : List �
       let w = within-arc arcs u v e in
       set-witness P N R Z zone rows former mates caps M small valid (weightOf arcs u v) u v lu lv
       (sym (within-set (weightOf arcs u v) u v (w .0) lu) ∙ w .1)
-
-  -- No set has a node from N on, and the sets of such nodes are empty.
-  pub graph-high : (j v : ℕ) → j < 96 → N ≤ v → bit (getD (arcsOf rows former P mates caps (belowOf N) Z l) j 0) v ≡ 0
-  graph-high j v k g =
-      ap (λ (x : ℕ). bit x v) (arcs-cell rows former P mates caps (belowOf N) Z l j long k) ∙ cell-high rows former P mates caps N Z (M .few) j v g
-
-  pub graph-none : (j : ℕ) → j < 96 → N ≤ j % 32 → getD (arcsOf rows former P mates caps (belowOf N) Z l) j 0 ≡ 0
-  graph-none j k g =
-      arcs-cell rows former P mates caps (belowOf N) Z l j long k ∙ cell-none rows former P mates caps N Z (M .few) small j g

@@ -15,11 +15,11 @@ use Rattle.sums.specs.TermsSums.{one-if}
 use Rattle.sums.proofs.Sum.{lt-or-ge, is-eq, is-le, is-one}
 use Rattle.sums.proofs.Count.{max-ge, max-le, max-at}
 use Rattle.sets.specs.ModelBits.{bit, belowOf}
-use Rattle.sets.proofs.Laws.{bit-le, bit-high, bit-none, bit-maskOf, bit-mask-high, mask-lt, bit-below, bit-below-not}
+use Rattle.sets.proofs.Laws.{bit-le, bit-maskOf, bit-below}
 use Rattle.exchange.specs.ModelRow.{Valid, Exchange, copies}
 use Rattle.swaps.specs.ModelSwaps.{targetsOf}
 use Rattle.swaps.specs.ModelMates.{Mates}
-use Rattle.swaps.proofs.Fitting.{targets-high, target-valid, valid-target}
+use Rattle.swaps.proofs.Fitting.{target-valid, valid-target}
 use Rattle.graph.specs.ModelArcs.{weighs, moves, movesTo, copiesTo, roomy, cellOf}
 
 -- From 1 back to the test.
@@ -82,35 +82,6 @@ module _ (rows former : List ℕ) (P : ℕ) (mates caps : List ℕ) (N Z : ℕ) 
       eu eh)
       (ap₂ (λ (a k : ℕ). min (bit all a) (min (is 1 k) (min (one-if (ltb (copiesTo rows P a) (getD caps a 0))) (bit all v)))) eu eh
       ∙ omega (arith, is-le 1 h, bit-below N u (omega arith) lu, bit-below N v (omega arith) lv))
-
-  -- No set has a node from N on.
-  pub cell-high : (j v : ℕ) → N ≤ v → bit (cellOf rows former P mates caps (belowOf N) Z j) v ≡ 0
-  unfolding cellOf movesTo moves roomy
-  cell-high j v g =
-      ⊎-elim
-      (λ l. bit-cell rows former P mates caps (belowOf N) Z j v l
-      ∙ omega (
-        arith,
-        bit-below-not N v g,
-        max-le P 0 (λ q. moves mates (belowOf N) Z (getD rows q 0) (getD former q 0) j v)
-            (λ q h. omega (arith, targets-high mates N Z (getD rows q 0) (j % 32) v g)),
-      ))
-      (λ m. bit-mask-high (λ b. max (movesTo rows former P mates (belowOf N) Z j b) (roomy (copiesTo rows P) caps (belowOf N) j b)) 32 v m)
-      (lt-or-ge v 32)
-
-  -- The sets of nodes from N on are empty, where the rows have none of them.
-  pub cell-none : ((p : ℕ) → p < P → getD rows p 0 < 2 ^ N) → (j : ℕ) → N ≤ j % 32 → cellOf rows former P mates caps (belowOf N) Z j ≡ 0
-  unfolding cellOf movesTo moves roomy
-  cell-none small j g =
-      bit-none 32 (cellOf rows former P mates caps (belowOf N) Z j)
-      (mask-lt (λ b. max (movesTo rows former P mates (belowOf N) Z j b) (roomy (copiesTo rows P) caps (belowOf N) j b)) 32)
-      (λ v l. bit-cell rows former P mates caps (belowOf N) Z j v l
-      ∙ omega (
-        arith,
-        bit-below-not N (j % 32) g,
-        max-le P 0 (λ q. moves mates (belowOf N) Z (getD rows q 0) (getD former q 0) j v)
-            (λ q h. omega (arith, bit-high N (getD rows q 0) (j % 32) (small q h) g)),
-      ))
 
 module _ (P N R Z : ℕ) (zone : ℕ → ℕ) (rows former mates caps : List ℕ) (M : Mates N zone mates) (small : (p : ℕ) → p < P → getD rows p 0 < 2 ^ N)
     (valid : (p : ℕ) → p < P → Valid N R Z zone (rowsOf rows p)) where

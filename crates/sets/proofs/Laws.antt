@@ -14,7 +14,6 @@ use borrow.Author.Tests.{eqb-true, eqb-false, eq-eqb, ne-eqb, lt-ltb, le-ltb}
 use Rattle.sums.specs.TermsSums.{sumTo, one-if}
 use Rattle.sums.specs.ModelSums.{is}
 use Rattle.sums.proofs.Sum.{lt-or-ge, is-eq, is-ne, is-le, is-cases, sum-cong, sum-is, sum-le, sum-const, sum-cut, sum-term}
-use Rattle.sums.proofs.Tests.{one-if-le}
 use Rattle.sets.specs.ModelBits.{bit, maskOf, firstTo, memberOf, withOf, withoutOf, unionOf, meetOf, differenceOf, belowOf, countOf, leastOf}
 pub use Rattle.sets.proofs.Bits.{bit-le, bit-zero, bit-shr, bit-high, bit-ext, bit-none, bit-lt, bit-or, bit-and, bit-not, bit-pow, ones-bits, mask-lt, bit-mask, bit-maskOf, bit-mask-high, mask-unique, mask-bit, mask-cong, mask-sum, mask-next, mask-same, first-le, first-at, first-before}
 
@@ -144,14 +143,6 @@ meet-none s t h = bit-none 32 (meetOf s t) (meet-lt s t) (λ j l. bit-meet s t j
 pub none-meet : (s t : ℕ) → meetOf s t ≡ 0 → (j : ℕ) → j < 32 → min (bit s j) (bit t j) ≡ 0
 none-meet s t e j l = sym (bit-meet s t j l) ∙ (ap (λ (x : ℕ). bit x j) e ∙ bit-zero j)
 
--- Where each member of s is one of t, their difference is empty.
-pub difference-none : (s t : ℕ) → ((j : ℕ) → j < 32 → bit s j ≤ bit t j) → differenceOf s t ≡ 0
-difference-none s t h = bit-none 32 (differenceOf s t) (difference-lt s t) (λ j l. omega (arith, bit-difference s t j l, h j l))
-
--- Where the difference is empty, each member of s is one of t.
-pub none-difference : (s t : ℕ) → differenceOf s t ≡ 0 → (j : ℕ) → j < 32 → bit s j ≤ bit t j
-none-difference s t e j l = omega (arith, bit-difference s t j l, ap (λ (x : ℕ). bit x j) e, bit-zero j)
-
 -- ---- the numbers below n
 
 -- The set of the numbers below n is a word.
@@ -270,18 +261,6 @@ count-difference s t =
       sum-sub-min 32 (λ j. bit s j) (λ j. bit t j),
     )
 
-sum-below : (m n : ℕ) → sumTo m (λ j. one-if (ltb j n)) ≡ min n m
-unfolding sumTo one-if
-sum-below zero n = omega arith
-sum-below (suc m) n =
-    ⊎-elim (λ l. omega (arith, sum-below m n, ap one-if (lt-ltb m n l))) (λ g. omega (arith, sum-below m n, ap one-if (le-ltb m n g)))
-    (lt-or-ge m n)
-
--- There are n numbers below n, or all 32.
-pub count-below : (n : ℕ) → countOf (belowOf n) ≡ min n 32
-unfolding belowOf
-count-below n = count-mask (λ j. one-if (ltb j n)) 32 (omega arith) (λ j k. one-if-le (ltb j n)) ∙ sum-below 32 n
-
 -- ---- the least member
 
 -- The least member is at most 32.
@@ -304,10 +283,6 @@ pub least-some : (s : ℕ) → s < 2 ^ 32 → (s ≡ 0 → ⊥) → leastOf s < 
 least-some s h n =
     ⊎-elim (λ l. l)
     (λ g. absurd (n (bit-ext 32 s 0 h (omega arith) (λ i l. least-before s i (omega arith) ∙ sym (bit-zero i))))) (lt-or-ge (leastOf s) 32)
-
--- No member is less than the least.
-pub least-min : (s i : ℕ) → bit s i ≡ 1 → leastOf s ≤ i
-least-min s i e = ⊎-elim (λ l. omega (arith, least-before s i l)) (λ g. g) (lt-or-ge i (leastOf s))
 
 -- The empty set has 32 for its least.
 pub least-none : leastOf 0 ≡ 32

@@ -34,22 +34,6 @@ pub fn touched(mates: &[u32], row: u32) -> Zones
     Zones { count, nodes }
 }
 
-// How many zones a row touches.
-pub fn cover(mates: &[u32], row: u32) -> u32
-    ensures { λ r. ⌜ r ≡ coverOf (now (mates .entry)) row ⌝ }
-{
-    let t = touched(mates, row);
-    t.count
-}
-
-// The nodes of the zones that a row touches.
-pub fn covered(mates: &[u32], row: u32) -> u32
-    ensures { λ r. ⌜ r ≡ coveredOf (now (mates .entry)) row ⌝ }
-{
-    let t = touched(mates, row);
-    t.nodes
-}
-
 // The nodes of `all` that may take the place of a node of the row whose zone is `mate`: all outside the row where the row has a zone to spare or
 // another node of that zone; else those of that zone and of the zones that the row does not touch.
 pub fn targets_in(all: u32, row: u32, mate: u32, spare: bool, covered: u32) -> u32
