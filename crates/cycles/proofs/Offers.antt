@@ -1,6 +1,6 @@
 -- An offer of one distance to the members of a set, member by member.
 -- Assumes nothing.
-use Prim.Native.Nat.{ℕ, _-_, _≤_, _<_}
+use Prim.Native.Nat.{ℕ, _-_, _≤_, _<_, _^_}
 use mathlib.Core.Path.{_≡_, refl, sym, ap, _∙_, subst}
 use mathlib.Core.Bool.{Bool, true, false, cond, _&&_}
 use mathlib.Core.List.{List}
@@ -10,9 +10,10 @@ use lib.Dec.{ltb, eqb}
 use lib.ListN.{length, getD, set}
 use lib.Seq.{getD-set-same, getD-set-other}
 use borrow.Author.Tests.{lt-ltb, le-ltb}
+use Rattle.cluster.specs.Terms.{mostNodes}
 use Rattle.sums.specs.TermsSums.{one-if}
 use Rattle.sums.proofs.Sum.{eq-or-ne}
-use Rattle.sets.specs.ModelBits.{bit, withOf, withoutOf, leastOf, countOf}
+use Rattle.sets.specs.ModelBits.{maskBits, bit, withOf, withoutOf, leastOf, countOf}
 use Rattle.sets.proofs.Laws.{bit-le, bit-zero, bit-with-same, bit-with-other, bit-without, bit-without-same, bit-without-other, least-some, least-at, least-taken}
 use Rattle.exchange.specs.ModelLevels.{Fall}
 use Rattle.cycles.specs.ModelTurns.{Held, Turns, offered}
@@ -70,24 +71,24 @@ offers-high top m c u fell next row g v d f l t h = held-more (bit m v) c u h (o
 -- The turn at the next member w, of those left, with the rest after it.
 pub record Offering (top m c u fell marks left w rest : ℕ) (next₀ row₀ next row : List ℕ) : Type 0 where
   pub some : left ≡ 0 → ⊥
-  pub fits : left < 4294967296
+  pub fits : left < 2 ^ maskBits
   pub at-least : w ≡ leastOf left
   pub at-rest : rest ≡ withoutOf left w
-  pub part : (v : ℕ) → v < 32 → bit left v ≤ bit m v
+  pub part : (v : ℕ) → v < mostNodes → bit left v ≤ bit m v
   pub turns : Turns top (λ v f. offered (bit m v - bit left v) c u f) next₀ row₀ fell next row marks
 
 module _ {top m c u fell marks left w rest : ℕ} {next₀ row₀ next row : List ℕ} (o : Offering top m c u fell marks left w rest next₀ row₀ next row) where
   -- The next member is a node.
-  pub offers-node : w < 32
+  pub offers-node : w < mostNodes
   offers-node = omega (arith, least-some left (o .fits) (o .some))
 
   in-left : bit left w ≡ 1
-  in-left = let l : leastOf left < 32 = omega (arith, offers-node) in ap (λ (i : ℕ). bit left i) (o .at-least) ∙ least-at left l
+  in-left = let l : leastOf left < mostNodes = omega (arith, offers-node) in ap (λ (i : ℕ). bit left i) (o .at-least) ∙ least-at left l
 
   in-rest : bit rest w ≡ 0
   in-rest = ap (λ (i : ℕ). bit i w) (o .at-rest) ∙ bit-without-same left w offers-node
 
-  out-rest : (v : ℕ) → v < 32 → (w ≡ v → ⊥) → bit rest v ≡ bit left v
+  out-rest : (v : ℕ) → v < mostNodes → (w ≡ v → ⊥) → bit rest v ≡ bit left v
   out-rest v l n = ap (λ (i : ℕ). bit i v) (o .at-rest) ∙ bit-without-other left w v l n
 
   -- What is left is smaller.
@@ -95,7 +96,7 @@ module _ {top m c u fell marks left w rest : ℕ} {next₀ row₀ next row : Lis
   offers-less = omega (arith, least-taken left (o .fits) (o .some), ap (λ (i : ℕ). countOf (withoutOf left i)) (o .at-least), ap countOf (o .at-rest))
 
   -- What is left is still a part.
-  pub offers-part : (v : ℕ) → v < 32 → bit rest v ≤ bit m v
+  pub offers-part : (v : ℕ) → v < mostNodes → bit rest v ≤ bit m v
   offers-part v l = omega (arith, ap (λ (i : ℕ). bit i v) (o .at-rest), bit-without left w v l, (o .part) v l)
 
   -- The next member has had no offer yet.
@@ -107,7 +108,7 @@ module _ {top m c u fell marks left w rest : ℕ} {next₀ row₀ next row : Lis
   now-one : bit m w - bit rest w ≡ 1
   now-one = omega (arith, in-left, (o .part) w offers-node, bit-le m w, in-rest)
 
-  still : (v : ℕ) → v < 32 → (w ≡ v → ⊥) → bit m v - bit rest v ≡ bit m v - bit left v
+  still : (v : ℕ) → v < mostNodes → (w ≡ v → ⊥) → bit m v - bit rest v ≡ bit m v - bit left v
   still v l n = omega (arith, out-rest v l n)
 
   -- The next member does not take it.
@@ -120,7 +121,7 @@ module _ {top m c u fell marks left w rest : ℕ} {next₀ row₀ next row : Lis
       (eq-or-ne w v)
 
   -- The next member takes it.
-  pub offers-take : (marks' : ℕ) → marks' ≡ withOf marks w → 32 ≤ length next → 32 ≤ length row → c < getD next w 0
+  pub offers-take : (marks' : ℕ) → marks' ≡ withOf marks w → mostNodes ≤ length next → mostNodes ≤ length row → c < getD next w 0
       → Turns top (λ v f. offered (bit m v - bit rest v) c u f) next₀ row₀ fell (set next w c) (set row w u) marks'
   offers-take marks' em a b g v d f l t h = ⊎-elim same other (eq-or-ne w v)
     where

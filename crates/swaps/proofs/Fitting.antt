@@ -10,7 +10,7 @@ use lib.Dec.{ltb}
 use borrow.Author.Tests.{lt-ltb, le-ltb}
 use Rattle.sums.specs.ModelSums.{is}
 use Rattle.sums.proofs.Sum.{lt-or-ge, is-le}
-use Rattle.sets.specs.ModelBits.{bit, unionOf, meetOf, differenceOf, belowOf, countOf}
+use Rattle.sets.specs.ModelBits.{maskBits, bit, unionOf, meetOf, differenceOf, belowOf, countOf}
 use Rattle.sets.proofs.Laws.{bit-le, bit-union, bit-meet, bit-difference, bit-below}
 use Rattle.exchange.specs.ModelRow.{zoneCount, cover, Valid, swap}
 use Rattle.exchange.specs.ModelSwap.{fits}
@@ -46,7 +46,7 @@ module _ (N : ℕ) (zone : ℕ → ℕ) (mates : List ℕ) (M : Mates N zone mat
       → bit (targetsOf mates (belowOf N) Z row a) b ≡ min (1 - bit row b) (fits N Z zone (bit row) (zone a) b)
   unfolding targetsOf fits
   targets-fit b l =
-      let k : b < 32 = omega (arith, M .few) in
+      let k : b < maskBits = omega (arith, M .few) in
       let C = coveredOf mates row in
       let m = getD mates a 0 in
       let x = zoneCount N zone (bit row) (zone a) - 1 in

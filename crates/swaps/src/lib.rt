@@ -1,4 +1,4 @@
-// Which zones a row touches, and which nodes may take a node's place in it. A row is a set of nodes below 32; mates[b] is the set of the nodes of
+// Which zones a row touches, and which nodes may take a node's place in it. A row is a set of nodes; mates[b] is the set of the nodes of
 // b's zone. Every function is total: a cell past a slice's end counts as 0.
 ghost use mathlib.Core.Path.{_≡_};
 ghost use lib.ListN.{getD};

@@ -3,6 +3,8 @@ use lib.ListN.{length}
 use native.Mathlib.Omega.{arith}
 use borrow.Author.Needs.{needs}
 use borrow.Author.Tests.{le-leb, lt-leb}
+use Rattle.cluster.specs.Terms.{mostNodes}
+use Rattle.cycles.specs.ModelGraph.{walkCells, arcCells}
 use Rattle.cycles.specs.ModelFound.{searchable, foundLength, foundWalk}
 use Rattle.cycles.proofs.find.Statement.{statement}
 use Rattle.cycles.proofs.find.Tie as tie
@@ -16,7 +18,7 @@ unfolding foundLength foundWalk searchable
 returns-2 c =
     let n = c .before .before .before .before .args .n in
     let some = le-leb 1 n (omega arith) in
-    let few = lt-leb n 32 (omega arith) in
+    let few = lt-leb n mostNodes (omega arith) in
     (simp (some, few), simp (some, few))
 
 returns-3 : tie.Need-returns-3
@@ -24,8 +26,8 @@ unfolding foundLength foundWalk searchable
 returns-3 c =
     let a = c .before .before .before .before .before .args in
     let some = le-leb 1 (a .n) (omega arith) in
-    let few = le-leb (a .n) 32 (omega arith) in
-    let arcs = lt-leb 96 (length (a .arcs .now)) (omega arith) in
+    let few = le-leb (a .n) mostNodes (omega arith) in
+    let arcs = lt-leb arcCells (length (a .arcs .now)) (omega arith) in
     (simp (some, few, arcs), simp (some, few, arcs))
 
 returns-4 : tie.Need-returns-4
@@ -33,9 +35,9 @@ unfolding foundLength foundWalk searchable
 returns-4 c =
     let a = c .before .before .before .before .before .before .args in
     let some = le-leb 1 (a .n) (omega arith) in
-    let few = le-leb (a .n) 32 (omega arith) in
-    let arcs = le-leb 96 (length (a .arcs .now)) (omega arith) in
-    let walk = lt-leb 33 (length (a .walk .now)) (omega arith) in
+    let few = le-leb (a .n) mostNodes (omega arith) in
+    let arcs = le-leb arcCells (length (a .arcs .now)) (omega arith) in
+    let walk = lt-leb walkCells (length (a .walk .now)) (omega arith) in
     (simp (some, few, arcs, walk), simp (some, few, arcs, walk))
 
 search-requires : tie.Need-search-requires
@@ -50,9 +52,9 @@ returns-5 c =
     let s = c .before .before in
     let a = s .before .before .before .before .before .before .before .before .args in
     let some = le-leb 1 (a .n) (omega arith) in
-    let few = le-leb (a .n) 32 (omega arith) in
-    let arcs = le-leb 96 (length (a .arcs .now)) (omega arith) in
-    let walk = le-leb 33 (length (a .walk .now)) (omega arith) in
+    let few = le-leb (a .n) mostNodes (omega arith) in
+    let arcs = le-leb arcCells (length (a .arcs .now)) (omega arith) in
+    let walk = le-leb walkCells (length (a .walk .now)) (omega arith) in
     (simp (some, few, arcs, walk) (s .search .ensures .0), simp (some, few, arcs, walk) (s .search .ensures .1))
 
 pub find-spec : {M : Type 1} → statement M

@@ -1,20 +1,21 @@
 -- `cycles::offer` meets its contract. The members that are not left have had the offer.
 -- Assumes nothing.
-use Prim.Native.Nat.{ℕ, _≤_, _<_, _-_}
+use Prim.Native.Nat.{ℕ, _≤_, _<_, _-_, _^_}
 use mathlib.Core.Path.{_≡_}
 use lib.ListN.{length, length-set}
-use Rattle.sets.specs.ModelBits.{bit, countOf}
+use Rattle.sets.specs.ModelBits.{maskBits, bit, countOf}
 use Rattle.cycles.specs.ModelTurns.{Turns, offered}
 use Rattle.cycles.proofs.Offers.{Offering, offers-start, offers-end, offers-high, offers-less, offers-node, offers-part, offers-skip, offers-take}
 use borrow.Author.Needs.{needs}
 use native.Mathlib.Omega.{arith}
+use Rattle.cluster.specs.Terms.{mostNodes}
 use Rattle.cycles.proofs.offer.Statement.{statement}
 use Rattle.cycles.proofs.offer.Tie as tie
 
 abbrev Inv-loop : tie.InvT-loop
 Inv-loop top m c u fell next₀ row₀ marks₀ left₀ next row marks left =
-    (left < 4294967296) × (length next ≡ length next₀) × (length row ≡ length row₀) × (32 ≤ length next₀) × (32 ≤ length row₀)
-    × ((v : ℕ) → v < 32 → bit left v ≤ bit m v) × Turns top (λ v f. offered (bit m v - bit left v) c u f) next₀ row₀ fell next row marks
+    (left < 2 ^ maskBits) × (length next ≡ length next₀) × (length row ≡ length row₀) × (mostNodes ≤ length next₀) × (mostNodes ≤ length row₀)
+    × ((v : ℕ) → v < mostNodes → bit left v ≤ bit m v) × Turns top (λ v f. offered (bit m v - bit left v) c u f) next₀ row₀ fell next row marks
 
 abbrev μ-loop : tie.MeasureT-loop
 μ-loop top m c u fell next₀ row₀ marks₀ left₀ next row marks left = countOf left
