@@ -14,13 +14,13 @@ use borrow.Author.Tests.{lt-ltb, le-ltb}
 use Rattle.sums.specs.TermsSums.{sumTo}
 use Rattle.sums.specs.ModelSums.{is}
 use Rattle.sums.proofs.Sum.{lt-or-ge, eq-or-ne, is-eq, is-ne, is-le, is-one}
-use Rattle.sets.specs.ModelBits.{bit, withOf, withoutOf}
+use Rattle.sets.specs.ModelBits.{bit, withOf, withoutOf, bitsAt}
 use Rattle.sets.proofs.Laws.{bit-le, bit-high, bit-lt, bit-with, bit-without, with-lt}
 use Rattle.exchange.specs.ModelCircuit.{turn}
 use Rattle.exchange.specs.ModelUncross.{Walk, Round}
 use Rattle.exchange.proofs.Picked.{picked, picked-at, out-le, in-le}
 use Rattle.exchange.proofs.Circuit.{ends, exchange, sources-differ}
-use Rattle.circuits.specs.ModelCircuits.{bitsOf, exchanged, walkedOf}
+use Rattle.circuits.specs.ModelCircuits.{exchanged, walkedOf}
 use Rattle.circuits.proofs.Steps.{length-exchanged}
 
 -- ---- any walk
@@ -60,7 +60,7 @@ module _ (P : ℕ) (y q : ℕ → ℕ) (rows : List ℕ) where
 -- ---- a circuit
 
 module _ (P N R Z C : ℕ) (zone cap : ℕ → ℕ) (g free : ℕ → ℕ → ℕ) (rows : List ℕ) (w : Walk) (fits : P ≤ length rows)
-    (c : Round P N R Z C zone cap g free (bitsOf rows) w) (p : ℕ) (r : p < P)
+    (c : Round P N R Z C zone cap g free (bitsAt rows) w) (p : ℕ) (r : p < P)
   where
     abbrev y : ℕ → ℕ
     y = w .node
@@ -75,26 +75,26 @@ module _ (P N R Z C : ℕ) (zone cap : ℕ → ℕ) (g free : ℕ → ℕ → �
     abbrev left : ℕ → ℕ → ℕ
     left n b = picked n (λ i. is (q i) p) (λ i. y (suc i)) b
 
-    left-le : (n : ℕ) → n ≤ w .len → (b : ℕ) → left n b ≤ bitsOf rows p b
+    left-le : (n : ℕ) → n ≤ w .len → (b : ℕ) → left n b ≤ bitsAt rows p b
     left-le n l =
-        out-le n (λ i. is (q i) p) (λ i. y (suc i)) (λ i k. is-le (q i) p) (bitsOf rows p)
-        (λ i k e. exchange P N R Z C zone cap g free (bitsOf rows) (w .len) y q c i p (omega arith) r (is-one (q i) p e) .a-in)
-        (λ i j a b d e. sources-differ P N R Z C zone cap g free (bitsOf rows) (w .len) y q c i j a (omega arith))
+        out-le n (λ i. is (q i) p) (λ i. y (suc i)) (λ i k. is-le (q i) p) (bitsAt rows p)
+        (λ i k e. exchange P N R Z C zone cap g free (bitsAt rows) (w .len) y q c i p (omega arith) r (is-one (q i) p e) .a-in)
+        (λ i j a b d e. sources-differ P N R Z C zone cap g free (bitsAt rows) (w .len) y q c i j a (omega arith))
 
-    came-le : (n : ℕ) → n ≤ w .len → (b : ℕ) → bitsOf rows p b + came n b ≤ 1
+    came-le : (n : ℕ) → n ≤ w .len → (b : ℕ) → bitsAt rows p b + came n b ≤ 1
     came-le n l b =
-        in-le n (λ i. is (q i) p) y (λ i k. is-le (q i) p) (bitsOf rows p)
-        (λ i k e. exchange P N R Z C zone cap g free (bitsOf rows) (w .len) y q c i p (omega arith) r (is-one (q i) p e) .b-out)
+        in-le n (λ i. is (q i) p) y (λ i k. is-le (q i) p) (bitsAt rows p)
+        (λ i k e. exchange P N R Z C zone cap g free (bitsAt rows) (w .len) y q c i p (omega arith) r (is-one (q i) p e) .b-out)
         (λ i j a d e f. c .distinct i j a (omega arith)) b (bit-le (getD rows p 0) b)
 
     -- The bits of row p after the first n arcs.
-    exchanged-bit : (n : ℕ) → n ≤ w .len → (b : ℕ) → b < 32 → bitsOf (exchanged P y q n rows) p b ≡ bitsOf rows p b + came n b - left n b
+    exchanged-bit : (n : ℕ) → n ≤ w .len → (b : ℕ) → b < 32 → bitsAt (exchanged P y q n rows) p b ≡ bitsAt rows p b + came n b - left n b
     unfolding exchanged sumTo
     exchanged-bit zero l b h = omega arith
     exchanged-bit (suc i) l b h = go (exchanged-bit i (omega arith) b h) (eq-or-ne (q i) p)
       where
-        go : bitsOf (exchanged P y q i rows) p b ≡ bitsOf rows p b + came i b - left i b → (q i ≡ p) ⊎ (q i ≡ p → ⊥)
-            → bitsOf (exchanged P y q (suc i) rows) p b ≡ bitsOf rows p b + came (suc i) b - left (suc i) b
+        go : bitsAt (exchanged P y q i rows) p b ≡ bitsAt rows p b + came i b - left i b → (q i ≡ p) ⊎ (q i ≡ p → ⊥)
+            → bitsAt (exchanged P y q (suc i) rows) p b ≡ bitsAt rows p b + came (suc i) b - left (suc i) b
         go e (inr n) =
             ap (λ (t : ℕ). bit t b) (cell-kept P y q rows i p (λ k d. n d))
             ∙ omega (
@@ -122,7 +122,7 @@ module _ (P N R Z C : ℕ) (zone cap : ℕ → ℕ) (g free : ℕ → ℕ → �
             ))
 
     -- The bits of row p after the exchanges of a circuit are those after its turn.
-    pub walked-bit : (b : ℕ) → b < 32 → bitsOf (walkedOf P w rows) p b ≡ turn (w .len) (w .node) (w .partition) (bitsOf rows) p b
+    pub walked-bit : (b : ℕ) → b < 32 → bitsAt (walkedOf P w rows) p b ≡ turn (w .len) (w .node) (w .partition) (bitsAt rows) p b
     unfolding turn
     walked-bit b h = exchanged-bit (w .len) (omega arith) b h
 
@@ -137,5 +137,5 @@ module _ (P N R Z C : ℕ) (zone cap : ℕ → ℕ) (g free : ℕ → ℕ → �
         none b a =
             ⊎-elim (λ l. omega arith)
             (λ l. let s = picked-at (w .len) (λ i. is (q i) p) y (λ i k. is-le (q i) p) b l in
-            absurd (omega (arith, s .3, ends P N R Z C zone cap g free (bitsOf rows) (w .len) y q c (s .0) (s .1) .1)))
+            absurd (omega (arith, s .3, ends P N R Z C zone cap g free (bitsAt rows) (w .len) y q c (s .0) (s .1) .1)))
             (lt-or-ge (came (w .len) b) 1)

@@ -5,9 +5,9 @@ use mathlib.Core.List.{List}
 use lib.ListN.{length, getD, set}
 use lib.Dec.{ltb}
 use mathlib.Core.Bool.{cond}
-use Rattle.sets.specs.ModelBits.{withOf, withoutOf}
+use Rattle.sets.specs.ModelBits.{bitsAt, withOf, withoutOf}
 use Rattle.exchange.specs.ModelUncross.{Walk, walk, uncross}
-pub use Rattle.walks.specs.ModelWalks.{bitsOf, suitsAt, walkIn, innerGains}
+pub use Rattle.walks.specs.ModelWalks.{suitsAt, walkIn, innerGains}
 unfoldable pub use Rattle.walks.specs.ModelWalks.{okOf, suitsOf, witnessOf}
 
 module _ (rows former : List ℕ) (P : ℕ) (mates arcs : List ℕ) (all z : ℕ) where
@@ -17,7 +17,7 @@ module _ (rows former : List ℕ) (P : ℕ) (mates arcs : List ℕ) (all z : ℕ
 
   -- That walk, freed of crossed pairs.
   abbrev pub freedOf : List ℕ → ℕ → Walk
-  freedOf nodes m = uncross m P 1 (bitsOf former) (okOf rows mates all z) (cycleOf nodes m)
+  freedOf nodes m = uncross m P 1 (bitsAt former) (okOf rows mates all z) (cycleOf nodes m)
 
 -- The witness of the arc t over the nodes of a walk.
 abbrev pub witnessIn : List ℕ → List ℕ → List ℕ → ℕ → List ℕ → List ℕ → ℕ → ℕ → ℕ → ℕ

@@ -5,7 +5,8 @@ ghost use Prim.Native.Nat.{_+_, _-_, _≤_, _<_};
 ghost use lib.ListN.{length, getD};
 ghost use Rattle.cells.specs.ModelCells.{put};
 ghost use Rattle.exchange.specs.ModelUncross.{split, uncross, Same};
-ghost use Rattle.circuits.specs.ModelCircuits.{bitsOf, okOf, witnessIn, walkIn, freedOf, walkedOf, turnedOf};
+ghost use Rattle.sets.specs.ModelBits.{bitsAt};
+ghost use Rattle.circuits.specs.ModelCircuits.{okOf, witnessIn, walkIn, freedOf, walkedOf, turnedOf};
 
 // The nodes of a walk into y, and the witnesses of its arcs into q.
 fn load(
@@ -70,7 +71,7 @@ fn divide(
 ) -> usize
     requires { ⌜ (i < j) × (j < m) × (m ≤ 32) × (m < length (now y)) × (m ≤ length (now q)) ⌝ }
     ensures { λ r. ⌜ (r ≤ m) × (length (now (y .exit)) ≡ length (now (y .entry))) × (length (now (q .exit)) ≡ length (now (q .entry)))
-        × Same (split partitions 1 (bitsOf (now (former .entry))) (walkIn m (now (y .entry)) (now (q .entry))) i j) (walkIn r (now (y .exit)) (now (q .exit))) ⌝ }
+        × Same (split partitions 1 (bitsAt (now (former .entry))) (walkIn m (now (y .entry)) (now (q .entry))) i j) (walkIn r (now (y .exit)) (now (q .exit))) ⌝ }
 {
     let k = j - i;
     if walks::gains(y, q, i as u32, j as u32, former, partitions) {
@@ -98,7 +99,7 @@ fn free(
 ) -> usize
     requires { ⌜ (m ≤ 32) × (m < length (now y)) × (m ≤ length (now q)) ⌝ }
     ensures { λ r. ⌜ (r ≤ m) × (length (now (y .exit)) ≡ length (now (y .entry))) × (length (now (q .exit)) ≡ length (now (q .entry)))
-        × Same (uncross m partitions 1 (bitsOf (now (former .entry))) (okOf (now (rows .entry)) (now (mates .entry)) all z) (walkIn m (now (y .entry)) (now (q .entry))))
+        × Same (uncross m partitions 1 (bitsAt (now (former .entry))) (okOf (now (rows .entry)) (now (mates .entry)) all z) (walkIn m (now (y .entry)) (now (q .entry))))
         (walkIn r (now (y .exit)) (now (q .exit))) ⌝ }
 {
     let mut len = m;

@@ -9,7 +9,7 @@ use native.Mathlib.Omega.{arith}
 use lib.ListN.{length, getD, drop, List·getD-append}
 use borrow.Author.Tests.{le-ltb}
 use Rattle.sums.proofs.Sum.{lt-or-ge}
-use Rattle.sets.specs.ModelBits.{bit, belowOf}
+use Rattle.sets.specs.ModelBits.{bitsAt, bit, belowOf}
 use Rattle.sets.proofs.Laws.{bit-le, bit-true, bit-false}
 use Rattle.sums.specs.TermsSums.{tab}
 use Rattle.cells.proofs.Cells.{length-tab, getD-tab}
@@ -17,7 +17,7 @@ use Rattle.exchange.specs.ModelRow.{Valid, Exchange, copies}
 use Rattle.swaps.specs.ModelMates.{Mates}
 use Rattle.cycles.specs.ModelGraph.{arcOf, weightOf}
 use Rattle.graph.specs.ModelArcs.{cellOf, arcsOf}
-use Rattle.graph.proofs.Members.{any, rowsOf, setOf, exchange-set, room-set, set-witness}
+use Rattle.graph.proofs.Members.{any, setOf, exchange-set, room-set, set-witness}
 
 -- ---- cells
 
@@ -92,7 +92,7 @@ module _ (arcs : List ℕ) (u v : ℕ) where
 -- ---- the exchange graph
 
 module _ (P N R Z : ℕ) (zone : ℕ → ℕ) (rows former mates caps l : List ℕ) (M : Mates N zone mates) (small : (p : ℕ) → p < P → getD rows p 0 < 2 ^ N)
-    (valid : (p : ℕ) → p < P → Valid N R Z zone (rowsOf rows p)) (long : 96 ≤ length l) where
+    (valid : (p : ℕ) → p < P → Valid N R Z zone (bitsAt rows p)) (long : 96 ≤ length l) where
   -- The sets that are written.
   arcs : List ℕ
   arcs = arcsOf rows former P mates caps (belowOf N) Z l
@@ -102,9 +102,9 @@ module _ (P N R Z : ℕ) (zone : ℕ → ℕ) (rows former mates caps l : List �
   within-set h u v k lu = ap (λ (x : ℕ). bit x v) (arcs-cell rows former P mates caps (belowOf N) Z l (32 * h + u) long (omega (arith, M .few)))
 
   -- Every exchange that leaves its row valid has an arc that weighs no more.
-  pub graph-exchange : (p a b : ℕ) → p < P → Exchange N R Z zone any (rowsOf rows) p a b
+  pub graph-exchange : (p a b : ℕ) → p < P → Exchange N R Z zone any (bitsAt rows) p a b
       → (arcOf (arcsOf rows former P mates caps (belowOf N) Z l) a b ≡ 1)
-      × (weightOf (arcsOf rows former P mates caps (belowOf N) Z l) a b + rowsOf former p b ≤ 1 + rowsOf former p a)
+      × (weightOf (arcsOf rows former P mates caps (belowOf N) Z l) a b + bitsAt former p b ≤ 1 + bitsAt former p a)
   unfolding arcs
   graph-exchange p a b k E =
       let s = exchange-set P N R Z zone rows former mates caps M small valid p a b k E in
@@ -112,7 +112,7 @@ module _ (P N R Z : ℕ) (zone : ℕ → ℕ) (rows former mates caps l : List �
       (w .0, omega (arith, w .1, s .2))
 
   -- A node with room has an arc to every node, of weight 0 at most.
-  pub graph-room : (u v : ℕ) → u < N → v < N → copies P (rowsOf rows) u < getD caps u 0
+  pub graph-room : (u v : ℕ) → u < N → v < N → copies P (bitsAt rows) u < getD caps u 0
       → (arcOf (arcsOf rows former P mates caps (belowOf N) Z l) u v ≡ 1) × (weightOf (arcsOf rows former P mates caps (belowOf N) Z l) u v ≤ 1)
   unfolding arcs
   graph-room u v lu lv c =
@@ -121,9 +121,9 @@ module _ (P N R Z : ℕ) (zone : ℕ → ℕ) (rows former mates caps l : List �
 
   -- Every arc is an exchange of its weight in some row, or, at weight 0, a step of a node with room.
   pub graph-witness : (u v : ℕ) → u < N → v < N → arcOf (arcsOf rows former P mates caps (belowOf N) Z l) u v ≡ 1
-      → ((p : ℕ) × (p < P) × Exchange N R Z zone any (rowsOf rows) p u v
-      × (weightOf (arcsOf rows former P mates caps (belowOf N) Z l) u v + rowsOf former p v ≡ 1 + rowsOf former p u))
-      ⊎ ((weightOf (arcsOf rows former P mates caps (belowOf N) Z l) u v ≡ 1) × (copies P (rowsOf rows) u < getD caps u 0))
+      → ((p : ℕ) × (p < P) × Exchange N R Z zone any (bitsAt rows) p u v
+      × (weightOf (arcsOf rows former P mates caps (belowOf N) Z l) u v + bitsAt former p v ≡ 1 + bitsAt former p u))
+      ⊎ ((weightOf (arcsOf rows former P mates caps (belowOf N) Z l) u v ≡ 1) × (copies P (bitsAt rows) u < getD caps u 0))
   unfolding arcs
   graph-witness u v lu lv e =
       let w = within-arc arcs u v e in

@@ -14,7 +14,7 @@ use Rattle.sums.specs.ModelSums.{maxTo, is}
 use Rattle.sums.specs.TermsSums.{one-if}
 use Rattle.sums.proofs.Sum.{lt-or-ge, is-eq, is-le, is-one}
 use Rattle.sums.proofs.Count.{max-ge, max-le, max-at}
-use Rattle.sets.specs.ModelBits.{bit, belowOf}
+use Rattle.sets.specs.ModelBits.{bitsAt, bit, belowOf}
 use Rattle.sets.proofs.Laws.{bit-le, bit-maskOf, bit-below}
 use Rattle.exchange.specs.ModelRow.{Valid, Exchange, copies}
 use Rattle.swaps.specs.ModelSwaps.{targetsOf}
@@ -36,10 +36,6 @@ some-or-none n f =
 -- Every pair is free to change.
 abbrev pub any : ℕ → ℕ → ℕ
 any p b = 1
-
--- The rows that masks stand for.
-abbrev pub rowsOf : List ℕ → ℕ → ℕ → ℕ
-rowsOf rows p b = bit (getD rows p 0) b
 
 module _ (rows former : List ℕ) (P : ℕ) (mates caps : List ℕ) (all z : ℕ) where
   -- The bits of a cell: some row allows the exchange, or there is room.
@@ -84,15 +80,15 @@ module _ (rows former : List ℕ) (P : ℕ) (mates caps : List ℕ) (N Z : ℕ) 
       ∙ omega (arith, is-le 1 h, bit-below N u (omega arith) lu, bit-below N v (omega arith) lv))
 
 module _ (P N R Z : ℕ) (zone : ℕ → ℕ) (rows former mates caps : List ℕ) (M : Mates N zone mates) (small : (p : ℕ) → p < P → getD rows p 0 < 2 ^ N)
-    (valid : (p : ℕ) → p < P → Valid N R Z zone (rowsOf rows p)) where
+    (valid : (p : ℕ) → p < P → Valid N R Z zone (bitsAt rows p)) where
   -- An exchange that leaves its row valid is in the set of its weight.
-  pub exchange-set : (p a b : ℕ) → p < P → Exchange N R Z zone any (rowsOf rows) p a b
-      → (h : ℕ) × (h < 3) × (h + rowsOf former p b ≡ 1 + rowsOf former p a) × (bit (setOf rows former P mates caps N Z h a) b ≡ 1)
+  pub exchange-set : (p a b : ℕ) → p < P → Exchange N R Z zone any (bitsAt rows) p a b
+      → (h : ℕ) × (h < 3) × (h + bitsAt former p b ≡ 1 + bitsAt former p a) × (bit (setOf rows former P mates caps N Z h a) b ≡ 1)
   unfolding step weighs
   exchange-set p a b l E =
       let row = getD rows p 0 in
-      let fa = rowsOf former p a in
-      let fb = rowsOf former p b in
+      let fa = bitsAt former p a in
+      let fb = bitsAt former p b in
       let h = 1 + fa - fb in
       let la = bit-le (getD former p 0) a in
       let lb = bit-le (getD former p 0) b in
@@ -113,7 +109,7 @@ module _ (P N R Z : ℕ) (zone : ℕ → ℕ) (rows former mates caps : List ℕ
       )
 
   -- A node with room leads to every node at weight 0.
-  pub room-set : (u v : ℕ) → u < N → v < N → copies P (rowsOf rows) u < getD caps u 0 → bit (setOf rows former P mates caps N Z 1 u) v ≡ 1
+  pub room-set : (u v : ℕ) → u < N → v < N → copies P (bitsAt rows) u < getD caps u 0 → bit (setOf rows former P mates caps N Z 1 u) v ≡ 1
   unfolding copies copiesTo one-if
   room-set u v lu lv c =
       omega (
@@ -126,21 +122,21 @@ module _ (P N R Z : ℕ) (zone : ℕ → ℕ) (rows former mates caps : List ℕ
 
   -- What row p allows is an exchange.
   step-exchange : (h u v p : ℕ) → u < N → v < N → p < P → 1 ≤ step rows former P mates caps N Z (M .few) h u v p
-      → Exchange N R Z zone any (rowsOf rows) p u v × (h + rowsOf former p v ≡ 1 + rowsOf former p u)
+      → Exchange N R Z zone any (bitsAt rows) p u v × (h + bitsAt former p v ≡ 1 + bitsAt former p u)
   unfolding step weighs
   step-exchange h u v p lu lv l s =
       let row = getD rows p 0 in
       let T = targetsOf mates (belowOf N) Z row u in
       let i : bit row u ≡ 1 = omega (arith, bit-le row u) in
       let t = target-valid N zone mates M Z row u (small p l) lu i R (valid p l) v lv (omega (arith, bit-le T v)) in
-      let w : rowsOf former p v + h ≡ 1 + rowsOf former p u =
-      is-one (rowsOf former p v + h) (1 + rowsOf former p u) (omega (arith, is-le (rowsOf former p v + h) (1 + rowsOf former p u))) in
+      let w : bitsAt former p v + h ≡ 1 + bitsAt former p u =
+      is-one (bitsAt former p v + h) (1 + bitsAt former p u) (omega (arith, is-le (bitsAt former p v + h) (1 + bitsAt former p u))) in
       (record { a-node = lu; b-node = lv; a-in = i; b-out = t .0; a-free = refl; b-free = refl; valid = t .1 }, omega arith)
 
   -- What is in a set is an exchange of that weight in some row, or, at weight 0, a step of a node with room.
   pub set-witness : (h u v : ℕ) → u < N → v < N → bit (setOf rows former P mates caps N Z h u) v ≡ 1
-      → ((p : ℕ) × (p < P) × Exchange N R Z zone any (rowsOf rows) p u v × (h + rowsOf former p v ≡ 1 + rowsOf former p u))
-      ⊎ ((h ≡ 1) × (copies P (rowsOf rows) u < getD caps u 0))
+      → ((p : ℕ) × (p < P) × Exchange N R Z zone any (bitsAt rows) p u v × (h + bitsAt former p v ≡ 1 + bitsAt former p u))
+      ⊎ ((h ≡ 1) × (copies P (bitsAt rows) u < getD caps u 0))
   unfolding copies copiesTo
   set-witness h u v lu lv e =
       let f = step rows former P mates caps N Z (M .few) h u v in

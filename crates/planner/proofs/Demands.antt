@@ -12,7 +12,8 @@ use Rattle.sizing.specs.ModelSizing.{Fits32, sizeOf}
 use Rattle.sizing.proofs.Sizes.{size-none, none-size, size-largest}
 use Rattle.improve.specs.ModelImprove.{ranIn}
 use Rattle.planner.specs.Demand.{Demand3}
-use Rattle.planner.specs.ModelPlan.{ranFrom, ranOf, planOf, bitsAt, startRows, layoutRows, farRows, improvesAt, nextAt}
+use Rattle.planner.specs.ModelPlan.{ranFrom, ranOf, planOf, startRows, layoutRows, farRows, improvesAt, nextAt}
+use Rattle.sets.specs.ModelBits.{bitsAt}
 use Rattle.planner.proofs.Rules.{good, rules}
 use Rattle.planner.proofs.Machines.{Good, start-good, machine}
 

@@ -9,7 +9,7 @@ use native.Mathlib.Nat.{mul-le-mul, mul-one, one-mul, zero-mul, pow-le-pow-right
 use lib.ListN.{length, getD, drop, replicate, length-replicate, length-append, length-drop, List·getD-append}
 use Rattle.sums.specs.TermsSums.{sumTo, tab}
 use Rattle.sums.proofs.Sum.{sum-cong}
-use Rattle.sets.specs.ModelBits.{bit, maskOf, meetOf, countOf}
+use Rattle.sets.specs.ModelBits.{bit, maskOf, meetOf, countOf, bitsAt}
 use Rattle.sets.proofs.Laws.{bit-le, bit-lt, bit-high, mask-lt, bit-maskOf, bit-meet, meet-lt, count-sum}
 use Rattle.cells.proofs.Cells.{length-tab, getD-tab}
 use Rattle.exchange.specs.ModelRow.{Within, weigh}
@@ -24,7 +24,7 @@ use Rattle.sizing.specs.ModelSizing.{nodesOf, sizeOf, beginning, dealtRows}
 use Rattle.sizing.proofs.Sizes.{beginning-within}
 use Rattle.sizing.proofs.Reading.{deal-length, deal-cell, deal-bit}
 use Rattle.improve.specs.ModelImprove.{agreementIn}
-use Rattle.planner.specs.ModelPlan.{bitsAt, formerMasks, startRows, layoutRows, farRows}
+use Rattle.planner.specs.ModelPlan.{formerMasks, startRows, layoutRows, farRows}
 
 -- ---- a cluster with a layout
 

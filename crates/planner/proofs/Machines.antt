@@ -13,7 +13,7 @@ use lib.ListN.{length, getD, drop, replicate, length-replicate, length-append}
 use borrow.Author.Tests.{eq-eqb, ne-eqb, le-leb}
 use Rattle.sums.specs.TermsSums.{sumTo, one-if, tab}
 use Rattle.sums.proofs.Sum.{lt-or-ge, sum-zero}
-use Rattle.sets.specs.ModelBits.{belowOf}
+use Rattle.sets.specs.ModelBits.{belowOf, bitsAt}
 use Rattle.sets.proofs.Laws.{bit-le}
 use Rattle.cells.specs.ModelCells.{put}
 use Rattle.cells.proofs.Cells.{length-put, getD-put-in, length-tab}
@@ -43,7 +43,7 @@ use Rattle.cycles.specs.ModelFound.{searchable, endLength, endWalk, foundLength
 use Rattle.circuits.specs.ModelCircuits.{turnedOf, okOf, witnessOf}
 use Rattle.circuits.proofs.Improving.{ok-right, witness-graph, turned-length, held-cycle, turned-small, turned-better}
 use Rattle.improve.specs.ModelImprove.{arcsIn, cycleIn, improvesIn, nextIn}
-use Rattle.planner.specs.ModelPlan.{bitsAt, matesOf, formerMasks, startRows, layoutRows, farRows, improvesAt, nextAt}
+use Rattle.planner.specs.ModelPlan.{matesOf, formerMasks, startRows, layoutRows, farRows, improvesAt, nextAt}
 use Rattle.sums.proofs.Tests.{true-or-false}
 use Rattle.improve.proofs.Runs.{not-both}
 use Rattle.planner.proofs.Rules.{Machine}

@@ -4,8 +4,8 @@
 use Prim.Native.Nat.{ℕ, _+_, _-_, _*_}
 use mathlib.Core.Bool.{Bool}
 use mathlib.Core.List.{List, _++_}
-use lib.ListN.{getD, drop, replicate}
-use Rattle.sets.specs.ModelBits.{bit, maskOf}
+use lib.ListN.{drop, replicate}
+use Rattle.sets.specs.ModelBits.{bitsAt, maskOf}
 use Rattle.sums.specs.TermsSums.{tab}
 use Rattle.cluster.specs.Terms.{bufferRows, Topology, partitions, Layout}
 use Rattle.incidence.specs.ModelIncidence.{incidence, layoutOf, formerPairs, zoneCells}
@@ -15,10 +15,6 @@ use Rattle.improve.specs.ModelImprove.{improvesIn, nextIn, ranIn, agreementIn}
 use Rattle.planner.specs.Demand.{Answer}
 
 -- ---- the plan of a topology
-
--- The rows as 0/1 rows of the theory.
-abbrev pub bitsAt : List ℕ → ℕ → ℕ → ℕ
-bitsAt rows p b = bit (getD rows p 0) b
 
 -- The nodes of each node's zone.
 abbrev pub matesOf : Topology → List ℕ

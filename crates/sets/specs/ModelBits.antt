@@ -3,6 +3,8 @@
 -- Assumes nothing.
 use Prim.Native.Nat.{ℕ, zero, suc, _+_, _-_, _*_, _/_, _%_, min, max}
 use mathlib.Core.Bool.{Bool}
+use mathlib.Core.List.{List}
+use lib.ListN.{getD}
 use lib.Dec.{eqb, ltb}
 use lib.Count.{under}
 use Rattle.sums.specs.TermsSums.{sumTo, one-if}
@@ -16,6 +18,10 @@ maskBits = 32
 unfoldable pub bit : ℕ → ℕ → ℕ
 bit m zero = m % 2
 bit m (suc i) = bit (m / 2) i
+
+-- Rows of masks as rows of 0 and 1: digit b of cell p.
+abbrev pub bitsAt : List ℕ → ℕ → ℕ → ℕ
+bitsAt rows p b = bit (getD rows p 0) b
 
 -- The set of the numbers below n at which f is not 0.
 unfoldable pub maskOf : (ℕ → ℕ) → ℕ → ℕ
