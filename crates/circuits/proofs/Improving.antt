@@ -19,7 +19,8 @@ use Rattle.exchange.specs.ModelLevels.{Cycle, back, cycleLength, outcome, IsCyc
 use Rattle.exchange.specs.ModelCircuit.{cost, Allowed, Better}
 use Rattle.exchange.specs.ModelUncross.{Walk, Round, Right, improved}
 use Rattle.exchange.specs.ModelJoin.{ExchangeGraph, cycleWalk, nextLayout}
-use Rattle.exchange.proofs.Search.{First, first-cases, outcome-cycle}
+use Rattle.sums.proofs.First.{First, first-cases}
+use Rattle.exchange.proofs.Search.{outcome-cycle}
 use Rattle.exchange.proofs.Circuit.{cost-row, cost-store}
 use Rattle.exchange.proofs.Uncross.{uncross-circuit, improved-better}
 use Rattle.exchange.proofs.Walk.{improved-same}

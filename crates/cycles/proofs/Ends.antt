@@ -3,7 +3,7 @@
 -- Assumes nothing.
 use Prim.Native.Nat.{ℕ, zero, suc, _+_, _-_, _*_, _≤_, _<_, _^_}
 use mathlib.Core.Path.{_≡_, refl, sym, ap, _∙_, subst}
-use mathlib.Core.Bool.{Bool, true, false, cond, _&&_, false≢true}
+use mathlib.Core.Bool.{Bool, true, false, cond, _&&_}
 use mathlib.Core.List.{List}
 use mathlib.Core.Logic.{⊎-elim}
 use native.Mathlib.Nat.{zero-add, sub-zero}
@@ -14,31 +14,22 @@ use lib.ListN.{length, getD, set, take, drop}
 use lib.Seq.{getD-take, getD-drop}
 use borrow.Author.Tests.{lt-ltb, le-ltb}
 use Rattle.cluster.specs.Terms.{mostNodes}
-use Rattle.sums.specs.ModelSums.{is}
+use Rattle.sums.specs.ModelSums.{is, firstFrom}
 use Rattle.sums.proofs.Sum.{lt-or-ge, is-eq}
 use Rattle.cells.specs.ModelCells.{put}
 use Rattle.cells.proofs.Cells.{getD-put-in, put-cong}
 use Rattle.sets.specs.ModelBits.{maskBits, bit, memberOf, withOf, leastOf}
 use Rattle.sets.proofs.Laws.{bit-le, bit-zero, bit-true, bit-false, bit-with, bit-without, least-some, least-at}
 use Rattle.exchange.specs.ModelLevels as levels
-use Rattle.exchange.specs.ModelLevels.{Graph, Outcome, Potential, Cycle, fell, back, way, closes, firstFrom, search-from, outcome, cycleLength}
+use Rattle.exchange.specs.ModelLevels.{Graph, Outcome, Potential, Cycle, fell, back, way, closes, search-from, outcome, cycleLength}
 use Rattle.exchange.proofs.Levels.{from-node}
 use Rattle.sums.proofs.Tests.{true-or-false}
-use Rattle.exchange.proofs.Search.{open-next, Closing, closing, first-is-none, first-some, first-none, first-cases, way-next, way-stays, way-self, way-le, back-next, back-fell, back-node}
+use Rattle.exchange.proofs.Search.{open-next, Closing, closing, way-next, way-stays, way-self, way-le, back-next, back-fell, back-node}
+use Rattle.sums.proofs.First.{first-lt, first-cong, first-is-none, first-some, first-none, first-cases}
 use Rattle.cycles.specs.ModelFound.{endLength, endWalk}
 use Rattle.cycles.specs.ModelTurns.{before, closer, trail, trailLength}
 use Rattle.cycles.proofs.Parts.{before-fallen, before-stayed}
 use Rattle.cycles.proofs.States.{State, Next}
-
--- A first index goes by the values of its test.
-first-cong : (t s : ℕ → Bool) (n i : ℕ) → ((j : ℕ) → i ≤ j → j < i + n → t j ≡ s j) → firstFrom t n i ≡ firstFrom s n i
-unfolding firstFrom
-first-cong t s zero i h = refl
-first-cong t s (suc n) i h = rw (h i (omega arith) (omega arith), first-cong t s n (suc i) (λ j a b. h j (omega arith) (omega arith)))
-
--- Where an index passes, the first is below the bound.
-first-lt : (t : ℕ → Bool) (n i : ℕ) → i < n → t i ≡ true → firstFrom t n 0 < n
-first-lt t n i l e = ⊎-elim (λ h. omega (arith, h .1)) (λ h. absurd (false≢true (sym (h .1 i (omega arith) (omega arith)) ∙ e))) (first-cases t n 0)
 
 -- One level down from level k, with all that the cells hold: the state before, the next level, and the row of the nodes that the fallen came from.
 pub record Turning (G : Graph) (k set mask : ℕ) (next table dist next₀ ways table₀ row : List ℕ) : Type 0 where

@@ -1,5 +1,4 @@
 pub mod Ends
-pub mod Firsts
 pub mod Offers
 pub mod Parts
 pub mod Rows

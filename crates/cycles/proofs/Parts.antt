@@ -14,9 +14,9 @@ use Rattle.cluster.specs.Terms.{mostNodes}
 use Rattle.cells.specs.ModelCells.{put}
 use Rattle.cells.proofs.Cells.{put-next}
 use Rattle.sets.specs.ModelBits.{memberOf, withoutOf}
-use Rattle.exchange.specs.ModelLevels.{firstFrom}
+use Rattle.sums.specs.ModelSums.{firstFrom}
 use Rattle.cycles.specs.ModelTurns.{before, closer, trail, trailLength}
-use Rattle.cycles.proofs.Firsts.{first-hit, first-miss, first-end}
+use Rattle.sums.proofs.First.{first-hit, first-miss, first-end}
 
 -- ---- ways
 

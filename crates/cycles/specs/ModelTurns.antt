@@ -10,7 +10,8 @@ use lib.ListN.{getD}
 use Rattle.cluster.specs.Terms.{mostNodes}
 use Rattle.sums.specs.TermsSums.{one-if}
 use Rattle.sets.specs.ModelBits.{bit, memberOf, withoutOf}
-use Rattle.exchange.specs.ModelLevels.{Fall, scan, firstFrom}
+use Rattle.exchange.specs.ModelLevels.{Fall, scan}
+use Rattle.sums.specs.ModelSums.{firstFrom}
 use Rattle.cycles.specs.ModelGraph.{graphOf}
 
 -- The fall f of a node that stood at d is held in cells: its distance x, the node y it came from, where it fell, and its mark b.

@@ -8,10 +8,10 @@ use mathlib.Core.Logic.{⊎-elim}
 use native.Mathlib.Omega.{arith}
 use lib.Dec.{ltb}
 use borrow.Author.Tests.{lt-ltb, le-ltb}
+use Rattle.sums.proofs.First.{first-cong}
 use Rattle.sums.specs.TermsSums.{sumTo}
-use Rattle.sums.specs.ModelSums.{is}
+use Rattle.sums.specs.ModelSums.{is, firstFrom}
 use Rattle.sums.proofs.Sum.{lt-or-ge, sum-cong}
-use Rattle.exchange.specs.ModelLevels.{firstFrom}
 use Rattle.exchange.specs.ModelCircuit.{cost, turn}
 use Rattle.exchange.specs.ModelUncross.{Walk, Same, crosses, partner, first, skip, wrap, part, inner, outer, walk-costs, split, uncross, improved}
 use Rattle.exchange.proofs.Uncross.{skip-le, wrap-low, wrap-end, first-pair}
@@ -47,13 +47,6 @@ same-trans {w} {u} {v} a b =
       partitions = λ t l. a .partitions t l ∙ b .partitions t (omega arith);
     }
 
--- Tests that agree find the same.
-firstFrom-same : (f h : ℕ → Bool) (n t : ℕ) → ((u : ℕ) → t ≤ u → u < t + n → f u ≡ h u) → firstFrom f n t ≡ firstFrom h n t
-unfolding firstFrom
-firstFrom-same f h zero t e = refl
-firstFrom-same f h (suc n) t e =
-    ap₂ (λ (b : Bool) (r : ℕ). cond b t r) (e t (omega arith) (omega arith)) (firstFrom-same f h n (suc t) (λ u l k. e u (omega arith) (omega arith)))
-
 -- A sum over the arcs.
 sum-same : {w u : Walk} (f : ℕ → ℕ → ℕ → ℕ) → Same w u
     → sumTo (w .len) (λ i. f (w .partition i) (w .node (suc i)) (w .node i)) ≡ sumTo (u .len) (λ i. f (u .partition i) (u .node (suc i)) (u .node i))
@@ -87,13 +80,13 @@ module _ (P C : ℕ) (g : ℕ → ℕ → ℕ) (ok : ℕ → ℕ → ℕ → Boo
   unfolding partner
   partner-same {w} {u} s i l =
       ap (λ (m : ℕ). firstFrom (crosses P ok (w .node) (w .partition) i) (m - suc i) (suc i)) (s .lens)
-      ∙ firstFrom-same (crosses P ok (w .node) (w .partition) i) (crosses P ok (u .node) (u .partition) i) (u .len - suc i) (suc i)
+      ∙ first-cong (crosses P ok (w .node) (w .partition) i) (crosses P ok (u .node) (u .partition) i) (u .len - suc i) (suc i)
       (λ j a b. crosses-same s i j a (omega arith))
 
   first-same : {w u : Walk} → Same w u → first P ok w ≡ first P ok u
   unfolding first
   first-same {w} {u} s =
-      firstFrom-same (λ i. ltb (partner P ok w i) (w .len)) (λ i. ltb (partner P ok u i) (u .len)) (w .len) 0
+      first-cong (λ i. ltb (partner P ok w i) (w .len)) (λ i. ltb (partner P ok u i) (u .len)) (w .len) 0
       (λ i a b. ap₂ ltb (partner-same s i (omega arith)) (s .lens))
       ∙ ap (λ (m : ℕ). firstFrom (λ i. ltb (partner P ok u i) (u .len)) m 0) (s .lens)
 
