@@ -1,18 +1,19 @@
 -- The laws of sets that grow and numbers that are added to, and one turn of each loop, over plain numbers and lists.
 -- Assumes nothing.
-use Prim.Native.Nat.{ℕ, zero, suc, _+_, _-_, _*_, _/_, _%_, _^_, _≤_, _<_, min, max}
+use Prim.Native.Nat.{ℕ, zero, suc, _+_, _-_, _*_, _/_, _%_, _≤_, _<_, min, max}
 use mathlib.Core.Path.{_≡_, refl, sym, ap, ap₂, _∙_}
 use mathlib.Core.List.{List}
 use mathlib.Core.Logic.{⊎-elim}
 use native.Mathlib.Omega.{arith}
 use lib.ListN.{length, getD, set, length-set}
 use lib.Seq.{getD-set-same, getD-set-other, drop-set-lt}
+use Rattle.sets.proofs.Scan.{done-more, Left}
 use Rattle.cluster.specs.Terms.{mostNodes}
 use Rattle.cycles.specs.ModelGraph.{arcCells}
 use Rattle.sums.specs.ModelSums.{is}
 use Rattle.sums.proofs.Sum.{is-eq, is-ne, is-le, is-cases}
-use Rattle.sets.specs.ModelBits.{maskBits, bit, withoutOf, unionOf, meetOf, differenceOf, leastOf}
-use Rattle.sets.proofs.Laws.{bit-le, bit-zero, bit-union, bit-meet, bit-difference, bit-without, without-lt, least-some, least-at}
+use Rattle.sets.specs.ModelBits.{bit, withoutOf, unionOf, meetOf, differenceOf, leastOf}
+use Rattle.sets.proofs.Laws.{bit-le, bit-union, bit-meet, bit-difference}
 use Rattle.graph.specs.ModelArcs.{weighs, joined, noted}
 use Rattle.graph.specs.ModelGrowth.{Grown, Added}
 
@@ -162,60 +163,19 @@ added-one l a h =
 
 -- ---- the members of a set, one after the other
 
--- What is left is a set of members of s.
-pub record Left (s left : ℕ) : Type 0 where
-  pub word : left < 2 ^ maskBits
-  pub part : (c : ℕ) → c < mostNodes → bit left c ≤ bit s c
+-- A condition y of the members that are done grows by the next one, where x is the condition of that one.
+pub done-grows : (s left : ℕ) → Left s left → (left ≡ 0 → ⊥) → (c i x y : ℕ) → c < mostNodes → i ≡ is (leastOf left) c → (leastOf left ≡ c → x ≡ y)
+    → max (min (bit s c - bit left c) y) (min i x) ≡ min (bit s c - bit (withoutOf left (leastOf left)) c) y
+done-grows s left L some c i x y l e h =
+    ⊎-elim (λ w. both (bit s c - bit left c) i x y (bit s c - bit (withoutOf left (leastOf left)) c) (omega (arith, w .1)) (omega (arith, w .1, done-more s left L some c l)) (omega (arith, bit-le s c)) (h (w .0)))
+    (λ w. others (bit s c - bit left c) i x y (bit s c - bit (withoutOf left (leastOf left)) c) (omega (arith, w .1)) (omega (arith, w .1, done-more s left L some c l)))
+    (is-cases (leastOf left) c)
+  where
+    both : (d i x y d′ : ℕ) → i ≡ 1 → d + 1 ≡ d′ → d′ ≤ 1 → x ≡ y → max (min d y) (min i x) ≡ min d′ y
+    both d i x y d′ e q o p = omega arith
 
--- At first all is left.
-pub left-all : (s : ℕ) → s < 2 ^ maskBits → Left s s
-left-all s h = record { word = h; part = λ c l. omega arith }
-
-module _ (s left : ℕ) (L : Left s left) (some : left ≡ 0 → ⊥) where
-  -- The least that is left is a member.
-  pub least-word : leastOf left < maskBits
-  least-word = least-some left (L .word) some
-
-  -- Without it the others are left.
-  pub left-less : Left s (withoutOf left (leastOf left))
-  left-less =
-      record {
-        word = without-lt left (leastOf left);
-        part = λ c l. omega (arith, L .part c l, bit-without left (leastOf left) c l);
-      }
-
-  -- It is done now, beside those that were done.
-  pub done-more : (c : ℕ) → c < mostNodes → bit s c - bit left c + is (leastOf left) c ≡ bit s c - bit (withoutOf left (leastOf left)) c
-  done-more c l =
-      ⊎-elim
-      (λ w. omega (
-        arith,
-        w .1,
-        L .part c l,
-        bit-le s c,
-        bit-without left (leastOf left) c l,
-        least-at left least-word,
-        ap (bit left) (w .0),
-      ))
-      (λ w. omega (arith, w .1, bit-without left (leastOf left) c l)) (is-cases (leastOf left) c)
-
-  -- The same, of conditions w that hold where the member is done.
-  pub done-grows : (c i x y : ℕ) → c < mostNodes → i ≡ is (leastOf left) c → (leastOf left ≡ c → x ≡ y)
-      → max (min (bit s c - bit left c) y) (min i x) ≡ min (bit s c - bit (withoutOf left (leastOf left)) c) y
-  done-grows c i x y l e h =
-      ⊎-elim (λ w. both (bit s c - bit left c) i x y (bit s c - bit (withoutOf left (leastOf left)) c) (omega (arith, w .1)) (omega (arith, w .1, done-more c l)) (omega (arith, bit-le s c)) (h (w .0)))
-      (λ w. others (bit s c - bit left c) i x y (bit s c - bit (withoutOf left (leastOf left)) c) (omega (arith, w .1)) (omega (arith, w .1, done-more c l)))
-      (is-cases (leastOf left) c)
-    where
-      both : (d i x y d′ : ℕ) → i ≡ 1 → d + 1 ≡ d′ → d′ ≤ 1 → x ≡ y → max (min d y) (min i x) ≡ min d′ y
-      both d i x y d′ e q o p = omega arith
-
-      others : (d i x y d′ : ℕ) → i ≡ 0 → d ≡ d′ → max (min d y) (min i x) ≡ min d′ y
-      others d i x y d′ e q = omega arith
-
--- At last all are done.
-pub done-all : (s left c : ℕ) → left ≡ 0 → bit s c - bit left c ≡ bit s c
-done-all s left c e = omega (arith, ap (λ (x : ℕ). bit x c) e, bit-zero c)
+    others : (d i x y d′ : ℕ) → i ≡ 0 → d ≡ d′ → max (min d y) (min i x) ≡ min d′ y
+    others d i x y d′ e q = omega arith
 
 -- ---- what the code computes, step by step
 

@@ -20,7 +20,8 @@ use Rattle.cells.proofs.Cells.{length-tab, getD-tab}
 use Rattle.swaps.specs.ModelSwaps.{targetsOf}
 use Rattle.graph.specs.ModelArcs.{weighs, moves, movesTo, copiesTo, roomy, cellOf, arcsOf, joined, noted}
 use Rattle.graph.specs.ModelGrowth.{Grown, Added}
-use Rattle.graph.proofs.Growing.{grown-same, grown-then, grown-joined, grown-noted, slot, added-same, added-then, added-one, Left, least-word, done-more, done-grows, done-all}
+use Rattle.graph.proofs.Growing.{grown-same, grown-then, grown-joined, grown-noted, slot, added-same, added-then, added-one, done-grows}
+use Rattle.sets.proofs.Scan.{Left, least-word, done-more, done-all}
 
 -- ---- the nodes of a row
 

@@ -63,8 +63,12 @@ slice-aggregate-descend-2 c = sym (c .before .before .before .loop .inv .6)
 slice-aggregate-descend-3 : tie.Need-slice-aggregate-descend-3 Inv-loop μ-loop
 slice-aggregate-descend-3 c = sym (c .before .before .before .before .loop .inv .9)
 
+-- Within a turn, the level is below n.
+inside : (c : tie.In-loop Inv-loop μ-loop) → c .before .loop .k < c .before .before .before .before .before .before .before .before .args .n
+inside c = let t = c .loop-test .taken in omega arith
+
 low : (c : tie.In-loop Inv-loop μ-loop) → c .before .loop .k < mostNodes
-low c = level-lt (c .before .loop .k) (c .before .before .before .before .before .before .before .before .args .n) (c .loop-test .taken) (c .before .loop .inv .1)
+low c = level-lt (c .before .loop .k) (c .before .before .before .before .before .before .before .before .args .n) (inside c) (c .before .loop .inv .1)
 
 table-long : (c : tie.After-descend Inv-loop μ-loop) → length (c .descend .last .1 .1 .1 .1 .1 .1 .0) ≡ tableCells
 table-long c = c .descend .kept .1 .1 .1 .1 .1 .1 .0 ∙ c .before .before .before .before .before .loop .inv .9
@@ -74,7 +78,7 @@ descend-requires c κs =
     let l = c .before .before .before .before in
     let i = l .loop .inv in
     let a = l .before .before .before .before .before .before .before .args in
-    let b = c .before .before .before .loop-test .taken in (
+    let b = inside (c .before .before .before) in (
       low (c .before .before .before),
       i .1,
       i .2,
@@ -98,7 +102,7 @@ turn c =
     let a = l .before .before .before .before .before .before .before .args in
     let t = c .descend .last .1 .1 .1 .1 .1 .1 .0 in
     let s = l .loop .inv .1 in
-    let b = c .before .before .before .before .loop-test .taken in
+    let b = inside (c .before .before .before .before) in
     record {
       small = s;
       below = b;
@@ -198,7 +202,7 @@ add-k : tie.Need-add-k Inv-loop μ-loop
 add-k c = level-fits (c .before .before .before .before .before .before .before .before .before .before .before .before .before .before .before .loop .k) (low (c .before .before .before .before .before .before .before .before .before .before .before .before .before .before))
 
 loop-less : tie.Need-loop-less Inv-loop μ-loop
-loop-less c = level-less (c .before .before .before .before .before .before .before .before .before .before .before .before .before .before .before .loop .k) _ (c .before .before .before .before .before .before .before .before .before .before .before .before .before .before .loop-test .taken)
+loop-less c = level-less (c .before .before .before .before .before .before .before .before .before .before .before .before .before .before .before .loop .k) _ (inside (c .before .before .before .before .before .before .before .before .before .before .before .before .before .before))
 
 loop-again : tie.Need-loop-again Inv-loop μ-loop
 loop-again c =

@@ -7,7 +7,7 @@ use lib.ListN.{length, getD}
 use Rattle.sets.specs.ModelBits.{countOf, withoutOf}
 use Rattle.sets.proofs.Laws.{least-taken}
 use Rattle.graph.specs.ModelGrowth.{Grown}
-use Rattle.graph.proofs.Growing.{Left, left-all, least-word, left-less}
+use Rattle.sets.proofs.Scan.{Left, left-all, least-word, left-less}
 use Rattle.graph.proofs.Turns.{rooming, room-none, room-of, room-turn, room-all}
 use borrow.Author.Needs.{needs}
 use native.Mathlib.Omega.{arith}

@@ -6,7 +6,8 @@ use lib.ListN.{length}
 use Rattle.sets.specs.ModelBits.{bit, countOf, withoutOf}
 use Rattle.swaps.proofs.Steps.{targets-are}
 use Rattle.graph.specs.ModelGrowth.{Grown, Added}
-use Rattle.graph.proofs.Growing.{added-same, Left, left-all, least-word, left-less}
+use Rattle.graph.proofs.Growing.{added-same}
+use Rattle.sets.proofs.Scan.{Left, left-all, least-word, left-less}
 use Rattle.graph.proofs.Turns.{doing, row-none, row-turn, row-all, count-turn, count-all}
 use Rattle.sets.proofs.Laws.{bit-le, least-at, least-taken}
 use borrow.Author.Needs.{needs}
