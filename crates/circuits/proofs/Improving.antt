@@ -10,6 +10,7 @@ use native.Mathlib.Omega.{arith}
 use lib.Dec.{eqb, ltb}
 use lib.ListN.{length, getD}
 use borrow.Author.Tests.{eqb-true, eq-eqb, lt-ltb, le-ltb, not-true}
+use Rattle.cluster.specs.Terms.{bufferRows, mostNodes}
 use Rattle.sums.proofs.Sum.{sum-cong}
 use Rattle.sets.specs.ModelBits.{bit, memberOf, belowOf, bitsAt}
 use Rattle.sets.proofs.Laws.{bit-le, member-true, member-false, bit-true, bit-false}
@@ -18,7 +19,8 @@ use Rattle.exchange.specs.ModelLevels.{Cycle, back, cycleLength, outcome, IsCyc
 use Rattle.exchange.specs.ModelCircuit.{cost, Allowed, Better}
 use Rattle.exchange.specs.ModelUncross.{Walk, Round, Right, improved}
 use Rattle.exchange.specs.ModelJoin.{ExchangeGraph, cycleWalk, nextLayout}
-use Rattle.exchange.proofs.Search.{First, first-cases, outcome-cycle}
+use Rattle.sums.proofs.First.{First, first-cases}
+use Rattle.exchange.proofs.Search.{outcome-cycle}
 use Rattle.exchange.proofs.Circuit.{cost-row, cost-store}
 use Rattle.exchange.proofs.Uncross.{uncross-circuit, improved-better}
 use Rattle.exchange.proofs.Walk.{improved-same}
@@ -27,10 +29,11 @@ use Rattle.exchange.proofs.Agreeing.{SameLayout, better-cong}
 use Rattle.swaps.specs.ModelSwaps.{targetsOf}
 use Rattle.swaps.specs.ModelMates.{Mates}
 use Rattle.swaps.proofs.Fitting.{target-valid, valid-target}
-use Rattle.cycles.specs.ModelGraph.{graphOf, arcOf, weightOf}
-use Rattle.circuits.specs.ModelCircuits.{okOf, suitsOf, suitsAt, witnessOf, cycleOf, freedOf, walkedOf, turnedOf}
+use Rattle.cycles.specs.ModelGraph.{arcCells, graphOf, arcOf, weightOf}
+use Rattle.walks.specs.ModelWalks.{okOf, suitsOf, suitsAt, witnessOf}
+use Rattle.circuits.specs.ModelCircuits.{cycleOf, freedOf, walkedOf, turnedOf}
 use Rattle.circuits.proofs.Steps.{length-exchanged}
-use Rattle.circuits.proofs.Exchanging.{exchanged-beyond, walked-bit, walked-small}
+use Rattle.circuits.proofs.Exchanging.{walked-bit, walked-small}
 
 -- ---- the test of a partition
 
@@ -63,7 +66,7 @@ module _ (rows former : List ℕ) (P : ℕ) (mates arcs : List ℕ) (all z : ℕ
       → Q (turnedOf rows former P mates arcs all z nodes m)
   unfolding turnedOf
   turned-cases Q a b =
-      go (ltb 32 m) (go (ltb 256 P) (go (ltb (length rows) P) (go (ltb (length former) P) (go (ltb (length arcs) 96) (or (ltb m (length nodes)))))))
+      go (ltb mostNodes m) (go (ltb bufferRows P) (go (ltb (length rows) P) (go (ltb (length former) P) (go (ltb (length arcs) arcCells) (or (ltb m (length nodes)))))))
     where
       go : (t : Bool) {l : List ℕ} → Q l → Q (cond t rows l)
       go true h = a
@@ -78,12 +81,6 @@ module _ (rows former : List ℕ) (P : ℕ) (mates arcs : List ℕ) (all z : ℕ
   turned-length =
       let w = freedOf rows former P mates arcs all z nodes m in
       turned-cases (λ l. length l ≡ length rows) refl (length-exchanged P (w .node) (w .partition) rows (w .len))
-
-  -- The rows from P on are kept.
-  pub turned-beyond : (p : ℕ) → P ≤ p → getD (turnedOf rows former P mates arcs all z nodes m) p 0 ≡ getD rows p 0
-  turned-beyond p h =
-      let w = freedOf rows former P mates arcs all z nodes m in
-      turned-cases (λ l. getD l p 0 ≡ getD rows p 0) refl (exchanged-beyond P (w .node) (w .partition) rows (w .len) p h)
 
 -- ---- in planning
 
@@ -178,8 +175,8 @@ module _ (P N R Z : ℕ) (zone cap : ℕ → ℕ) (free : ℕ → ℕ → ℕ) (
             record { nodes = refl; shift = refl; exchanges = exchanges; room = room; witness = λ u v l k a. witness-right u v l k a }
 
         -- The rows after the exchanges of a cycle over the nodes of a list.
-        module _ (nodes : List ℕ) (m : ℕ) (c : IsCycle (graphOf arcs N) m (λ t. getD nodes t 0)) (many : P ≤ 256) (a : P ≤ length rows) (b : P ≤ length former)
-            (d : 96 ≤ length arcs) (e : m < length nodes)
+        module _ (nodes : List ℕ) (m : ℕ) (c : IsCycle (graphOf arcs N) m (λ t. getD nodes t 0)) (many : P ≤ bufferRows) (a : P ≤ length rows) (b : P ≤ length former)
+            (d : arcCells ≤ length arcs) (e : m < length nodes)
           where
             abbrev new : List ℕ
             new = turnedOf rows former P mates arcs (belowOf N) Z nodes m
@@ -191,11 +188,11 @@ module _ (P N R Z : ℕ) (zone cap : ℕ → ℕ) (free : ℕ → ℕ → ℕ) (
             unfolding turnedOf
             new-walked =
                 rw (
-                  le-ltb 32 m (omega (arith, c .few, M .few)),
-                  le-ltb 256 P many,
+                  le-ltb mostNodes m (omega (arith, c .few, M .few)),
+                  le-ltb bufferRows P many,
                   le-ltb (length rows) P a,
                   le-ltb (length former) P b,
-                  le-ltb (length arcs) 96 d,
+                  le-ltb (length arcs) arcCells d,
                   lt-ltb m (length nodes) e,
                 )
 
@@ -233,8 +230,8 @@ module _ (P N R Z : ℕ) (zone cap : ℕ → ℕ) (free : ℕ → ℕ → ℕ) (
 
         -- The rows after the exchanges of the cycle that the search ends with, where the list holds its way back.
         module _ (some : 1 ≤ N) (k v : ℕ) (o : outcome (graphOf arcs N) ≡ Cycle k v) (nodes : List ℕ)
-            (held : (t : ℕ) → t ≤ cycleLength (graphOf arcs N) k v → getD nodes t 0 ≡ back (graphOf arcs N) k v t) (many : P ≤ 256) (a : P ≤ length rows)
-            (b : P ≤ length former) (d : 96 ≤ length arcs) (e : cycleLength (graphOf arcs N) k v < length nodes)
+            (held : (t : ℕ) → t ≤ cycleLength (graphOf arcs N) k v → getD nodes t 0 ≡ back (graphOf arcs N) k v t) (many : P ≤ bufferRows) (a : P ≤ length rows)
+            (b : P ≤ length former) (d : arcCells ≤ length arcs) (e : cycleLength (graphOf arcs N) k v < length nodes)
           where
             abbrev m : ℕ
             m = cycleLength (graphOf arcs N) k v

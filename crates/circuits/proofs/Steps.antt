@@ -19,7 +19,8 @@ use Rattle.cells.proofs.Cells.{put-more, length-put, getD-put-in, getD-put-out}
 use Rattle.exchange.specs.ModelUncross.{Walk, Same, partner, first, inner, outer, split, uncross}
 use Rattle.exchange.proofs.Uncross.{skip-low, skip-high, wrap-low, wrap-end, first-pair}
 use Rattle.exchange.proofs.Walk.{uncross-stop, uncross-go, uncross-same, same-trans}
-use Rattle.circuits.specs.ModelCircuits.{okOf, witnessOf, witnessIn, walkIn, innerGains, cycleOf, freedOf, exchanged, walkedOf}
+use Rattle.walks.specs.ModelWalks.{okOf, witnessOf, walkIn, innerGains}
+use Rattle.circuits.specs.ModelCircuits.{witnessIn, cycleOf, freedOf, exchanged, walkedOf}
 
 -- ---- cells
 

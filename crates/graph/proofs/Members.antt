@@ -1,4 +1,4 @@
--- What the 96 sets of a layout hold: in a layout of valid rows, each exchange that leaves its row valid is in the set of its weight, each node
+-- What the sets of a layout hold: in a layout of valid rows, each exchange that leaves its row valid is in the set of its weight, each node
 -- with room leads to every node at weight 0, and nothing else is in a set.
 -- Assumes nothing.
 use Prim.Native.Nat.{ℕ, _+_, _-_, _*_, _/_, _%_, _^_, _≤_, _<_, min, max}
@@ -10,16 +10,17 @@ use native.Mathlib.Omega.{arith}
 use lib.ListN.{getD}
 use lib.Dec.{ltb}
 use borrow.Author.Tests.{lt-ltb, ltb-true}
+use Rattle.cluster.specs.Terms.{mostNodes}
 use Rattle.sums.specs.ModelSums.{maxTo, is}
 use Rattle.sums.specs.TermsSums.{one-if}
 use Rattle.sums.proofs.Sum.{lt-or-ge, is-eq, is-le, is-one}
 use Rattle.sums.proofs.Count.{max-ge, max-le, max-at}
-use Rattle.sets.specs.ModelBits.{bitsAt, bit, belowOf}
-use Rattle.sets.proofs.Laws.{bit-le, bit-high, bit-none, bit-maskOf, bit-mask-high, mask-lt, bit-below, bit-below-not}
+use Rattle.sets.specs.ModelBits.{maskBits, bitsAt, bit, belowOf}
+use Rattle.sets.proofs.Laws.{bit-le, bit-maskOf, bit-below}
 use Rattle.exchange.specs.ModelRow.{Valid, Exchange, copies}
 use Rattle.swaps.specs.ModelSwaps.{targetsOf}
 use Rattle.swaps.specs.ModelMates.{Mates}
-use Rattle.swaps.proofs.Fitting.{targets-high, target-valid, valid-target}
+use Rattle.swaps.proofs.Fitting.{target-valid, valid-target}
 use Rattle.graph.specs.ModelArcs.{weighs, moves, movesTo, copiesTo, roomy, cellOf}
 
 -- From 1 back to the test.
@@ -39,23 +40,23 @@ any p b = 1
 
 module _ (rows former : List ℕ) (P : ℕ) (mates caps : List ℕ) (all z : ℕ) where
   -- The bits of a cell: some row allows the exchange, or there is room.
-  bit-cell : (j b : ℕ) → b < 32
+  bit-cell : (j b : ℕ) → b < mostNodes
       → bit (cellOf rows former P mates caps all z j) b
       ≡ max (movesTo rows former P mates all z j b) (roomy (copiesTo rows P) caps all j b)
   unfolding cellOf movesTo moves roomy
   bit-cell j b l =
-      bit-maskOf (λ b. max (movesTo rows former P mates all z j b) (roomy (copiesTo rows P) caps all j b)) 32 b l
+      bit-maskOf (λ b. max (movesTo rows former P mates all z j b) (roomy (copiesTo rows P) caps all j b)) maskBits b l
       (omega (
         arith,
-        bit-le all (j % 32),
-        max-le P 1 (λ q. moves mates all z (getD rows q 0) (getD former q 0) j b) (λ q h. omega (arith, bit-le (getD rows q 0) (j % 32))),
+        bit-le all (j % mostNodes),
+        max-le P 1 (λ q. moves mates all z (getD rows q 0) (getD former q 0) j b) (λ q h. omega (arith, bit-le (getD rows q 0) (j % mostNodes))),
       ))
 
 -- The set of the node u at weight h - 1, over the nodes below N.
 abbrev pub setOf : List ℕ → List ℕ → ℕ → List ℕ → List ℕ → ℕ → ℕ → ℕ → ℕ → ℕ
-setOf rows former P mates caps N Z h u = cellOf rows former P mates caps (belowOf N) Z (32 * h + u)
+setOf rows former P mates caps N Z h u = cellOf rows former P mates caps (belowOf N) Z (mostNodes * h + u)
 
-module _ (rows former : List ℕ) (P : ℕ) (mates caps : List ℕ) (N Z : ℕ) (few : N ≤ 32) where
+module _ (rows former : List ℕ) (P : ℕ) (mates caps : List ℕ) (N Z : ℕ) (few : N ≤ mostNodes) where
   -- What row q allows at weight h - 1.
   step : ℕ → ℕ → ℕ → ℕ → ℕ
   step h u v q =
@@ -68,9 +69,9 @@ module _ (rows former : List ℕ) (P : ℕ) (mates caps : List ℕ) (N Z : ℕ) 
   unfolding step movesTo moves roomy
   bit-set h u v lu lv =
       let all = belowOf N in
-      let j = 32 * h + u in
-      let eu : j % 32 ≡ u = omega arith in
-      let eh : j / 32 ≡ h = omega arith in
+      let j = mostNodes * h + u in
+      let eu : j % mostNodes ≡ u = omega arith in
+      let eh : j / mostNodes ≡ h = omega arith in
       bit-cell rows former P mates caps all Z j v (omega arith)
       ∙ ap₂ max
       (ap₂
@@ -78,35 +79,6 @@ module _ (rows former : List ℕ) (P : ℕ) (mates caps : List ℕ) (N Z : ℕ) 
       eu eh)
       (ap₂ (λ (a k : ℕ). min (bit all a) (min (is 1 k) (min (one-if (ltb (copiesTo rows P a) (getD caps a 0))) (bit all v)))) eu eh
       ∙ omega (arith, is-le 1 h, bit-below N u (omega arith) lu, bit-below N v (omega arith) lv))
-
-  -- No set has a node from N on.
-  pub cell-high : (j v : ℕ) → N ≤ v → bit (cellOf rows former P mates caps (belowOf N) Z j) v ≡ 0
-  unfolding cellOf movesTo moves roomy
-  cell-high j v g =
-      ⊎-elim
-      (λ l. bit-cell rows former P mates caps (belowOf N) Z j v l
-      ∙ omega (
-        arith,
-        bit-below-not N v g,
-        max-le P 0 (λ q. moves mates (belowOf N) Z (getD rows q 0) (getD former q 0) j v)
-            (λ q h. omega (arith, targets-high mates N Z (getD rows q 0) (j % 32) v g)),
-      ))
-      (λ m. bit-mask-high (λ b. max (movesTo rows former P mates (belowOf N) Z j b) (roomy (copiesTo rows P) caps (belowOf N) j b)) 32 v m)
-      (lt-or-ge v 32)
-
-  -- The sets of nodes from N on are empty, where the rows have none of them.
-  pub cell-none : ((p : ℕ) → p < P → getD rows p 0 < 2 ^ N) → (j : ℕ) → N ≤ j % 32 → cellOf rows former P mates caps (belowOf N) Z j ≡ 0
-  unfolding cellOf movesTo moves roomy
-  cell-none small j g =
-      bit-none 32 (cellOf rows former P mates caps (belowOf N) Z j)
-      (mask-lt (λ b. max (movesTo rows former P mates (belowOf N) Z j b) (roomy (copiesTo rows P) caps (belowOf N) j b)) 32)
-      (λ v l. bit-cell rows former P mates caps (belowOf N) Z j v l
-      ∙ omega (
-        arith,
-        bit-below-not N (j % 32) g,
-        max-le P 0 (λ q. moves mates (belowOf N) Z (getD rows q 0) (getD former q 0) j v)
-            (λ q h. omega (arith, bit-high N (getD rows q 0) (j % 32) (small q h) g)),
-      ))
 
 module _ (P N R Z : ℕ) (zone : ℕ → ℕ) (rows former mates caps : List ℕ) (M : Mates N zone mates) (small : (p : ℕ) → p < P → getD rows p 0 < 2 ^ N)
     (valid : (p : ℕ) → p < P → Valid N R Z zone (bitsAt rows p)) where

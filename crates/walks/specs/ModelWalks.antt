@@ -9,7 +9,7 @@ use lib.Dec.{eqb, ltb}
 use Rattle.sets.specs.ModelBits.{bit, memberOf}
 use Rattle.swaps.specs.ModelSwaps.{targetsOf}
 use Rattle.cycles.specs.ModelGraph.{weightOf}
-use Rattle.exchange.specs.ModelLevels.{firstFrom}
+use Rattle.sums.specs.ModelSums.{firstFrom}
 use Rattle.exchange.specs.ModelUncross.{Walk, walk, inner, walk-costs}
 
 -- Whether node a of row p may give way to node b.

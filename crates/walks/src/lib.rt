@@ -1,5 +1,5 @@
 // What is read off a closed walk of the exchange graph: the partition in which an arc is an exchange, the first pair of arcs that can be crossed, and
-// whether the part between two arcs gains. A row is a set of nodes below 32; a walk is two slices, its nodes and the partitions of its arcs. Every
+// whether the part between two arcs gains. A row is a set of nodes; a walk is two slices, its nodes and the partitions of its arcs. Every
 // public function is total: a cell past a slice's end counts as 0, and the arcs are numbered by u32, so that the next one is always an index.
 ghost use mathlib.Core.Path.{_≡_};
 ghost use Prim.Native.Nat.{_+_, _-_, _≤_, _<_, _^_};
@@ -9,6 +9,7 @@ ghost use Rattle.exchange.specs.ModelCircuit.{cost};
 ghost use Rattle.exchange.specs.ModelUncross.{crosses, partner, first};
 ghost use Rattle.cycles.specs.ModelGraph.{weightOf};
 ghost use Rattle.walks.specs.ModelWalks.{okOf, suitsOf, witnessOf, walkIn, innerGains};
+use cluster::Cluster;
 
 // Digit i of s.
 fn digit(s: u32, i: u32) -> u32
@@ -24,7 +25,7 @@ fn weight(arcs: &[u32], u: u32, v: u32) -> u32
     if sets::member(swaps::cell(arcs, u as usize), v) {
         return 0;
     }
-    if sets::member(swaps::cell(arcs, 32 + u as usize), v) {
+    if sets::member(swaps::cell(arcs, Cluster::NODES + u as usize), v) {
         return 1;
     }
     2

@@ -3,7 +3,7 @@ use borrow.Author.Needs.{needs}
 use native.Mathlib.Omega.{arith}
 use Rattle.circuits.proofs.Steps.{pair-in, free-stop, free-go, free-end}
 use Rattle.sets.specs.ModelBits.{bitsAt}
-use Rattle.circuits.specs.ModelCircuits.{okOf, walkIn}
+use Rattle.walks.specs.ModelWalks.{okOf, walkIn}
 use Rattle.exchange.proofs.Walk.{same-refl}
 use Rattle.exchange.specs.ModelUncross.{Same, uncross}
 use lib.ListN.{length}
