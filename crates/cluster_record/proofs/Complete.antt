@@ -14,19 +14,19 @@ use Rattle.cluster.specs.declared.Node.{Node}
 use Rattle.cluster.specs.Terms.{mostBits, mostCopies, mostNodes, Topology, partitions, Layout, noNode, row, idsOf, rising, risingFrom}
 use Rattle.cluster.specs.TermsReading.{Accepted}
 use Rattle.cluster.proofs.Lists.{rising-head, rising-tail, rising-none, rising-fresh}
-use Rattle.fields.specs.RecordField.{bytesOf, field, fieldAt, ruleOf, legal}
+use Rattle.fields.specs.RecordField.{bytesOf, nodeBytes, FitsNode, field, fieldAt, ruleOf, legal}
 use Rattle.fields.specs.declared.Field.the-variants.{Body}
-use Rattle.fields.proofs.Numbers.{length-bytes, number-here}
+use Rattle.fields.proofs.Numbers.{length-bytes, number-here, after-number}
+use Rattle.fields.proofs.Nodes.{length-node, node-here}
 use Rattle.fields.proofs.RecordField.{legal-true, legal-any, length-field, body-here, rest-here, field-here}
 use Rattle.cluster_record.specs.RecordCluster.{bitsField, replicationField, redundancyField, nodeField, nodeFields, idBytes, rowField, rowFields, clusterRecord, IsRecord}
 use Rattle.cluster_record.specs.RecordClusterFaults.{Item, BitsOf, ReplicationOf, RedundancyOf, OneNode, FormerRow, idsAt, itemIn, Reading, beginning, allowedAfter, withItem, upTo, formerWith, readingWith, outside, lastOf, unordered, tooMany, faultIn, ended, walk, readCluster}
-use Rattle.fields.proofs.Ids.{length-id-bytes}
+use Rattle.fields.proofs.IdBytes.{length-id-bytes, ids-here}
 use Rattle.cluster_record.proofs.Items.{item-bits, item-replication, item-redundancy, item-node, item-five, none-faults}
 use Rattle.cluster_record.proofs.FieldFaults.{few-partitions}
 use Rattle.cluster_record.proofs.Rows.{upTo-full, length-next}
 use Rattle.cluster_record.proofs.Walks.{walk-ends, walk-on}
 use Rattle.cluster_record.proofs.Readings.{Kind, number-next, node-next, row-next, kind-allowed}
-use Rattle.cluster_record.proofs.RecordBytes.{ids-here, after-number, node-here}
 
 -- The walk over s has come so far, and the bytes `rest` are left.
 record Reaches (s : List ℕ) (r : Reading) (rest : List ℕ) : Type 0 where
@@ -99,20 +99,14 @@ unfolding idsOf lastOf
 above k [] n ns h = rising-head k (n .id) (idsOf ns) h
 above k (x ∷ l) n ns h = above (x .id) l n ns (rising-tail k (x .id) (idsOf (l ++ (n ∷ ns))) h)
 
--- The numbers of nodes fit their bytes.
-record Fit (l : List Node) : Type 0 where
-  ids : (b : ℕ) → getD l b noNode .id < 2 ^ 32
-  zones : (b : ℕ) → getD l b noNode .zone < 2 ^ 16
-  capacities : (b : ℕ) → getD l b noNode .capacity < 2 ^ 32
-
 reach-nodes : (s rest : List ℕ) (t : Topology) (ns l : List Node) (last : ℕ) → 3 ≤ last → last < 5 → rising (idsOf (l ++ ns)) ≡ true → length (l ++ ns) ≤ mostNodes
-    → Fit ns → Reaches s (withNodes last t l) (nodeFields ns ++ rest) → (m : ℕ) × (3 ≤ m) × (m < 5) × Reaches s (withNodes m t (l ++ ns)) rest
+    → ((b : ℕ) → FitsNode (getD ns b noNode)) → Reaches s (withNodes last t l) (nodeFields ns ++ rest) → (m : ℕ) × (3 ≤ m) × (m < 5) × Reaches s (withNodes m t (l ++ ns)) rest
 unfolding nodeFields
 reach-nodes s rest t [] l last a b up few fit q = (last, a, b, subst (λ (x : List Node). Reaches s (withNodes last t x) rest) (sym (append-nil l)) q)
 reach-nodes s rest t (n ∷ ns) l last a b up few fit q =
     let e : l ++ (n ∷ []) ++ ns ≡ l ++ (n ∷ ns) = append-snoc l n ns in
     let h = reach-nodes s rest t ns (l ++ (n ∷ [])) 4 (omega arith) (omega arith) (ap (λ (x : List Node). rising (idsOf x)) e ∙ up) (omega (arith, ap (λ (x : List Node). length x) e))
-    (record { ids = λ j. fit .ids (suc j); zones = λ j. fit .zones (suc j); capacities = λ j. fit .capacities (suc j) }) (one (subst (Reaches s (withNodes last t l)) (append-assoc (nodeField n) (nodeFields ns) rest) q)) in
+    (λ j. fit (suc j)) (one (subst (Reaches s (withNodes last t l)) (append-assoc (nodeField n) (nodeFields ns) rest) q)) in
     (h .0, h .1, h .2, subst (λ (x : List Node). Reaches s (withNodes (h .0) t x) rest) e (h .3))
   where
     r : Reading
@@ -124,20 +118,14 @@ reach-nodes s rest t (n ∷ ns) l last a b up few fit q =
         none-faults (r .cluster) 0 (OneNode n) (unfold outside in ne-eqb (n .id) 0 (λ z. omega arith)) (unfold unordered in lt-leb (n .id) (lastOf 0 (idsOf l)) up′)
         (unfold tooMany in lt-leb mostNodes (length l) (omega (arith, length-append l (n ∷ ns))))
 
-    body : List ℕ
-    body = bytesOf 4 (n .id) ++ (bytesOf 2 (n .zone) ++ bytesOf 4 (n .capacity))
-
-    ten : legal 4 (length body) ≡ true
-    ten =
-        let long : length body ≡ 10 =
-        omega (arith, length-append (bytesOf 4 (n .id)) (bytesOf 2 (n .zone) ++ bytesOf 4 (n .capacity)), length-append (bytesOf 2 (n .zone)) (bytesOf 4 (n .capacity)), length-bytes 4 (n .id), length-bytes 2 (n .zone), length-bytes 4 (n .capacity)) in
-        ap (legal 4) long ∙ (unfold legal ruleOf in refl)
+    lawful : legal 4 (length (nodeBytes n)) ≡ true
+    lawful = ap (legal 4) (length-node n) ∙ (unfold legal ruleOf in refl)
 
     one : Reaches s r (nodeField n ++ (nodeFields ns ++ rest)) → Reaches s (withNodes 4 t (l ++ (n ∷ []))) (nodeFields ns ++ rest)
     one q′ =
         unfold nodeField readingWith withItem formerWith in
-        reach-field s r (nodeFields ns ++ rest) body 4 (OneNode n) q′ (node-next a b refl) ten
-        (λ at d. item-node s at (length body) 4 refl ∙ ap OneNode (node-here s (nodeFields ns ++ rest) n at d (fit .ids 0) (fit .zones 0) (fit .capacities 0))) none
+        reach-field s r (nodeFields ns ++ rest) (nodeBytes n) 4 (OneNode n) q′ (node-next a b refl) lawful
+        (λ at d. item-node s at (length (nodeBytes n)) 4 refl ∙ ap OneNode (node-here s (nodeFields ns ++ rest) n at d (fit 0))) none
 
 -- ---- the rows
 
@@ -213,7 +201,7 @@ reach-rows s t F k ((i ∷ x) ∷ l) G p last a h n e w q =
         let m : (length body - 2) / 4 ≡ length ids = omega (arith, long) in
         item-five s at (length body) 5 refl
         ∙ ap₂ FormerRow (number-here s (idBytes ids ++ rowFields (suc p) l) at 2 p d₁ (omega (arith, few-partitions (t .bits) k)))
-        (ap (idsAt s (at + 2)) m ∙ ids-here s (rowFields (suc p) l) ids (at + 2) (after-number s (idBytes ids ++ rowFields (suc p) l) at 2 p d₁) (w .fits 0))
+        (ap (idsAt s (at + 2)) m ∙ ids-here s (rowFields (suc p) l) (at + 2) ids (after-number s (idBytes ids ++ rowFields (suc p) l) at 2 p d₁) (w .fits 0))
 
     one : Reaches s r (field 5 (bytesOf 2 p ++ idBytes (i ∷ x)) ++ rowFields (suc p) l) → Reaches s (record { last = 5; cluster = t; former = upTo p G ++ ((i ∷ x) ∷ []) }) (rowFields (suc p) l)
     one q′ =
@@ -228,7 +216,7 @@ records-read s t F q =
     let w = q .former in
     let start = reach-numbers s (nodeFields (t .nodes) ++ rowFields 0 F) t a (subst (Reaches s beginning) (q .bytes) (reach-start s)) in
     let n = reach-nodes s (rowFields 0 F) t (t .nodes) [] 3 (omega arith) (omega arith) (a .ids) (a .few)
-    (record { ids = q .fits .ids; zones = q .fits .zones; capacities = q .fits .capacities }) start in
+    (q .fits .nodes) start in
     reach-rows s t F (a .bits) F [] 0 (n .0) (n .1) (omega arith) (omega (arith, w .partition-rows)) refl
     (record {
       ids = λ p. ⊎-elim (λ l. w .ids p (omega (arith, w .partition-rows))) (λ g. ap rising (List·getD-eq-default F [] g) ∙ rising-none 0) (lt-or-ge p (length F));

@@ -14,9 +14,9 @@ use Rattle.sums.proofs.Sum.{eq-or-ne}
 use Rattle.cluster.specs.declared.Node.{Node}
 use Rattle.cluster.specs.Terms.{Topology, Layout, noNode, idsOf, risingFrom}
 use Rattle.cluster.proofs.Lists.{rising-head, rising-cons, rising-tail, rising-none}
-use Rattle.fields.specs.RecordField.{numberAt}
-pub use Rattle.fields.proofs.Ids.{ids-more, ids-none, length-ids, getD-ids, zero-found, zero-passed, fall-found, rise-passed}
-use Rattle.cluster_record.specs.RecordClusterFaults.{Item, BitsOf, ReplicationOf, RedundancyOf, OneNode, FormerRow, nodeIn, idsAt, itemIn, formerWith, outside, lastOf, unordered, tooMany, faultIn}
+use Rattle.fields.specs.RecordField.{numberAt, nodeAtByte}
+pub use Rattle.fields.proofs.IdBytes.{ids-more, ids-none, length-ids, getD-ids, zero-found, zero-passed, fall-found, rise-passed}
+use Rattle.cluster_record.specs.RecordClusterFaults.{Item, BitsOf, ReplicationOf, RedundancyOf, OneNode, FormerRow, idsAt, itemIn, formerWith, outside, lastOf, unordered, tooMany, faultIn}
 
 -- ---- tests
 
@@ -39,7 +39,7 @@ module _ (s : List ℕ) (start len : ℕ) where
   unfolding itemIn
   item-redundancy tag e = ap (λ (k : ℕ). itemIn s k start len) e
 
-  pub item-node : (tag : ℕ) → tag ≡ 4 → itemIn s tag start len ≡ OneNode (nodeIn s start)
+  pub item-node : (tag : ℕ) → tag ≡ 4 → itemIn s tag start len ≡ OneNode (nodeAtByte s start)
   unfolding itemIn
   item-node tag e = ap (λ (k : ℕ). itemIn s k start len) e
 

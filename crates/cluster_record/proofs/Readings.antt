@@ -1,7 +1,7 @@
 -- What was read so far: which tags come next, and what holds of every reading that no fault has ended.
 -- Assumes nothing.
-use Prim.Native.Nat.{ℕ, zero, suc, _+_, _-_, _*_, _/_, _%_, _≤_, _<_}
-use mathlib.Core.Path.{_≡_, refl, sym, ap, ap₂, _∙_, subst}
+use Prim.Native.Nat.{ℕ, zero, suc, _+_, _-_, _/_, _%_, _≤_, _<_}
+use mathlib.Core.Path.{_≡_, refl, sym, ap, _∙_, subst}
 use mathlib.Core.Bool.{true, not}
 use mathlib.Core.List.{List, [], _∷_}
 use mathlib.Core.Logic.{_⊎_, ⊎-elim}
@@ -10,15 +10,13 @@ use lib.Dec.{ltb, leb, eqb}
 use lib.ListN.{length, length-append}
 use borrow.Author.Tests.{ltb-false, leb-false, eqb-false, not-false, lt-ltb, le-ltb}
 use Rattle.sums.proofs.Sum.{lt-or-ge}
-use Rattle.sets.specs.ModelBits.{memberOf, withOf}
-use Rattle.sets.proofs.Laws.{bit-true, bit-with-same, bit-with-other}
 use Rattle.cluster.specs.Terms.{mostBits, mostCopies, mostNodes, bufferRows, partitions, Layout, row, idsOf, mem, rising}
 use Rattle.cluster.specs.declared.Node.{Node}
 use Rattle.cluster.specs.TermsReading.{Accepted}
-use Rattle.cluster.proofs.Lists.{rising-none}
-use Rattle.fields.specs.RecordField.{ruleOf, numberAt, Whole}
-use Rattle.fields.proofs.RecordField.{with-tag, no-tag}
-use Rattle.cluster_record.specs.RecordClusterFaults.{Item, BitsOf, ReplicationOf, RedundancyOf, OneNode, FormerRow, nodeIn, idsAt, itemIn, Reading, beginning, allowedAfter, withItem, upTo, formerWith, readingWith, outside, lastOf, unordered, tooMany, faultIn}
+use Rattle.cluster.proofs.Lists.{mem-head, mem-tail, mem-cases, rising-none}
+use Rattle.fields.specs.RecordField.{ruleOf, numberAt, nodeWidth, rowWidth, Whole, nodeAtByte}
+use Rattle.fields.proofs.RecordField.{one-tag}
+use Rattle.cluster_record.specs.RecordClusterFaults.{Item, BitsOf, ReplicationOf, RedundancyOf, OneNode, FormerRow, idsAt, itemIn, Reading, beginning, allowedAfter, withItem, upTo, formerWith, readingWith, outside, lastOf, unordered, tooMany, faultIn}
 use Rattle.sums.proofs.Tests.{neither}
 use Rattle.cluster_record.proofs.Items.{item-bits, item-replication, item-redundancy, item-node, item-five, length-ids, ids-snoc, rising-snoc, faults-none}
 use Rattle.cluster_record.proofs.FieldFaults.{few-partitions}
@@ -32,44 +30,35 @@ pub data Kind (last tag : ℕ) : Type 0 where
   node-next : 3 ≤ last → last < 5 → tag ≡ 4 → Kind last tag
   row-next : 3 ≤ last → tag ≡ 5 → Kind last tag
 
-allowed-number : (last : ℕ) → last < 3 → allowedAfter last ≡ withOf 0 (last + 1)
+allowed-number : (last : ℕ) → last < 3 → allowedAfter last ≡ (last + 1) ∷ []
 unfolding allowedAfter
 allowed-number last h = simp (lt-ltb last 3 h)
 
-allowed-node : (last : ℕ) → 3 ≤ last → last < 5 → allowedAfter last ≡ withOf (withOf 0 4) 5
+allowed-node : (last : ℕ) → 3 ≤ last → last < 5 → allowedAfter last ≡ 4 ∷ 5 ∷ []
 unfolding allowedAfter
 allowed-node last a b = simp (le-ltb last 3 a, lt-ltb last 5 b)
 
-allowed-row : (last : ℕ) → 5 ≤ last → allowedAfter last ≡ withOf 0 5
+allowed-row : (last : ℕ) → 5 ≤ last → allowedAfter last ≡ 5 ∷ []
 unfolding allowedAfter
 allowed-row last a = simp (le-ltb last 3 (omega arith), le-ltb last 5 a)
 
 -- A tag that is allowed is one of these,
-pub kind : (last tag : ℕ) → memberOf (allowedAfter last) tag ≡ true → Kind last tag
+pub kind : (last tag : ℕ) → mem tag (allowedAfter last) ≡ true → Kind last tag
 kind last tag h =
-    ⊎-elim (λ low. one (last + 1) (allowed-number last low) (λ e. number-next low e))
+    ⊎-elim (λ low. number-next low (one-tag (last + 1) tag (sym (ap (mem tag) (allowed-number last low)) ∙ h)))
     (λ a. ⊎-elim
-    (λ b. ⊎-elim (λ e. row-next a e)
-    (λ m. ⊎-elim (λ e. node-next a b e) (λ n. absurd (no-tag tag n)) (with-tag 0 4 tag m))
-    (with-tag (withOf 0 4) 5 tag (subst (λ (m : ℕ). memberOf m tag ≡ true) (allowed-node last a b) h)))
-    (λ b. one 5 (allowed-row last b) (λ e. row-next a e))
+    (λ b. ⊎-elim (λ e. node-next a b e) (λ m. row-next a (one-tag 5 tag m)) (mem-cases tag 4 (5 ∷ []) (sym (ap (mem tag) (allowed-node last a b)) ∙ h)))
+    (λ b. row-next a (one-tag 5 tag (sym (ap (mem tag) (allowed-row last b)) ∙ h)))
     (lt-or-ge last 5))
     (lt-or-ge last 3)
-  where
-    one : (a : ℕ) → allowedAfter last ≡ withOf 0 a → (tag ≡ a → Kind last tag) → Kind last tag
-    one a e f = ⊎-elim f (λ m. absurd (no-tag tag m)) (with-tag 0 a tag (subst (λ (m : ℕ). memberOf m tag ≡ true) e h))
 
 -- and each of these is allowed.
-pub kind-allowed : (last tag : ℕ) → Kind last tag → memberOf (allowedAfter last) tag ≡ true
-kind-allowed last tag (number-next a e) =
-    ap₂ memberOf (allowed-number last a) e ∙ bit-true (withOf 0 (last + 1)) (last + 1) (bit-with-same 0 (last + 1) (omega arith))
-kind-allowed last tag (node-next a b e) =
-    ap₂ memberOf (allowed-node last a b) e
-    ∙ bit-true (withOf (withOf 0 4) 5) 4 (bit-with-other (withOf 0 4) 5 4 (omega arith) (λ q. omega arith) ∙ bit-with-same 0 4 (omega arith))
+pub kind-allowed : (last tag : ℕ) → Kind last tag → mem tag (allowedAfter last) ≡ true
+kind-allowed last tag (number-next a e) = ap (mem tag) (allowed-number last a) ∙ mem-head tag (last + 1) [] e
+kind-allowed last tag (node-next a b e) = ap (mem tag) (allowed-node last a b) ∙ mem-head tag 4 (5 ∷ []) e
 kind-allowed last tag (row-next a e) =
-    ⊎-elim (λ b. ap₂ memberOf (allowed-node last a b) e ∙ bit-true (withOf (withOf 0 4) 5) 5 (bit-with-same (withOf 0 4) 5 (omega arith)))
-    (λ b. ap₂ memberOf (allowed-row last b) e ∙ bit-true (withOf 0 5) 5 (bit-with-same 0 5 (omega arith)))
-    (lt-or-ge last 5)
+    let five = mem-head tag 5 [] e in
+    ⊎-elim (λ b. ap (mem tag) (allowed-node last a b) ∙ mem-tail tag 4 (5 ∷ []) five) (λ b. ap (mem tag) (allowed-row last b) ∙ five) (lt-or-ge last 5)
 
 pub tag-range : (last tag : ℕ) → Kind last tag → (1 ≤ tag) × (tag ≤ 5)
 tag-range last tag (number-next a e) = (omega arith, omega arith)
@@ -78,7 +67,7 @@ tag-range last tag (row-next a e) = (omega arith, omega arith)
 
 -- ---- the lengths
 
-module _ {n at allowed tag start len : ℕ} (w : Whole n at allowed 0 tag start len) where
+module _ {n at : ℕ} {allowed : List ℕ} {tag start len : ℕ} (w : Whole n at allowed 0 tag start len) where
   -- A field of the tags 1, 2 and 3 has one byte,
   pub one-byte : 1 ≤ tag → tag ≤ 3 → len ≡ 1
   unfolding ruleOf
@@ -91,21 +80,21 @@ module _ {n at allowed tag start len : ℕ} (w : Whole n at allowed 0 tag start 
       go (suc (suc (suc zero))) a b x y = omega arith
       go (suc (suc (suc (suc k)))) a b x y = absurd (omega arith)
 
-  -- that of a node has ten,
-  pub ten-bytes : tag ≡ 4 → len ≡ 10
+  -- that of a node has those of a node,
+  pub node-length : tag ≡ 4 → len ≡ nodeWidth
   unfolding ruleOf
-  ten-bytes e =
-      let a : 10 ≤ len = subst (λ (k : ℕ). ruleOf k .least ≤ len) e (w .least) in
-      let b : len ≤ 10 = subst (λ (k : ℕ). len ≤ ruleOf k .greatest) e (w .greatest) in
+  node-length e =
+      let a : nodeWidth ≤ len = subst (λ (k : ℕ). ruleOf k .least ≤ len) e (w .least) in
+      let b : len ≤ nodeWidth = subst (λ (k : ℕ). len ≤ ruleOf k .greatest) e (w .greatest) in
       omega arith
 
   -- and that of a row two, and four for each of one to eight ids.
-  pub row-bytes : tag ≡ 5 → (6 ≤ len) × (len ≤ 34) × (len ≡ 2 + 4 * ((len - 2) / 4))
+  pub row-bytes : tag ≡ 5 → (rowWidth 1 ≤ len) × (len ≤ rowWidth mostCopies) × (len ≡ rowWidth ((len - 2) / 4))
   unfolding ruleOf
   row-bytes e =
-      let a : 6 ≤ len = subst (λ (k : ℕ). ruleOf k .least ≤ len) e (w .least) in
-      let b : len ≤ 34 = subst (λ (k : ℕ). len ≤ ruleOf k .greatest) e (w .greatest) in
-      let c : (len - 6) % 4 ≡ 0 = subst (λ (k : ℕ). (len - ruleOf k .least) % ruleOf k .step ≡ 0) e (w .step) in
+      let a : rowWidth 1 ≤ len = subst (λ (k : ℕ). ruleOf k .least ≤ len) e (w .least) in
+      let b : len ≤ rowWidth mostCopies = subst (λ (k : ℕ). len ≤ ruleOf k .greatest) e (w .greatest) in
+      let c : (len - rowWidth 1) % 4 ≡ 0 = subst (λ (k : ℕ). (len - ruleOf k .least) % ruleOf k .step ≡ 0) e (w .step) in
       (a, b, omega arith)
 
 -- ---- what holds of a reading
@@ -232,7 +221,7 @@ module _ (r : Reading) (tag : ℕ) (w : Well r) where
             (λ q. subst (λ (x : List ℕ). length x ≤ mostCopies) (sym (row-upTo p F q)) (w .row-few q)) few (omega arith);
       }
 
-pub well-step : (s : List ℕ) (r : Reading) (tag start len : ℕ) → Well r → Kind (r .last) tag → (tag ≡ 5 → len ≤ 34)
+pub well-step : (s : List ℕ) (r : Reading) (tag start len : ℕ) → Well r → Kind (r .last) tag → (tag ≡ 5 → len ≤ rowWidth mostCopies)
     → faultIn (r .cluster) (length (r .former)) (itemIn s tag start len) ≡ 0 → Well (readingWith r tag (itemIn s tag start len))
 well-step s r tag start len w (number-next a e) few =
     ⊎-elim (λ l. by (item-bits s start len tag (omega arith)) (well-bits r tag w (numberAt s start 1) (omega arith) (omega arith)))
@@ -246,7 +235,7 @@ well-step s r tag start len w (number-next a e) few =
     by q h = subst (λ (i : Item). faultIn (r .cluster) (length (r .former)) i ≡ 0 → Well (readingWith r tag i)) (sym q) h
 well-step s r tag start len w (node-next a b e) few =
     subst (λ (i : Item). faultIn (r .cluster) (length (r .former)) i ≡ 0 → Well (readingWith r tag i)) (sym (item-node s start len tag e))
-    (well-node r tag w (nodeIn s start) b e)
+    (well-node r tag w (nodeAtByte s start) b e)
 well-step s r tag start len w (row-next a e) few =
     subst (λ (i : Item). faultIn (r .cluster) (length (r .former)) i ≡ 0 → Well (readingWith r tag i)) (sym (item-five s start len tag e))
     (well-row r tag w (numberAt s start 2) (idsAt s (start + 2) ((len - 2) / 4)) e (omega (arith, few e, length-ids s (start + 2) ((len - 2) / 4))))

@@ -11,19 +11,20 @@ use lib.Seq.{take-all}
 use borrow.Author.Tests.{ltb-false}
 use Rattle.cluster.specs.declared.Node.{Node}
 use Rattle.cluster.specs.Terms.{mostCopies, Topology, partitions, Layout, noNode, rising}
-use Rattle.fields.specs.RecordField.{bytesOf, Bytes, part, numberAt, field, fieldAt, Whole}
+use Rattle.fields.specs.RecordField.{bytesOf, Bytes, part, numberAt, nodeWidth, FitsNode, field, fieldAt, Whole, nodeAtByte}
 use Rattle.fields.specs.declared.Field.the-variants.{Body}
-use Rattle.fields.proofs.Numbers.{bytes-there, number-at-lt, part-append}
-use Rattle.fields.proofs.RecordField.{whole}
+use Rattle.fields.proofs.IdBytes.{ids-back, ids-words}
+use Rattle.fields.proofs.Nodes.{node-bytes, fits-none, fits-node}
+use Rattle.fields.proofs.Numbers.{bytes-there, part-append}
+use Rattle.fields.proofs.RecordField.{whole, refused-some}
 use Rattle.cluster_record.specs.RecordCluster.{bitsField, replicationField, redundancyField, nodeField, nodeFields, idBytes, rowField, rowFields, clusterRecord, FitsRecord, IsRecord}
-use Rattle.cluster_record.specs.RecordClusterFaults.{Item, BitsOf, ReplicationOf, RedundancyOf, OneNode, FormerRow, nodeIn, idsAt, itemIn, Reading, Outcome, beginning, allowedAfter, withItem, upTo, formerWith, readingWith, unordered, faultIn, refusedAt, ended, readCluster}
+use Rattle.cluster_record.specs.RecordClusterFaults.{Item, BitsOf, ReplicationOf, RedundancyOf, OneNode, FormerRow, idsAt, itemIn, Reading, Outcome, beginning, allowedAfter, withItem, upTo, formerWith, readingWith, unordered, faultIn, refusedAt, ended, readCluster}
 use Rattle.sums.proofs.Tests.{neither}
 use Rattle.cluster_record.proofs.Items.{item-node, item-five, length-ids, faults-none}
-use Rattle.cluster_record.proofs.FieldFaults.{refused-some}
 use Rattle.cluster_record.proofs.Rows.{every-snoc, row-upTo, length-upTo}
 use Rattle.cluster_record.proofs.Walks.{walk-holds}
-use Rattle.cluster_record.proofs.Readings.{Kind, number-next, node-next, row-next, kind, one-byte, ten-bytes, row-bytes, Well, well-beginning, well-step}
-use Rattle.cluster_record.proofs.RecordBytes.{nodes-snoc, rows-upTo, rows-next, ids-bytes, node-bytes, ids-lt, bytes-next}
+use Rattle.cluster_record.proofs.Readings.{Kind, number-next, node-next, row-next, kind, one-byte, node-length, row-bytes, Well, well-beginning, well-step}
+use Rattle.cluster_record.proofs.RecordBytes.{nodes-snoc, rows-upTo, rows-next, bytes-next}
 
 -- ---- the numbers fit
 
@@ -32,36 +33,32 @@ abbrev FitsItem : Item → Type 0
 FitsItem (BitsOf k) = Unit
 FitsItem (ReplicationOf k) = Unit
 FitsItem (RedundancyOf k) = Unit
-FitsItem (OneNode n) = (n .id < 2 ^ 32) × (n .zone < 2 ^ 16) × (n .capacity < 2 ^ 32)
+FitsItem (OneNode n) = FitsNode n
 FitsItem (FormerRow p l) = (j : ℕ) → getD l j 0 < 2 ^ 32
 
 fits-item : (s : List ℕ) → Bytes s → (tag start len : ℕ) → FitsItem (itemIn s tag start len)
-unfolding itemIn nodeIn
+unfolding itemIn
 fits-item s b tag start len = go (eqb tag 1) (eqb tag 2) (eqb tag 3) (eqb tag 4)
   where
     go : (w x y z : Bool) → FitsItem (cond w (BitsOf (numberAt s start 1)) (cond x (ReplicationOf (numberAt s start 1)) (cond y (RedundancyOf (numberAt s start 1))
-        (cond z (OneNode (nodeIn s start)) (FormerRow (numberAt s start 2) (idsAt s (start + 2) ((len - 2) / 4)))))))
+        (cond z (OneNode (nodeAtByte s start)) (FormerRow (numberAt s start 2) (idsAt s (start + 2) ((len - 2) / 4)))))))
     go true x y z = tt
     go false true y z = tt
     go false false true z = tt
-    go false false false true = (number-at-lt s start 4 b, number-at-lt s (start + 4) 2 b, number-at-lt s (start + 6) 4 b)
-    go false false false false = λ j. ids-lt s b (start + 2) ((len - 2) / 4) j
+    go false false false true = fits-node s start b
+    go false false false false = λ j. ids-words s (start + 2) ((len - 2) / 4) j b
 
 fits-with : (t : Topology) (F : Layout) (i : Item) → FitsRecord t F → FitsItem i → FitsRecord (withItem t i) (formerWith F i)
 unfolding withItem formerWith
-fits-with t F (BitsOf k) f g = record { ids = f .ids; zones = f .zones; capacities = f .capacities; former = f .former }
-fits-with t F (ReplicationOf k) f g = record { ids = f .ids; zones = f .zones; capacities = f .capacities; former = f .former }
-fits-with t F (RedundancyOf k) f g = record { ids = f .ids; zones = f .zones; capacities = f .capacities; former = f .former }
+fits-with t F (BitsOf k) f g = record { nodes = f .nodes; former = f .former }
+fits-with t F (ReplicationOf k) f g = record { nodes = f .nodes; former = f .former }
+fits-with t F (RedundancyOf k) f g = record { nodes = f .nodes; former = f .former }
 fits-with t F (OneNode n) f g = record {
-  ids = every-snoc (λ (x : Node). x .id < 2 ^ 32) noNode (t .nodes) n (f .ids) (g .0) (omega arith);
-  zones = every-snoc (λ (x : Node). x .zone < 2 ^ 16) noNode (t .nodes) n (f .zones) (g .1) (omega arith);
-  capacities = every-snoc (λ (x : Node). x .capacity < 2 ^ 32) noNode (t .nodes) n (f .capacities) (g .2) (omega arith);
+  nodes = every-snoc FitsNode noNode (t .nodes) n (f .nodes) g fits-none;
   former = f .former;
 }
 fits-with t F (FormerRow p l) f g = record {
-  ids = f .ids;
-  zones = f .zones;
-  capacities = f .capacities;
+  nodes = f .nodes;
   former = every-snoc (λ (x : List ℕ). (j : ℕ) → getD x j 0 < 2 ^ 32) [] (upTo p F) l
       (λ q j. subst (λ (x : List ℕ). getD x j 0 < 2 ^ 32) (sym (row-upTo p F q)) (f .former q j)) g (λ j. omega arith);
 }
@@ -151,13 +148,13 @@ module _ (s : List ℕ) (b : Bytes s) (r : Reading) (at tag start len : ℕ) (w 
       ∙ ap₂ (λ (x y : List ℕ). x ++ y) (sym (early r w (omega arith)))
       (ap₂ field (sym e) (bytes-there s start 1 b (omega (arith, f .ends)) ∙ ap (part s start) (sym one)))))
   soFar-next (node-next a c e) v =
-      let ten : len ≡ 10 = ten-bytes f e in
+      let long : len ≡ nodeWidth = node-length f e in
       ap (λ (i : Item). soFar (readingWith r tag i)) (item-node s start len tag e)
-      ∙ (nodes-next r tag (nodeIn s start) w a c e
-      ∙ ap (λ (x : List ℕ). soFar r ++ x) (node-field (omega (arith, f .ends)) ∙ ap₂ (λ (k n : ℕ). field k (part s start n)) (sym e) (sym ten)))
+      ∙ (nodes-next r tag (nodeAtByte s start) w a c e
+      ∙ ap (λ (x : List ℕ). soFar r ++ x) (node-field (omega (arith, f .ends)) ∙ ap₂ (λ (k n : ℕ). field k (part s start n)) (sym e) (sym long)))
     where
-      node-field : start + 10 ≤ length s → nodeField (nodeIn s start) ≡ field 4 (part s start 10)
-      node-field h = unfold nodeField in ap (field 4) (node-bytes s b start h)
+      node-field : start + nodeWidth ≤ length s → nodeField (nodeAtByte s start) ≡ field 4 (part s start nodeWidth)
+      node-field h = unfold nodeField in ap (field 4) (node-bytes s start b h)
   soFar-next (row-next a e) v =
       let p : ℕ = numberAt s start 2 in
       let m : ℕ = (len - 2) / 4 in
@@ -169,7 +166,7 @@ module _ (s : List ℕ) (b : Bytes s) (r : Reading) (at tag start len : ℕ) (w 
       ∙ ap (λ (x : List ℕ). soFar r ++ x)
       (row-some p l (omega (arith, length-ids s (start + 2) m))
       ∙ ap₂ field (sym e)
-      (ap₂ (λ (x y : List ℕ). x ++ y) (bytes-there s start 2 b (omega (arith, f .ends))) (ids-bytes s b (start + 2) m (omega (arith, f .ends)))
+      (ap₂ (λ (x y : List ℕ). x ++ y) (bytes-there s start 2 b (omega (arith, f .ends))) (ids-back s (start + 2) m b (omega (arith, f .ends)))
       ∙ (sym (part-append s start 2 (4 * m)) ∙ ap (part s start) (sym (long .2))))))
     where
       not-passed : (p : ℕ) (l : List ℕ) → unordered (r .cluster) (length (r .former)) (FormerRow p l) ≡ false → length (r .former) ≤ p
@@ -187,7 +184,7 @@ sound-beginning : (s : List ℕ) → Sound s 0 beginning
 unfolding beginning soFar heads nodeFields rowFields
 sound-beginning s = record {
   well = well-beginning;
-  fits = record { ids = λ b. omega arith; zones = λ b. omega arith; capacities = λ b. omega arith; former = λ p j. omega arith };
+  fits = record { nodes = λ b. fits-none; former = λ p j. omega arith };
   bytes = refl;
   inside = omega arith;
 }
@@ -224,9 +221,7 @@ sound-end s at r q h l =
         few = λ p k. subst (λ (x : List ℕ). length x ≤ mostCopies) (sym (row-upTo P F p)) (w .row-few p);
       };
       fits = record {
-        ids = q .fits .ids;
-        zones = q .fits .zones;
-        capacities = q .fits .capacities;
+        nodes = q .fits .nodes;
         former = λ p j. subst (λ (x : List ℕ). getD x j 0 < 2 ^ 32) (sym (row-upTo P F p)) (q .fits .former p j);
       };
     }

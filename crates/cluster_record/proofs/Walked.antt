@@ -7,23 +7,23 @@ use native.Mathlib.Omega.{arith}
 use lib.Dec.{leb, ltb}
 use lib.ListN.{length, replicate}
 use borrow.Author.Tests.{ltb-false, leb-false, lt-ltb, le-ltb}
-use Rattle.cluster.specs.Terms.{mostBits, mostNodes, bufferRows, layoutCells, Topology, topology, partitions, Layout, mem, rising, cellsOf}
+use Rattle.cluster.specs.Terms.{mostBits, mostCopies, mostNodes, bufferRows, layoutCells, Topology, topology, partitions, Layout, mem, rising, cellsOf}
 use Rattle.cluster.specs.declared.Cluster.{Cluster}
 use Rattle.cluster.specs.TermsReading.{noNodes, slotsOf}
 use Rattle.cluster.proofs.CellLayouts.{length-cellsOf}
 use mathlib.Core.Bool.{not}
-use Rattle.fields.specs.RecordField.{numberAt, fieldAt, Whole}
+use Rattle.fields.specs.RecordField.{numberAt, rowWidth, fieldAt, Whole, nodeAtByte}
 use Rattle.fields.specs.declared.Field.the-variants.{Body, Refused}
-use Rattle.fields.proofs.RecordField.{whole}
-use Rattle.cluster_record.specs.RecordClusterFaults.{OneNode, FormerRow, nodeIn, idsAt, itemIn, Reading, Outcome, beginning, allowedAfter, withItem, formerWith, readingWith, outside, unordered, tooMany, faultIn, refusedAt, ended, walk, readCluster}
+use Rattle.fields.proofs.RecordField.{whole, refused-some}
+use Rattle.cluster_record.specs.RecordClusterFaults.{OneNode, FormerRow, idsAt, itemIn, Reading, Outcome, beginning, allowedAfter, withItem, formerWith, readingWith, outside, unordered, tooMany, faultIn, refusedAt, ended, walk, readCluster}
 use Rattle.cluster_record.specs.RecordClusterAnswer.{answerOf}
 use Rattle.sums.proofs.Tests.{neither}
 use Rattle.cluster_record.proofs.Items.{item-node, item-five, faults-none}
-use Rattle.cluster_record.proofs.FieldFaults.{few-partitions, refused-some}
+use Rattle.cluster_record.proofs.FieldFaults.{few-partitions}
 use Rattle.cluster_record.proofs.Rows.{cells-none, cells-upTo}
 use Rattle.cluster.proofs.Slots.{topology-slots}
 use Rattle.cluster_record.proofs.Walks.{walk-ends, walk-refused, walk-fault, walk-on}
-use Rattle.cluster_record.proofs.Readings.{Kind, kind, tag-range, row-bytes, ten-bytes, Well, well-beginning, well-step}
+use Rattle.cluster_record.proofs.Readings.{Kind, kind, tag-range, row-bytes, Well, well-beginning, well-step}
 
 pub record Walked (s rows : List ℕ) (c : Cluster) (last next at : ℕ) : Type 0 where
   pub reading : Reading
@@ -122,7 +122,7 @@ module _ {s rows : List ℕ} {c : Cluster} {last next at tag start len : ℕ} (m
   pub walked-inside : (start ≡ at + 3) × (start + len ≤ length s)
   walked-inside = (walked-whole .begins, walked-whole .ends)
 
-  pub walked-row : tag ≡ 5 → (6 ≤ len) × (len ≤ 34)
+  pub walked-row : tag ≡ 5 → (rowWidth 1 ≤ len) × (len ≤ rowWidth mostCopies)
   walked-row q = let b = row-bytes walked-whole q in (b .0, b .1)
 
   module _ {x : ℕ} (g : x ≡ faultIn (topology c) next (itemIn s tag start len)) where
@@ -138,13 +138,13 @@ module _ {s rows : List ℕ} {c : Cluster} {last next at tag start len : ℕ} (m
 
     module _ (none : x ≡ 0) where
       -- What is known without fault: a node has a slot, and a row is one of the cluster's and not passed.
-      pub walked-room : tag ≡ 4 → (c .count < mostNodes) × (start + 10 ≤ length s)
+      pub walked-room : tag ≡ 4 → c .count < mostNodes
       unfolding slotsOf tooMany
       walked-room q =
-          let n = faults-none (m .walked .reading .cluster) (length (m .walked .reading .former)) (OneNode (nodeIn s start))
+          let n = faults-none (m .walked .reading .cluster) (length (m .walked .reading .former)) (OneNode (nodeAtByte s start))
           (ap (faultIn (m .walked .reading .cluster) (length (m .walked .reading .former))) (sym (item-node s start len tag q)) ∙ (fault-read ∙ none)) in
           let h : length (m .walked .reading .cluster .nodes) < mostNodes = leb-false mostNodes (length (m .walked .reading .cluster .nodes)) (n .2) in
-          (subst (λ (k : Cluster). k .count < mostNodes) (sym (m .walked .slots)) h, omega (arith, ten-bytes walked-whole q, walked-inside))
+          subst (λ (k : Cluster). k .count < mostNodes) (sym (m .walked .slots)) h
 
       row-tests : tag ≡ 5 → (numberAt s start 2 < partitions (m .walked .reading .cluster)) × (length (m .walked .reading .former) ≤ numberAt s start 2)
       unfolding outside unordered

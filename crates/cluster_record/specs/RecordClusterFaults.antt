@@ -6,12 +6,11 @@ use mathlib.Core.Bool.{Bool, false, not, _||_, cond}
 use mathlib.Core.List.{List, [], _∷_, _++_}
 use lib.Dec.{ltb, leb, eqb}
 use lib.ListN.{length, replicate}
-use Rattle.sets.specs.ModelBits.{withOf}
 use Rattle.cluster.specs.Terms.{mostBits, mostCopies, mostNodes, Topology, topology, partitions, Layout, idsOf, mem, rising}
 use Rattle.cluster.specs.declared.Node.{Node}
 use Rattle.cluster.specs.TermsReading.{noNodes}
 unfoldable pub use Rattle.fields.specs.RecordField.{idsAt}
-use Rattle.fields.specs.RecordField.{numberAt, fieldAt}
+use Rattle.fields.specs.RecordField.{numberAt, nodeAtByte, fieldAt}
 use Rattle.fields.specs.declared.Field.{Field}
 use Rattle.fields.specs.declared.Field.the-variants.{Body, Refused}
 
@@ -25,17 +24,13 @@ pub data Item : Type 0 where
   OneNode : Node → Item
   FormerRow : ℕ → List ℕ → Item
 
--- "id 4, zone 2, capacity 4"
-unfoldable pub nodeIn : List ℕ → ℕ → Node
-nodeIn s start = record { id = numberAt s start 4; zone = numberAt s (start + 4) 2; capacity = numberAt s (start + 6) 4 }
-
 -- The values in a body of s that begins at byte `start`, by the field's tag.
 unfoldable pub itemIn : List ℕ → ℕ → ℕ → ℕ → Item
 itemIn s tag start len =
     cond (eqb tag 1) (BitsOf (numberAt s start 1))
     (cond (eqb tag 2) (ReplicationOf (numberAt s start 1))
     (cond (eqb tag 3) (RedundancyOf (numberAt s start 1))
-    (cond (eqb tag 4) (OneNode (nodeIn s start))
+    (cond (eqb tag 4) (OneNode (nodeAtByte s start))
     -- "2 + 4m: partition 2, then m rising ids"
     (FormerRow (numberAt s start 2) (idsAt s (start + 2) ((len - 2) / 4))))))
 
@@ -50,11 +45,10 @@ pub record Reading : Type 0 where
 unfoldable pub beginning : Reading
 beginning = record { last = 0; cluster = topology noNodes; former = [] }
 
--- "1 bits, 2 replication, 3 redundancy, once each in this order; then 4 box; then 5 former row": the set of the tags allowed next.
-unfoldable pub allowedAfter : ℕ → ℕ
+-- "1 bits, 2 replication, 3 redundancy, once each in this order; then 4 box; then 5 former row": the tags allowed after the last one, 0 for none yet.
+unfoldable pub allowedAfter : ℕ → List ℕ
 allowedAfter last =
-    cond (ltb last 3) (withOf 0 (last + 1))
-    (cond (ltb last 5) (withOf (withOf 0 4) 5) (withOf 0 5))
+    cond (ltb last 3) ((last + 1) ∷ []) (cond (ltb last 5) (4 ∷ 5 ∷ []) (5 ∷ []))
 
 -- A cluster with what a field says.
 unfoldable pub withItem : Topology → Item → Topology

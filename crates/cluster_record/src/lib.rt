@@ -2,6 +2,7 @@
 ghost use mathlib.Core.Path.{_≡_};
 ghost use lib.ListN.{replicate};
 ghost use Rattle.cluster.specs.Terms.{layoutCells, cellsOf};
+ghost use Rattle.fields.specs.ModelTags.{tagsOf};
 ghost use Rattle.cluster_record.specs.RecordClusterFaults.{allowedAfter, refusedAt, readCluster};
 ghost use Rattle.cluster_record.specs.RecordClusterAnswer.{answerOf, readAnswer, formerAfter};
 use cluster::Cluster;
@@ -9,7 +10,6 @@ use cluster::refusal;
 use fields::Field;
 
 mod faults;
-mod row_faults;
 mod taking;
 
 // What a reading yields: the refusal, 0 for none, with its byte, and the cluster.
@@ -32,7 +32,7 @@ fn refused(refusal: u32, byte: usize) -> ReadCluster
 
 // The set of the tags that are allowed after a tag, 0 for none yet.
 fn allowed_after(last: u32) -> u32
-    ensures { λ r. ⌜ r ≡ allowedAfter last ⌝ }
+    ensures { λ r. ⌜ tagsOf r ≡ allowedAfter last ⌝ }
 {
     if last < 3 {
         return sets::with(0, last + 1);

@@ -3,20 +3,20 @@
 use Prim.Native.Nat.{ℕ, _+_, _^_, _≤_, _<_}
 use mathlib.Core.Path.{_≡_, refl, sym, ap, ap₂, _∙_, subst}
 use mathlib.Core.Bool.{true}
-use mathlib.Core.List.{List, _++_}
+use mathlib.Core.List.{List, _++_, [], _∷_}
 use mathlib.Core.Logic.{_⊎_, ⊎-elim}
 use native.Mathlib.Omega.{arith}
 use lib.ListN.{length, drop, length-append, length-drop}
 use borrow.Author.Tests.{lt-ltb, le-ltb}
 use Rattle.sums.proofs.Sum.{lt-or-ge}
-use Rattle.sets.specs.ModelBits.{memberOf, withOf}
-use Rattle.sets.proofs.Laws.{bit-true, bit-with-same}
+use Rattle.cluster.specs.Terms.{mem}
+use Rattle.cluster.proofs.Lists.{mem-head, mem-none}
 use Rattle.sums.proofs.Tests.{true-or-false}
 use Rattle.fields.specs.RecordField.{bytesOf, Bytes, part, numberAt, field, ruleOf, legal, legalAs, fieldAt, refusalOf}
 use Rattle.fields.specs.declared.Field.{Field}
 use Rattle.fields.specs.declared.Field.the-variants.{Body, Refused}
 use Rattle.fields.proofs.Numbers.{length-bytes, bytes-there, number-here}
-use Rattle.fields.proofs.RecordField.{one-tag, no-tag, legal-any, field-cut, field-tag, field-length, field-body, field-whole, whole, field-back, length-field, field-here, body-here, rest-here}
+use Rattle.fields.proofs.RecordField.{one-tag, legal-any, field-cut, field-tag, field-length, field-body, field-whole, whole, field-back, length-field, field-here, body-here, rest-here}
 use Rattle.layout_record.specs.declared.head.Number.the-variants.{Value, Stopped}
 use Rattle.layout_record.specs.RecordLayoutFaults.{nextField, valueIn, numberIn}
 use Rattle.layout_record.proofs.NumberFields.{next-missing, next-there}
@@ -28,7 +28,7 @@ abbrev Faulty : Field → Type 0
 Faulty (Body tag start len) = Unit
 Faulty (Refused refusal byte) = 0 < refusal
 
-faulty : (s : List ℕ) (at allowed exact : ℕ) → Faulty (fieldAt s at allowed exact)
+faulty : (s : List ℕ) (at : ℕ) (allowed : List ℕ) (exact : ℕ) → Faulty (fieldAt s at allowed exact)
 faulty s at allowed exact =
     let tag = numberAt s at 1 in
     let len = numberAt s (at + 1) 2 in
@@ -38,12 +38,12 @@ faulty s at allowed exact =
     (λ l. ⊎-elim (λ short. subst Faulty (sym (field-body s at allowed exact head t l short)) (omega arith))
     (λ long. subst Faulty (sym (field-whole s at allowed exact head t l long)) tt) (lt-or-ge (length s) (at + 3 + len)))
     (λ l. subst Faulty (sym (field-length s at allowed exact head t l)) (omega arith)) (true-or-false (legalAs exact tag len)))
-    (λ t. subst Faulty (sym (field-tag s at allowed exact head t)) (omega arith)) (true-or-false (memberOf allowed tag)))
+    (λ t. subst Faulty (sym (field-tag s at allowed exact head t)) (omega arith)) (true-or-false (mem tag allowed)))
     (lt-or-ge (length s) (at + 3))
 
 next-faulty : (s : List ℕ) (at tag exact : ℕ) → Faulty (nextField s at tag exact)
 next-faulty s at tag exact =
-    ⊎-elim (λ l. subst Faulty (sym (next-there s at tag exact l)) (faulty s at (withOf 0 tag) exact))
+    ⊎-elim (λ l. subst Faulty (sym (next-there s at tag exact l)) (faulty s at (tag ∷ []) exact))
     (λ g. subst Faulty (sym (next-missing s at tag exact g)) (omega arith)) (lt-or-ge at (length s))
 
 -- The refusal of a field that must come next is not 0.
@@ -51,16 +51,16 @@ pub next-refused : (s : List ℕ) (at tag exact r b : ℕ) → nextField s at ta
 next-refused s at tag exact r b e = subst Faulty e (next-faulty s at tag exact)
 
 -- Where no tag is allowed, a field is refused.
-pub none-refused : (s : List ℕ) (at exact : ℕ) → 0 < refusalOf (fieldAt s at 0 exact)
-none-refused s at exact = go (fieldAt s at 0 exact) refl (faulty s at 0 exact)
+pub none-refused : (s : List ℕ) (at exact : ℕ) → 0 < refusalOf (fieldAt s at [] exact)
+none-refused s at exact = go (fieldAt s at [] exact) refl (faulty s at [] exact)
   where
-    go : (f : Field) → fieldAt s at 0 exact ≡ f → Faulty f → 0 < refusalOf f
-    go (Body tag start len) e h = absurd (no-tag tag (whole s at 0 exact tag start len e .member))
+    go : (f : Field) → fieldAt s at [] exact ≡ f → Faulty f → 0 < refusalOf f
+    go (Body tag start len) e h = absurd (mem-none tag (whole s at [] exact tag start len e .member))
     go (Refused refusal byte) e h = h
 
 -- A whole field stands before the end of the record.
 pub next-body : (s : List ℕ) (at tag exact t start len : ℕ) → nextField s at tag exact ≡ Body t start len
-    → fieldAt s at (withOf 0 tag) exact ≡ Body t start len
+    → fieldAt s at (tag ∷ []) exact ≡ Body t start len
 next-body s at tag exact t start len e =
     ⊎-elim (λ l. sym (next-there s at tag exact l) ∙ e)
     (λ g. let w : Refused 7 (length s) ≡ Body t start len = sym (next-missing s at tag exact g) ∙ e in
@@ -133,14 +133,14 @@ unfolding numberIn
 number-back s at tag w least most v e b low high h =
     let f = found s at least most v e (nextField s at tag 0) h in
     let body = next-body s at tag 0 (f .tag) (f .start) (f .len) (f .body) in
-    let k = whole s at (withOf 0 tag) 0 (f .tag) (f .start) (f .len) body in
+    let k = whole s at (tag ∷ []) 0 (f .tag) (f .start) (f .len) body in
     let t : f .tag ≡ tag = one-tag tag (f .tag) (k .member) in
     let l : ruleOf tag .least ≤ f .len = subst (λ (x : ℕ). ruleOf x .least ≤ f .len) t (k .least) in
     let g : f .len ≤ ruleOf tag .greatest = subst (λ (x : ℕ). f .len ≤ ruleOf x .greatest) t (k .greatest) in
     let n : f .len ≡ w = omega (arith, low, high) in
     let p : part s (f .start) (f .len) ≡ bytesOf w v =
     sym (bytes-there s (f .start) (f .len) b (k .ends)) ∙ ap₂ bytesOf n (sym (f .value)) in (
-      field-back s at (withOf 0 tag) 0 (f .tag) (f .start) (f .len) body b
+      field-back s at (tag ∷ []) 0 (f .tag) (f .start) (f .len) body b
           ∙ ap₂ (λ (x y : List ℕ). x ++ y) (ap₂ field t p) (ap (λ (x : ℕ). drop x s) (sym (f .end))),
       f .least-le,
       f .most-ge,
@@ -148,9 +148,9 @@ number-back s at tag w least most v e b low high h =
 
 -- ---- a number, from the bytes to the reading
 
--- A tag is in the set of itself alone.
-pub tag-alone : (tag : ℕ) → tag < 32 → memberOf (withOf 0 tag) tag ≡ true
-tag-alone tag h = bit-true (withOf 0 tag) tag (bit-with-same 0 tag h)
+-- A tag is the one that is allowed alone.
+pub tag-alone : (tag : ℕ) → mem tag (tag ∷ []) ≡ true
+tag-alone tag = mem-head tag tag [] refl
 
 -- Where a field stands, the record has not ended.
 pub before-end : (s rest body : List ℕ) (at tag : ℕ) → drop at s ≡ field tag body ++ rest → at < length s
@@ -166,8 +166,8 @@ number-found s rest at tag w least most v e t l small low high =
     let body = bytesOf w v in
     let long : length body ≡ w = length-bytes w v in
     let there = next-there s at tag 0 (before-end s rest body at tag e) in
-    let whole′ : fieldAt s at (withOf 0 tag) 0 ≡ Body tag (at + 3) w =
-    field-here s rest body at tag e (withOf 0 tag) 0 (tag-alone tag t) (legal-any tag (length body) ∙ (ap (legal tag) long ∙ l))
+    let whole′ : fieldAt s at (tag ∷ []) 0 ≡ Body tag (at + 3) w =
+    field-here s rest body at tag e (tag ∷ []) 0 (tag-alone tag) (legal-any tag (length body) ∙ (ap (legal tag) long ∙ l))
     ∙ ap (λ (k : ℕ). Body tag (at + 3) k) long in
     let n : numberAt s (at + 3) w ≡ v = number-here s rest (at + 3) w v (body-here s rest body at tag e) small in (
       ap (valueIn s at least most) (there ∙ whole′)

@@ -2,17 +2,18 @@
 -- Assumes nothing.
 use Prim.Native.Nat.{ℕ, _+_, _≤_, _<_}
 use mathlib.Core.Path.{_≡_, sym, ap, ap₂, _∙_, subst}
-use mathlib.Core.List.{List}
+use mathlib.Core.List.{List, [], _∷_}
 use mathlib.Core.Logic.{_⊎_, inl, inr, ⊎-elim}
 use native.Mathlib.Omega.{arith}
 use lib.ListN.{length}
 use borrow.Author.Tests.{le-leb, lt-leb, lt-ltb, le-ltb}
-use Rattle.sets.specs.ModelBits.{withOf}
 use Rattle.cluster.specs.Terms.{mostBits, mostCopies}
-use Rattle.fields.specs.RecordField.{numberAt, ruleOf, fieldAt, Whole, refusalOf, placeOf}
+use Rattle.fields.specs.RecordField.{numberAt, noLength, rules, ruleOf, fieldAt, Whole, refusalOf, placeOf}
 use Rattle.fields.specs.declared.Field.{Field}
 use Rattle.fields.specs.declared.Field.the-variants.{Body, Refused}
-use Rattle.fields.proofs.RecordField.{one-tag}
+use Rattle.fields.specs.declared.Rule.{Rule}
+use Rattle.fields.proofs.RecordField.{rule-none, one-tag}
+use Rattle.sums.proofs.Sum.{lt-or-ge}
 use Rattle.layout_record.specs.declared.head.Number.the-variants.{Value, Stopped}
 use Rattle.layout_record.specs.declared.head.Head.the-variants.{Read, Halted}
 use Rattle.layout_record.specs.RecordLayout.{mostSize, mostDistance, mostVerdict, mostImprovements}
@@ -28,14 +29,22 @@ module _ (s : List ℕ) (at tag exact : ℕ) where
   next-missing h = simp (le-leb (length s) at h)
 
   -- Before it, it is the field at that byte.
-  pub next-there : at < length s → nextField s at tag exact ≡ fieldAt s at (withOf 0 tag) exact
+  pub next-there : at < length s → nextField s at tag exact ≡ fieldAt s at (tag ∷ []) exact
   unfolding nextField
   next-there h = simp (lt-leb (length s) at h)
 
 -- ---- a field with a number
 
+-- The tags of numbers are below 32: the table of lengths has them.
+pub narrow-tag : (tag : ℕ) → Narrow tag → tag < 32
+narrow-tag tag h =
+    ⊎-elim (λ l. omega arith)
+    (λ g. let e = rule-none tag g in
+    let d : noLength .greatest ≡ noLength .least = subst (λ (r : Rule). r .greatest ≡ r .least) e (h .0) in absurd (omega arith))
+    (lt-or-ge tag (length rules))
+
 -- A body with a number has one, two or four bytes.
-pub narrow : (n at tag : ℕ) (t start len : ℕ) → Narrow tag → Whole n at (withOf 0 tag) 0 t start len → (len ≡ 1) ⊎ ((len ≡ 2) ⊎ (len ≡ 4))
+pub narrow : (n at tag : ℕ) (t start len : ℕ) → Narrow tag → Whole n at (tag ∷ []) 0 t start len → (len ≡ 1) ⊎ ((len ≡ 2) ⊎ (len ≡ 4))
 narrow n at tag t start len h w =
     let e : t ≡ tag = one-tag tag t (w .member) in
     let l : ruleOf tag .least ≤ len = subst (λ (k : ℕ). ruleOf k .least ≤ len) e (w .least) in

@@ -3,7 +3,7 @@
 use Prim.Native.Nat.{ℕ, _*_, _^_, _≤_, _<_}
 use mathlib.Core.Path.{_≡_, sym, ap, _∙_}
 use mathlib.Core.Bool.{Bool, true, false, _&&_, or-true, cond}
-use mathlib.Core.List.{List}
+use mathlib.Core.List.{List, []}
 use mathlib.Core.Logic.{⊎-elim}
 use native.Mathlib.Nat.{mul-le-mul}
 use native.Mathlib.Omega.{arith}
@@ -54,7 +54,7 @@ module _ (s : List ℕ) (at : ℕ) (n : Numbers) (L : Layout) where
   unfolding endIn
   end-whole h = simp (le-leb (length s) at h)
 
-  pub end-more : at < length s → endIn s at n L ≡ refusedAt (refusalOf (fieldAt s at 0 0)) (placeOf (fieldAt s at 0 0))
+  pub end-more : at < length s → endIn s at n L ≡ refusedAt (refusalOf (fieldAt s at [] 0)) (placeOf (fieldAt s at [] 0))
   unfolding endIn
   end-more h = simp (lt-leb (length s) at h)
 

@@ -10,7 +10,6 @@ use lib.ListN.{length, drop, getD, length-append, length-drop}
 use lib.Seq.{drop-drop, drop-at}
 use borrow.Author.Tests.{eq-eqb, ne-eqb, le-leb}
 use Rattle.sums.proofs.Sum.{lt-or-ge, eq-or-ne}
-use Rattle.sets.specs.ModelBits.{withOf}
 use Rattle.cluster.specs.Terms.{mostCopies, bufferRows, Layout, row, mem, rising}
 use Rattle.sums.proofs.Tests.{true-or-false}
 use Rattle.cluster.proofs.Lists.{rising-fresh}
@@ -115,7 +114,7 @@ module _ (s : List ℕ) (b : Bytes s) (n : Numbers) where
       let R = n .replication in
       let ids = idsAt s (start + 2) R in
       let f = next-body s at 10 (2 + 4 * R) t start len e in
-      let w = whole s at (withOf 0 10) (2 + 4 * R) t start len f in
+      let w = whole s at (10 ∷ []) (2 + 4 * R) t start len f in
       let tag : t ≡ 10 = one-tag 10 t (w .member) in
       let long : len ≡ 2 + 4 * R = w .only (λ q. omega arith) in
       let ok = no-row-fault (2 ^ (n .bits)) (length L) (numberAt s start 2) ids z in
@@ -126,7 +125,7 @@ module _ (s : List ℕ) (b : Bytes s) (n : Numbers) where
         outcome = h .outcome ∙ ap (accepted n) (append-assoc L (ids ∷ []) (h .rows));
         count = ap suc (h .count);
         bytes =
-            field-back s at (withOf 0 10) (2 + 4 * R) t start len f b
+            field-back s at (10 ∷ []) (2 + 4 * R) t start len f b
             ∙ ap₂ (λ (x y : List ℕ). x ++ y) (ap₂ field tag body) (h .bytes ∙ ap (λ (q : ℕ). rowFields q (h .rows)) next);
         right = more-rows R ids (h .rows) (length-ids s (start + 2) R) (ok .1) (λ j. ids-words s (start + 2) R j b) (h .right);
       }
@@ -191,7 +190,7 @@ module _ (s : List ℕ) (n : Numbers) (few : n .replication ≤ mostCopies) (som
           let right : legal 10 (2 + 4 * R) ≡ true = legal-ten R some few in
           let field′ : nextField s at 10 (2 + 4 * R) ≡ Body 10 (at + 3) (2 + 4 * R) =
           next-there s at 10 (2 + 4 * R) (before-end s rest body at 10 e)
-          ∙ (field-here s rest body at 10 e (withOf 0 10) (2 + 4 * R) (tag-alone 10 (omega arith))
+          ∙ (field-here s rest body at 10 e (10 ∷ []) (2 + 4 * R) (tag-alone 10)
           (ap (legalAs (2 + 4 * R) 10) long ∙ legal-only 10 (2 + 4 * R) right)
           ∙ ap (λ (q : ℕ). Body 10 (at + 3) q) long) in
           let here : drop (at + 3) s ≡ bytesOf 2 p ++ (idBytes r ++ rest) = body-here s rest body at 10 e ∙ append-assoc (bytesOf 2 p) (idBytes r) rest in

@@ -5,7 +5,6 @@ use mathlib.Core.Bool.{Bool, not, _&&_, _||_, cond}
 use mathlib.Core.List.{List, [], _∷_, _++_}
 use lib.Dec.{ltb, leb, eqb}
 use lib.ListN.{length}
-use Rattle.sets.specs.ModelBits.{withOf}
 use Rattle.sums.specs.TermsSums.{everyTo}
 use Rattle.cluster.specs.Terms.{mostBits, mostCopies, bufferRows, layoutCells, Layout, mem, rising, rowAt, idsIn, blank, formed}
 unfoldable pub use Rattle.fields.specs.RecordField.{idsAt}
@@ -23,7 +22,7 @@ use Rattle.layout_record.specs.RecordLayout.{mostSize, mostDistance, mos
 
 -- The field at byte `at`, which has to have this tag: "7 when a field or row is missing", with the record's length; else as fields are taken.
 unfoldable pub nextField : List ℕ → ℕ → ℕ → ℕ → Field
-nextField s at tag exact = cond (leb (length s) at) (Refused 7 (length s)) (fieldAt s at (withOf 0 tag) exact)
+nextField s at tag exact = cond (leb (length s) at) (Refused 7 (length s)) (fieldAt s at (tag ∷ []) exact)
 
 -- "4, a value outside its range", with the byte at which the field begins; else the value, and the byte after the field.
 abbrev pub valueIn : List ℕ → ℕ → ℕ → ℕ → Field → Number
@@ -82,7 +81,7 @@ rowFault partitions next p ids = cond (leb partitions p || mem 0 ids) 4 (cond (n
 -- is allowed there.
 unfoldable pub endIn : List ℕ → ℕ → Numbers → Layout → Outcome
 endIn s at n L =
-    cond (leb (length s) at) (accepted n L) (refusedAt (refusalOf (fieldAt s at 0 0)) (placeOf (fieldAt s at 0 0)))
+    cond (leb (length s) at) (accepted n L) (refusedAt (refusalOf (fieldAt s at [] 0)) (placeOf (fieldAt s at [] 0)))
 
 -- A row, and what comes after it. L has the rows before it; "for field 10 only 2 + 4R with this record's R is legal".
 abbrev pub rowIn : (ℕ → Layout → Outcome) → List ℕ → ℕ → Numbers → Layout → Field → Outcome

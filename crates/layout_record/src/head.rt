@@ -1,8 +1,9 @@
 // Reading the fields before the rows: one number each.
 ghost use mathlib.Core.Path.{_≡_};
 ghost use mathlib.Core.Logic.{_⊎_};
+ghost use mathlib.Core.List.{[], _∷_};
+ghost use Prim.Native.Nat.{_<_};
 ghost use lib.ListN.{length};
-ghost use Rattle.sets.specs.ModelBits.{withOf};
 ghost use Rattle.fields.specs.RecordField.{numberAt, Within};
 ghost use Rattle.layout_record.specs.ModelReading.{Narrow, haltedBy, haltOf, haltAt};
 ghost use Rattle.layout_record.specs.RecordLayoutFaults.{nextField, numberIn, headIn};
@@ -25,7 +26,8 @@ pub enum Head {
 
 // The field at a byte, which must have this tag; the record must not end there.
 pub fn next_field(bytes: &[u8], at: usize, tag: u32, exact: usize) -> Field
-    ensures { λ r. ⌜ (r ≡ nextField (now (bytes .entry)) at tag exact) × Within (length (now (bytes .entry))) at (withOf 0 tag) exact r ⌝ }
+    requires { ⌜ tag < 32 ⌝ }
+    ensures { λ r. ⌜ (r ≡ nextField (now (bytes .entry)) at tag exact) × Within (length (now (bytes .entry))) at (tag ∷ []) exact r ⌝ }
 {
     if bytes.len() <= at {
         return Field::Refused {

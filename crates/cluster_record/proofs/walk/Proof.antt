@@ -2,6 +2,7 @@
 -- Assumes nothing.
 use Prim.Native.Nat.{ℕ, _-_}
 use mathlib.Core.Path.{_≡_, sym, ap, ap₂, _∙_}
+use mathlib.Core.List.{List}
 use lib.ListN.{length}
 use Rattle.fields.specs.RecordField.{fieldAt, refusalOf, placeOf}
 use Rattle.cluster_record.specs.declared.ReadCluster.{ReadCluster}
@@ -69,7 +70,7 @@ returns c =
     let l = k .before .before .before in
     let told = c .before .before .before .enum-told .given in
     let d = walked-refused (l .loop .inv .1) (k .before .before .loop-test .taken)
-    (ap (λ (m : ℕ). fieldAt (l .before .before .before .before .args .bytes .now) (l .loop .at) m 0) (sym (k .before .allowed-after .ensures)) ∙ (sym (k .field-at .ensures .0) ∙ told .1)) in
+    (ap (λ (m : List ℕ). fieldAt (l .before .before .before .before .args .bytes .now) (l .loop .at) m 0) (sym (k .before .allowed-after .ensures)) ∙ (sym (k .field-at .ensures .0) ∙ told .1)) in
     let n : c .before .before .refusal-of .result ≡ told .0 .0 = c .before .before .refusal-of .ensures ∙ ap refusalOf (told .1) in
     let b : c .before .place-of .result ≡ told .0 .1 .0 = c .before .place-of .ensures ∙ ap placeOf (told .1) in (
       c .refused .ensures ∙ (ap₂ (λ (x y : ℕ). answerOf (refusedAt x y)) n b ∙ ap answerOf (sym (d .1))),
@@ -86,7 +87,7 @@ met c =
     record {
       walked = l .loop .inv .1;
       more = k .before .before .loop-test .taken;
-      field = ap (λ (m : ℕ). fieldAt (l .before .before .before .before .args .bytes .now) (l .loop .at) m 0) (sym (k .before .allowed-after .ensures))
+      field = ap (λ (m : List ℕ). fieldAt (l .before .before .before .before .args .bytes .now) (l .loop .at) m 0) (sym (k .before .allowed-after .ensures))
           ∙ (sym (k .field-at .ensures .0) ∙ c .f .given .1);
     }
 

@@ -4,24 +4,24 @@ use borrow.Author.Needs.{needs}
 use native.Mathlib.Omega.{arith}
 use mathlib.Core.Path.{subst}
 use Prim.Native.Nat.{_-_}
+use mathlib.Core.List.{[], _∷_}
 use lib.ListN.{length}
-use Rattle.sets.specs.ModelBits.{withOf}
 use Rattle.fields.specs.RecordField.{Whole, Within}
-use Rattle.layout_record.proofs.NumberFields.{narrow, number-stopped, number-low, number-high, number-read}
+use Rattle.layout_record.proofs.NumberFields.{narrow-tag, narrow, number-stopped, number-low, number-high, number-read}
 use Rattle.layout_record.proofs.head.number_in.Statement.{statement}
 use Rattle.layout_record.proofs.head.number_in.Tie as tie
 
 -- What is known of the field.
 whole : (c : tie.After-known-told) → let a = c .before .before .before .before .before .args in
     let g = c .before .f .given .0 in
-    Whole (length (a .bytes .now)) (a .at) (withOf 0 (a .tag)) 0 (g .0) (g .1 .0) (g .1 .1 .0)
+    Whole (length (a .bytes .now)) (a .at) ((a .tag) ∷ []) 0 (g .0) (g .1 .0) (g .1 .1 .0)
 whole c =
     let k = c .before .before .before in
     let a = k .before .before .args in
-    subst (Within (length (a .bytes .now)) (a .at) (withOf 0 (a .tag)) 0) (c .before .f .given .1) (k .next-field .ensures .1)
+    subst (Within (length (a .bytes .now)) (a .at) ((a .tag) ∷ []) 0) (c .before .f .given .1) (k .next-field .ensures .1)
 
 next-field-requires : tie.Need-next-field-requires
-next-field-requires c κs = search needs
+next-field-requires c κs = narrow-tag (c .before .args .tag) (c .before .pre)
 
 enum-known-f : tie.Need-enum-known-f
 enum-known-f c = search needs

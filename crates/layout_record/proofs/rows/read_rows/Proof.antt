@@ -7,7 +7,6 @@ use mathlib.Core.Path.{_≡_, refl, sym, ap, ap₂, _∙_, subst}
 use mathlib.Core.List.{[], _∷_, _++_}
 use native.Mathlib.Nat.{sub-zero}
 use lib.ListN.{length}
-use Rattle.sets.specs.ModelBits.{withOf}
 use Rattle.cluster.specs.Terms.{bufferRows, layoutCells, Layout, cellsOf}
 use Rattle.cluster.proofs.CellLayouts.{length-cellsOf}
 use Rattle.layout_record.proofs.CellsMore.{length-more}
@@ -48,12 +47,12 @@ few k = omega (arith, k .before .before .partitions .ensures, few-partitions (st
 whole : (c : tie.After-known-told Inv-loop μ-loop) → let k = c .before .before .before .before .before in
     let a = start k .args in
     let g = c .before .f .given .0 in
-    Whole (length (a .bytes .now)) (k .loop .at) (withOf 0 10) (2 + 4 * a .numbers .replication) (g .0) (g .1 .0) (g .1 .1 .0)
+    Whole (length (a .bytes .now)) (k .loop .at) (10 ∷ []) (2 + 4 * a .numbers .replication) (g .0) (g .1 .0) (g .1 .1 .0)
 whole c =
     let n = c .before .before .before in
     let k = n .before .before in
     let a = start k .args in
-    subst (Within (length (a .bytes .now)) (k .loop .at) (withOf 0 10) (2 + 4 * a .numbers .replication)) (c .before .f .given .1) (n .next-field .ensures .1)
+    subst (Within (length (a .bytes .now)) (k .loop .at) (10 ∷ []) (2 + 4 * a .numbers .replication)) (c .before .f .given .1) (n .next-field .ensures .1)
 
 -- Its body has a partition and as many ids as there are copies.
 inside : (c : tie.After-known-told Inv-loop μ-loop) → let a = start (c .before .before .before .before .before) .args in

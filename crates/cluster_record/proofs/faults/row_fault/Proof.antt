@@ -1,4 +1,4 @@
--- `cluster_record::row_faults::row_fault` meets its contract: the tests stand in the order of the faults, both of range before both of order.
+-- `cluster_record::faults::row_fault` meets its contract: the tests stand in the order of the faults, both of range before both of order.
 -- Assumes nothing.
 use Prim.Native.Nat.{_^_, _≤_, _<_}
 use mathlib.Core.Path.{sym, _∙_}
@@ -7,12 +7,12 @@ use Rattle.fields.specs.RecordField.{numberAt}
 use Rattle.cluster_record.proofs.FieldFaults.{shift-one}
 use borrow.Author.Needs.{needs}
 use native.Mathlib.Omega.{arith}
-use Rattle.cluster_record.proofs.row_faults.row_fault.Statement.{statement}
-use Rattle.cluster_record.proofs.row_faults.row_fault.Tie as tie
-use Rattle.cluster_record.proofs.row_faults.row_fault.Reads as reads
-use Rattle.cluster_record.proofs.row_faults.row_fault.Lts as lts
-use Rattle.cluster_record.proofs.row_faults.has_zero.Reads as has-zero-reads
-use Rattle.cluster_record.proofs.row_faults.ids_rise.Reads as ids-rise-reads
+use Rattle.cluster_record.proofs.faults.row_fault.Statement.{statement}
+use Rattle.cluster_record.proofs.faults.row_fault.Tie as tie
+use Rattle.cluster_record.proofs.faults.row_fault.Reads as reads
+use Rattle.cluster_record.proofs.faults.row_fault.Lts as lts
+use Rattle.fields.proofs.ids.has_zero.Reads as has-zero-reads
+use Rattle.fields.proofs.ids.ids_rise.Reads as ids-rise-reads
 use Rattle.fields.proofs.pair_at.Reads as pair-at-reads
 
 -- What the first test says of the partition.
