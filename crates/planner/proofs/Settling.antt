@@ -26,7 +26,7 @@ use Rattle.sizing.proofs.Reading.{deal-in}
 use Rattle.improve.specs.ModelRun.{Ran}
 use Rattle.improve.specs.ModelImprove.{ranIn, agreementIn, sharedIn}
 use Rattle.planner.specs.ModelPlan.{formerMasks, dealtAt, startRows, ranFrom, layoutRows, farRows, planFrom, planOf}
-use Rattle.planner.specs.TermsPlan.{answerOf, answered}
+use Rattle.planner.specs.TermsPlan.{planIn, answered}
 use Rattle.planner.specs.declared.Planned.{Planned}
 use Rattle.improve.proofs.Ground.{run-good}
 use Rattle.planner.proofs.Machines.{GoodRows, few-partitions, start-good, fm-long, ground, measure}
@@ -137,7 +137,7 @@ module _ (c : Cluster) (former : List ℕ) (a size P : ℕ) (before rows : List 
     -- The answer is that of the definition.
     pub answer-is : (d : ℕ) → d ≡ c .replication * P + idsTotal former P - 2 * agreementIn rows before P → (f : Bool) → f ≡ ranFrom t size before (dealtAt t size) a .finished
         → (s : ℕ) → s ≡ ranFrom t size before (dealtAt t size) a .steps
-        → _≡_ {A = Planned} (record { refusal = 0; size = size; distance = d; finished = f; improvements = s }) (answered (answerOf c former a))
+        → _≡_ {A = Planned} (record { refusal = 0; size = size; distance = d; finished = f; improvements = s }) (answered (planIn c former a))
     unfolding planOf planFrom farRows
     answer-is d ed f ef s es′ =
         λ i. record { refusal = 0; size = es i; distance = far i; finished = (ef ∙ ap (λ (r : Ran (List ℕ)). r .finished) ran-is) i; improvements = (es′ ∙ ap (λ (r : Ran (List ℕ)). r .steps) ran-is) i }
@@ -150,7 +150,7 @@ module _ (c : Cluster) (former : List ℕ) (a size P : ℕ) (before rows : List 
 
     -- The cells written are those of its layout.
     pub cells-are : (cells : List ℕ) → 2048 ≤ length cells
-        → cellsWritten (t .nodes) rows P cells ≡ cellsOf (answerOf c former a .layout) ++ drop 2048 cells
+        → cellsWritten (t .nodes) rows P cells ≡ cellsOf (planIn c former a .layout) ++ drop 2048 cells
     unfolding planOf planFrom layoutRows
     cells-are cells whole =
         ap (λ (n : ℕ). cellsWritten (t .nodes) rows n cells) eP

@@ -9,7 +9,7 @@ ghost use Rattle.masks.specs.ModelMasks.{rowsFormed, idsTotal};
 ghost use Rattle.sizing.specs.ModelSizing.{Fits32, sizeOf};
 ghost use Rattle.improve.specs.ModelImprove.{agreementIn};
 ghost use Rattle.planner.specs.ModelPlan.{dealtAt, ranFrom};
-ghost use Rattle.planner.specs.TermsPlan.{answerOf, answered};
+ghost use Rattle.planner.specs.TermsPlan.{planIn, answered};
 use super::Planned;
 use super::refuse;
 use cluster::Cluster;
@@ -77,8 +77,8 @@ pub(crate) fn settle(
 ) -> Planned
     requires { ⌜ (faultOf c ≡ 0) × (2048 ≤ length (now assignment)) × (rowsFormed (now former) (partitions (topology c)) ≡ true)
         × (size ≡ sizeOf (topology c)) × (1 ≤ size) ⌝ }
-    ensures { λ r. ⌜ (r ≡ answered (answerOf c (now (former .entry)) allowance))
-        × (now (assignment .exit) ≡ cellsOf (answerOf c (now (former .entry)) allowance .layout) ++ drop 2048 (now (assignment .entry)))
+    ensures { λ r. ⌜ (r ≡ answered (planIn c (now (former .entry)) allowance))
+        × (now (assignment .exit) ≡ cellsOf (planIn c (now (former .entry)) allowance .layout) ++ drop 2048 (now (assignment .entry)))
         × Fits32 (topology c) ⌝ }
 {
     let partitions = refuse::partitions(c.bits);
