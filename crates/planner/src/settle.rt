@@ -11,7 +11,6 @@ ghost use Rattle.improve.specs.ModelImprove.{agreementIn};
 ghost use Rattle.planner.specs.ModelPlan.{dealtAt, ranFrom};
 ghost use Rattle.planner.specs.TermsPlan.{planIn, answered};
 use super::Planned;
-use super::refuse;
 use cluster::Cluster;
 use improve::Ended;
 use incidence::zones;
@@ -30,7 +29,7 @@ pub(crate) fn improved(
         × (r .improvements ≡ ranFrom (topology c) size (now (before .entry)) (dealtAt (topology c) size) allowance .steps)
         × Fits32 (topology c) ⌝ }
 {
-    let partitions = refuse::partitions(c.bits);
+    let partitions = cluster::partitions(c.bits);
     let count = c.count;
     sizing::deal(c, size, rows);
     let zones = zones::zones(c);
@@ -81,7 +80,7 @@ pub(crate) fn settle(
         × (now (assignment .exit) ≡ cellsOf (planIn c (now (former .entry)) allowance .layout) ++ drop 2048 (now (assignment .entry)))
         × Fits32 (topology c) ⌝ }
 {
-    let partitions = refuse::partitions(c.bits);
+    let partitions = cluster::partitions(c.bits);
     let mut before = [0u32; 256];
     masks::read_masks(c, former, partitions, &mut before);
     let mut rows = [0u32; 256];

@@ -33,14 +33,21 @@ pub fn mates(zones: [u32; Cluster::NODES], n: usize) -> [u32; Cluster::NODES]
     mates
 }
 
-// The most copies that each node in use may hold at a size, then zeros; none at the size 0. That
-// capacities are numbers of 32 bits is known here, and told with it.
+// The most copies that each node in use may hold at a size, then zeros; none at the size 0. It tells too that capacities are numbers of
+// 32 bits.
 pub fn caps(c: Cluster, size: u32) -> [u32; Cluster::NODES]
     ensures { λ r. ⌜ (r ≡ capsIn c size) × Fits32 (topology c) ⌝ }
 {
     let n = zones::used(c);
-    let capacities = nodes::capacities(c);
-    nodes::caps_at(&capacities, n, cluster::partitions(c.bits) as u32, size)
+    let most = cluster::partitions(c.bits) as u32;
+    let mut caps = [0u32; Cluster::NODES];
+    let mut b = 0;
+    while b < n {
+        let node = c.nodes[b];
+        caps[b] = nodes::cap(node.capacity, most, size);
+        b += 1;
+    }
+    caps
 }
 
 // Whether the caps of a size have room for a layout.

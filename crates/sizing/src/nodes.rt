@@ -1,14 +1,14 @@
 // What is read of the nodes in use.
 ghost use mathlib.Core.Path.{_≡_};
-ghost use Prim.Native.Nat.{_≤_, _/_, min};
+ghost use Prim.Native.Nat.{_<_, _^_, _≤_, _/_, min};
 ghost use lib.ListN.{length};
+ghost use Rattle.sizing.specs.ModelSizing.{sizeBits};
 ghost use Rattle.sums.specs.ModelSums.{is};
 ghost use Rattle.sets.specs.ModelBits.{maskOf};
-ghost use Rattle.cluster.specs.Terms.{mostNodes, topology, nodeAt};
-ghost use Rattle.incidence.specs.ModelIncidence.{cell, column};
+ghost use Rattle.cluster.specs.Terms.{mostNodes};
+ghost use Rattle.incidence.specs.ModelIncidence.{cell};
 use super::totals::least;
 use cluster::Cluster;
-use incidence::zones;
 
 // A number of nodes, cut to what a cluster has at most.
 pub fn cut(n: usize) -> usize
@@ -21,42 +21,15 @@ pub fn cut(n: usize) -> usize
     }
 }
 
-// The capacities of the nodes in use, then zeros.
-pub fn capacities(c: Cluster) -> [u32; Cluster::NODES]
-    ensures { λ r. ⌜ r ≡ column (λ b. nodeAt (topology c) b .capacity) (length (topology c .nodes)) ⌝ }
-{
-    let n = zones::used(c);
-    let mut capacities = [0u32; Cluster::NODES];
-    let mut b = 0;
-    while b < n {
-        capacities[b] = c.nodes[b].capacity;
-        b += 1;
-    }
-    capacities
-}
-
-// The most copies that a node may hold at a size, none at the size 0; at most `most`.
+// The most copies that a node may hold at a size, none at the size 0; at most `most`. That the capacity is a number of 32 bits is known
+// here, and told with it.
 pub fn cap(capacity: u32, most: u32, size: u32) -> u32
-    ensures { λ r. ⌜ r ≡ min most (capacity / size) ⌝ }
+    ensures { λ r. ⌜ (r ≡ min most (capacity / size)) × (capacity < 2 ^ sizeBits) ⌝ }
 {
     if size == 0 {
         return 0;
     }
     least(most, capacity / size)
-}
-
-// The caps of the first n nodes at a size.
-pub(crate) fn caps_at(capacities: &[u32], n: usize, most: u32, size: u32) -> [u32; Cluster::NODES]
-    requires { ⌜ (n ≤ mostNodes) × (length (now capacities) ≡ mostNodes) ⌝ }
-    ensures { λ r. ⌜ r ≡ column (λ b. min most (cell (now (capacities .entry)) b / size)) n ⌝ }
-{
-    let mut caps = [0u32; Cluster::NODES];
-    let mut b = 0;
-    while b < n {
-        caps[b] = cap(capacities[b], most, size);
-        b += 1;
-    }
-    caps
 }
 
 // The set of the first n nodes whose zone is z.
