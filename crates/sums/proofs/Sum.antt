@@ -168,6 +168,16 @@ sum-upto (suc n) i f l =
 pub sum-term : (n k : ℕ) (f : ℕ → ℕ) → k < n → f k ≤ sumTo n f
 sum-term n k f l = omega (arith, sum-upto n k f l)
 
+-- Two sums whose terms differ at one index only.
+pub sum-but-one : (n s : ℕ) (f h : ℕ → ℕ) → s < n → ((t : ℕ) → t < n → (t ≡ s → ⊥) → f t ≡ h t) → sumTo n f + h s ≡ sumTo n h + f s
+unfolding sumTo
+sum-but-one zero s f h l e = absurd (omega arith)
+sum-but-one (suc n) s f h l e =
+    ⊎-elim (λ a. omega (arith, sum-but-one n s f h a (λ t k d. e t (omega arith) d), e n (omega arith) (λ d. omega arith)))
+    (λ b. let d : n ≡ s = omega arith in
+    omega (arith, sum-cong n f h (λ t k. e t (omega arith) (λ x. omega arith)), ap f d, ap h d))
+    (lt-or-ge s n)
+
 -- Where a sum is smaller than another, a term is.
 pub sum-witness : (n : ℕ) (f g : ℕ → ℕ) → sumTo n f < sumTo n g → (i : ℕ) × (i < n) × (f i < g i)
 unfolding sumTo
