@@ -1,5 +1,5 @@
 -- Rows and layouts are read at the nodes below N and the partitions below P only: two that have the same values there have the same counts, covers,
--- copies and weights, are valid, within the caps, best or better alike, and allow the same exchanges.
+-- copies and weights, and are valid, within the caps or better alike.
 -- Assumes nothing.
 use Prim.Native.Nat.{ℕ, _+_, _-_, _*_, _<_, min}
 use mathlib.Core.Path.{_≡_, refl, sym, ap, ap₂, _∙_}
@@ -7,7 +7,7 @@ use native.Mathlib.Omega.{arith}
 use Rattle.sums.specs.TermsSums.{sumTo}
 use Rattle.sums.specs.ModelSums.{is}
 use Rattle.sums.proofs.Sum.{sum-cong}
-use Rattle.exchange.specs.ModelRow.{zoneCount, cover, Valid, swap, copies, weigh, Within, Agree, Exchange}
+use Rattle.exchange.specs.ModelRow.{zoneCount, cover, Valid, swap, copies, weigh, Within, Agree}
 use Rattle.exchange.specs.ModelCircuit.{Better}
 
 -- Rows with the same bits.
@@ -76,20 +76,6 @@ module _ (P N : ℕ) (S T : ℕ → ℕ → ℕ) (h : SameLayout P N S T) where
       record {
         rows = λ p l. valid-cong N zone (S p) (T p) (h p l) R Z (w .rows p l);
         caps = λ b k. omega (arith, copies-cong b k, w .caps b k);
-      }
-
-  -- They allow the same exchanges.
-  pub exchange-cong : (R Z : ℕ) (zone : ℕ → ℕ) (free : ℕ → ℕ → ℕ) (p a b : ℕ) → p < P → Exchange N R Z zone free S p a b
-      → Exchange N R Z zone free T p a b
-  exchange-cong R Z zone free p a b l e =
-      record {
-        a-node = e .a-node;
-        b-node = e .b-node;
-        a-in = sym (h p l a (e .a-node)) ∙ e .a-in;
-        b-out = sym (h p l b (e .b-node)) ∙ e .b-out;
-        a-free = e .a-free;
-        b-free = e .b-free;
-        valid = valid-cong N zone (swap (S p) a b) (swap (T p) a b) (swap-cong N zone (S p) (T p) (h p l) a b) R Z (e .valid);
       }
 
 -- ---- best and better
