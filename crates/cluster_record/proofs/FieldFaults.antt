@@ -11,8 +11,8 @@ use lib.ListN.{length}
 use lib.Pow.{pow-mono}
 use borrow.Author.Tests.{le-ltb}
 use Rattle.cluster.specs.Terms.{mostBits, mostCopies, mostNodes, Topology, partitions, idsOf, mem, rising}
-use Rattle.fields.specs.RecordField.{numberAt, nodeAtByte}
-use Rattle.cluster_record.specs.RecordClusterFaults.{idsAt, itemIn, lastOf, outside, unordered, tooMany, faultIn}
+use Rattle.fields.specs.RecordField.{numberAt, nodeAtByte, idsAt}
+use Rattle.cluster_record.specs.RecordClusterFaults.{itemIn, lastOf, faultIn}
 use Rattle.cluster_record.proofs.Items.{below-one, item-bits, item-replication, item-redundancy, item-node, item-row}
 
 -- There are at most 256 partitions.
@@ -25,26 +25,26 @@ shift-one k h = ap (λ (n : ℕ). n % 2 ^ 64) (one-mul (2 ^ k)) ∙ mod-eq-of-lt
 
 module _ (t : Topology) (next : ℕ) (s : List ℕ) (tag start len : ℕ) where
   pub bits-fault : (v r : ℕ) → tag ≡ 1 → v ≡ numberAt s start 1 → r ≡ cond (ltb v 0 || ltb mostBits v) 4 0 → r ≡ faultIn t next (itemIn s tag start len)
-  unfolding faultIn outside unordered tooMany
+  unfolding faultIn
   bits-fault v r e d f =
       f ∙ (ap (λ (b : Bool). cond (b || ltb mostBits v) 4 0) (le-ltb v 0 (omega arith))
       ∙ (ap (λ (k : ℕ). cond (ltb mostBits k) 4 0) d ∙ ap (faultIn t next) (sym (item-bits s start len tag e))))
 
   pub replication-fault : (v r : ℕ) → tag ≡ 2 → v ≡ numberAt s start 1 → r ≡ cond (ltb v 1 || ltb mostCopies v) 4 0 → r ≡ faultIn t next (itemIn s tag start len)
-  unfolding faultIn outside unordered tooMany
+  unfolding faultIn
   replication-fault v r e d f =
       f ∙ (ap (λ (b : Bool). cond (b || ltb mostCopies v) 4 0) (below-one v)
       ∙ (ap (λ (k : ℕ). cond (eqb k 0 || ltb mostCopies k) 4 0) d ∙ ap (faultIn t next) (sym (item-replication s start len tag e))))
 
   pub redundancy-fault : (v r : ℕ) → tag ≡ 3 → v ≡ numberAt s start 1 → r ≡ cond (ltb v 1 || ltb (t .replication) v) 4 0 → r ≡ faultIn t next (itemIn s tag start len)
-  unfolding faultIn outside unordered tooMany
+  unfolding faultIn
   redundancy-fault v r e d f =
       f ∙ (ap (λ (b : Bool). cond (b || ltb (t .replication) v) 4 0) (below-one v)
       ∙ (ap (λ (k : ℕ). cond (eqb k 0 || ltb (t .replication) k) 4 0) d ∙ ap (faultIn t next) (sym (item-redundancy s start len tag e))))
 
   pub node-fault : (id last count r : ℕ) → tag ≡ 4 → id ≡ nodeAtByte s start .id → last ≡ lastOf 0 (idsOf (t .nodes)) → count ≡ length (t .nodes)
       → r ≡ cond (eqb id 0) 4 (cond (leb id last) 5 (cond (leb mostNodes count) 6 0)) → r ≡ faultIn t next (itemIn s tag start len)
-  unfolding faultIn outside unordered tooMany
+  unfolding faultIn
   node-fault id last count r e d l n f =
       f ∙ (ap₂ (λ (x y : ℕ). cond (eqb id 0) 4 (cond (leb id x) 5 (cond (leb mostNodes y) 6 0))) l n
       ∙ (ap (λ (x : ℕ). cond (eqb x 0) 4 (cond (leb x (lastOf 0 (idsOf (t .nodes)))) 5 (cond (leb mostNodes (length (t .nodes))) 6 0))) d
@@ -54,5 +54,5 @@ module _ (t : Topology) (next : ℕ) (s : List ℕ) (tag start len : ℕ) where
       → r ≡ cond (leb (partitions t) (numberAt s start 2) || mem 0 (idsAt s (start + 2) ((len - 2) / 4))) 4
       (cond (ltb (numberAt s start 2) next || not (rising (idsAt s (start + 2) ((len - 2) / 4)))) 5 0)
       → r ≡ faultIn t next (itemIn s tag start len)
-  unfolding faultIn outside unordered tooMany
+  unfolding faultIn
   row-fault r a b c d f = f ∙ ap (faultIn t next) (sym (item-row s start len tag a b c d))

@@ -2,33 +2,31 @@
 -- Assumes nothing.
 use Prim.Native.Nat.{ℕ, suc, _+_, _-_, _*_, _/_, _≤_, _<_, min}
 use mathlib.Core.Path.{_≡_, refl, sym, ap, _∙_}
-use mathlib.Core.Bool.{not, cond}
+use mathlib.Core.Bool.{cond}
 use mathlib.Core.List.{List, [], _∷_, _++_}
 use mathlib.Core.Logic.{⊎-elim}
 use native.Mathlib.Omega.{arith}
 use lib.Dec.{ltb, eqb}
 use lib.ListN.{length, take, drop, replicate, length-append, length-take}
 use lib.Seq.{take-all}
-use borrow.Author.Tests.{ltb-false}
 use Rattle.sums.proofs.Sum.{lt-or-ge}
 use Rattle.cluster.specs.declared.Node.{Node}
-use Rattle.cluster.specs.Terms.{mostCopies, layoutCells, cellsOf, Topology, Layout, row, rising, IsFormer}
+use Rattle.cluster.specs.Terms.{mostCopies, layoutCells, cellsOf, Topology, Layout, row, IsFormer}
 use Rattle.cluster.specs.TermsReading.{Accepted}
-use Rattle.sums.proofs.Tests.{neither}
-use Rattle.fields.specs.RecordField.{nodeWidth, nodeBytes, rowWidth, headWidth, longestField, bytesOf, numberAt, field, fieldAt, Whole, nodeAtByte}
+use Rattle.fields.specs.RecordField.{nodeWidth, nodeBytes, rowWidth, headWidth, longestField, bytesOf, numberAt, field, fieldAt, Whole, nodeAtByte, idBytes, idsAt}
 use Rattle.fields.specs.declared.Field.the-variants.{Body}
 use Rattle.fields.proofs.Nodes.{length-node}
 use Rattle.fields.proofs.Cut.{number-same, ids-same, node-same, field-same}
 use Rattle.fields.proofs.Numbers.{length-bytes}
 use Rattle.fields.proofs.RecordField.{whole, length-field, refused-some}
-use Rattle.cluster_record.specs.RecordCluster.{bitsField, replicationField, redundancyField, nodeField, nodeFields, idBytes, rowField, rowFields, clusterRecord, longestRecord, decidingBytes}
-use Rattle.cluster_record.specs.RecordClusterFaults.{Item, BitsOf, ReplicationOf, RedundancyOf, OneNode, FormerRow, idsAt, itemIn, Reading, Outcome, beginning, allowedAfter, withItem, upTo, formerWith, readingWith, unordered, faultIn, refusedAt, walk, readCluster}
-use Rattle.cluster_record.specs.RecordClusterAnswer.{outcomeOf, answerOf, readAnswer, formerAfter}
-use Rattle.cluster_record.proofs.Items.{item-node, item-five, faults-none}
+use Rattle.cluster_record.specs.RecordCluster.{bitsField, replicationField, redundancyField, nodeField, nodeFields, formerField, formerFields, clusterRecord, longestRecord, decidingBytes}
+use Rattle.cluster_record.specs.RecordClusterFaults.{Item, BitsOf, ReplicationOf, RedundancyOf, OneNode, FormerRow, itemIn, Reading, ClusterRead, nothingRead, allowedAfter, withItem, upTo, formerWith, readingWith, faultIn, clusterRefused, walk, readCluster}
+use Rattle.cluster_record.specs.RecordClusterAnswer.{clusterOutcome, clusterAnswer, readClusterOf, formerRead}
+use Rattle.cluster_record.proofs.Items.{item-node, item-five, sound-row}
 use Rattle.cluster_record.proofs.FieldFaults.{few-partitions}
 use Rattle.cluster_record.proofs.Rows.{length-next}
 use Rattle.cluster_record.proofs.Walks.{walk-refused, walk-fault, walk-on, walk-holds}
-use Rattle.cluster_record.proofs.Readings.{Kind, number-next, node-next, row-next, kind, one-byte, node-length, row-bytes, Well, well-beginning, well-step, rows-few}
+use Rattle.cluster_record.proofs.Readings.{Kind, number-next, node-next, row-next, kind, one-byte, node-length, row-bytes, Well, well-nothing, well-step, rows-few}
 use Rattle.fields.proofs.IdBytes.{length-id-bytes}
 
 -- ---- the longest record
@@ -39,18 +37,18 @@ length-nodes [] = refl
 length-nodes (n ∷ l) =
     omega (arith, length-append (field 4 (nodeBytes n)) (nodeFields l), length-field 4 (nodeBytes n), length-node n, length-nodes l)
 
-length-row : (p : ℕ) (l : List ℕ) → length l ≤ mostCopies → length (rowField p l) ≤ longestField
-unfolding rowField
+length-row : (p : ℕ) (l : List ℕ) → length l ≤ mostCopies → length (formerField p l) ≤ longestField
+unfolding formerField
 length-row p [] h = omega arith
 length-row p (i ∷ l) h =
     let body = bytesOf 2 p ++ idBytes (i ∷ l) in
     omega (arith, length-field 5 body, length-append (bytesOf 2 p) (idBytes (i ∷ l)), length-bytes 2 p, length-id-bytes (i ∷ l))
 
-length-rows : (p : ℕ) (F : Layout) → ((q : ℕ) → q < length F → length (row F q) ≤ mostCopies) → length (rowFields p F) ≤ length F * longestField
-unfolding rowFields
+length-rows : (p : ℕ) (F : Layout) → ((q : ℕ) → q < length F → length (row F q) ≤ mostCopies) → length (formerFields p F) ≤ length F * longestField
+unfolding formerFields
 length-rows p [] h = omega arith
 length-rows p (r ∷ F) h =
-    omega (arith, length-append (rowField p r) (rowFields (suc p) F), length-row p r (h 0 (omega arith)), length-rows (suc p) F (λ q l. h (suc q) (omega arith)))
+    omega (arith, length-append (formerField p r) (formerFields (suc p) F), length-row p r (h 0 (omega arith)), length-rows (suc p) F (λ q l. h (suc q) (omega arith)))
 
 -- No record has more than 9,900 bytes.
 pub longest : (t : Topology) (F : Layout) → Accepted t → IsFormer t F → length (clusterRecord t F) ≤ longestRecord
@@ -59,13 +57,13 @@ longest t F a f =
     let b = field 1 (bytesOf 1 (t .bits)) in
     let c = field 2 (bytesOf 1 (t .replication)) in
     let d = field 3 (bytesOf 1 (t .redundancy)) in
-    let rest = nodeFields (t .nodes) ++ rowFields 0 F in
+    let rest = nodeFields (t .nodes) ++ formerFields 0 F in
     omega (
       arith,
       length-append b (c ++ (d ++ rest)),
       length-append c (d ++ rest),
       length-append d rest,
-      length-append (nodeFields (t .nodes)) (rowFields 0 F),
+      length-append (nodeFields (t .nodes)) (formerFields 0 F),
       length-field 1 (bytesOf 1 (t .bits)),
       length-field 2 (bytesOf 1 (t .replication)),
       length-field 3 (bytesOf 1 (t .redundancy)),
@@ -110,7 +108,7 @@ rows-grow F (FormerRow p l) = omega (arith, length-append (F ++ replicate (p - l
 -- Each field has its share of the bytes.
 small-step : (s : List ℕ) (at : ℕ) (r : Reading) (tag start len : ℕ) → Small at r → Whole (length s) at (allowedAfter (r .last)) 0 tag start len → Kind (r .last) tag
     → faultIn (r .cluster) (length (r .former)) (itemIn s tag start len) ≡ 0 → Small (start + len) (readingWith r tag (itemIn s tag start len))
-unfolding Small readingWith withItem formerWith unordered
+unfolding Small readingWith withItem formerWith
 small-step s at r tag start len h f (number-next a e) none =
     omega (arith, f .begins, one-byte f (omega arith) (omega arith), nodes-grow (r .cluster) (itemIn s tag start len), rows-grow (r .former) (itemIn s tag start len))
 small-step s at r tag start len h f (node-next a b e) none =
@@ -123,8 +121,7 @@ small-step s at r tag start len h f (row-next a e) none =
     let F : Layout = r .former in
     let p : ℕ = numberAt s start 2 in
     let l : List ℕ = idsAt s (start + 2) ((len - 2) / 4) in
-    let g = faults-none (r .cluster) (length F) (FormerRow p l) (ap (faultIn (r .cluster) (length F)) (sym (item-five s start len tag e)) ∙ none) in
-    let passed : length F ≤ p = ltb-false p (length F) (neither (ltb p (length F)) (not (rising l)) (g .1) .0) in
+    let passed = sound-row (r .cluster) (length F) p l (ap (faultIn (r .cluster) (length F)) (sym (item-five s start len tag e)) ∙ none) .1 in
     let n : length (formerWith F i) ≡ p + 1 = ap (λ (x : Item). length (formerWith F x)) (item-five s start len tag e) ∙ length-next F p l passed in
     omega (arith, f .begins, row-bytes f e, n, nodes-grow (r .cluster) i)
 
@@ -150,7 +147,7 @@ module _ (s : List ℕ) (n : ℕ) where
     enough : length (take n s) ≤ at + fuel
     here : readCluster (take n s) ≡ walk fuel (take n s) at r
 
-  abbrev Decides : Outcome → Type 0
+  abbrev Decides : ClusterRead → Type 0
   Decides o = (readCluster (take n s) ≡ o) × (o .refusal ≡ 0 → ⊥)
 
   module _ (long : decidingBytes ≤ length s) (cut-long : decidingBytes ≤ n) where
@@ -179,12 +176,12 @@ module _ (s : List ℕ) (n : ℕ) where
       same-item = item-same tag start len (omega (arith, near at r q, met .begins)) (omega (arith, near at r q, met .begins)) (short kind-met)
 
       same-fault : (faultIn (r .cluster) (length (r .former)) (itemIn s tag start len) ≡ 0 → ⊥)
-          → Decides (refusedAt (faultIn (r .cluster) (length (r .former)) (itemIn s tag start len)) at)
+          → Decides (clusterRefused (faultIn (r .cluster) (length (r .former)) (itemIn s tag start len)) at)
       same-fault some =
           let d = ap (faultIn (r .cluster) (length (r .former))) same-item in (
             q .here
                 ∙ (walk-fault (take n s) at (q .fuel) r (before-end at r q) (q .enough) tag start len (same-field at r q ∙ e) (λ z. some (sym d ∙ z))
-                ∙ ap (λ (k : ℕ). refusedAt k at) d),
+                ∙ ap (λ (k : ℕ). clusterRefused k at) d),
             some,
           )
 
@@ -210,8 +207,8 @@ module _ (s : List ℕ) (n : ℕ) where
         ))
         (λ at r q tag start len e some. same-fault at r q tag start len e some)
         (λ at r q tag start len e none. same-on at r q tag start len e none)
-        (length s) 0 beginning (omega arith)
-        (record { well = well-beginning; small = unfold Small in omega arith; fuel = length (take n s); enough = omega arith; here = refl })
+        (length s) 0 nothingRead (omega arith)
+        (record { well = well-nothing; small = unfold Small in omega arith; fuel = length (take n s); enough = omega arith; here = refl })
 
 -- The first bytes of a record, 9,937 or more, are read as the whole: the same refusal and byte, or the same cluster and former layout.
 pub first-bytes : (s : List ℕ) (n : ℕ) → decidingBytes ≤ n → readCluster (take n s) ≡ readCluster s
@@ -220,12 +217,12 @@ first-bytes s n h =
 
 -- So are the answer and the lent cells.
 pub first-answer : (s former : List ℕ) (n : ℕ) → decidingBytes ≤ n
-    → (readAnswer (take n s) former ≡ readAnswer s former) × (formerAfter (take n s) former ≡ formerAfter s former)
+    → (readClusterOf (take n s) former ≡ readClusterOf s former) × (formerRead (take n s) former ≡ formerRead s former)
 first-answer s former n h = let e = first-bytes s n h in (answer e, cells e)
   where
-    answer : readCluster (take n s) ≡ readCluster s → readAnswer (take n s) former ≡ readAnswer s former
-    answer e = unfold readAnswer outcomeOf in ap (λ (o : Outcome). answerOf (cond (ltb (length former) layoutCells) (refusedAt 8 0) o)) e
+    answer : readCluster (take n s) ≡ readCluster s → readClusterOf (take n s) former ≡ readClusterOf s former
+    answer e = unfold readClusterOf clusterOutcome in ap (λ (o : ClusterRead). clusterAnswer (cond (ltb (length former) layoutCells) (clusterRefused 8 0) o)) e
 
-    cells : readCluster (take n s) ≡ readCluster s → formerAfter (take n s) former ≡ formerAfter s former
-    cells e = unfold formerAfter outcomeOf in
-        ap (λ (o : Outcome). let x = cond (ltb (length former) layoutCells) (refusedAt 8 0) o in cond (eqb (x .refusal) 0) (cellsOf (x .former) ++ drop layoutCells former) former) e
+    cells : readCluster (take n s) ≡ readCluster s → formerRead (take n s) former ≡ formerRead s former
+    cells e = unfold formerRead clusterOutcome in
+        ap (λ (o : ClusterRead). let x = cond (ltb (length former) layoutCells) (clusterRefused 8 0) o in cond (eqb (x .refusal) 0) (cellsOf (x .former) ++ drop layoutCells former) former) e

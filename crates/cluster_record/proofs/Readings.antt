@@ -2,23 +2,24 @@
 -- Assumes nothing.
 use Prim.Native.Nat.{ℕ, zero, suc, _+_, _-_, _/_, _%_, _≤_, _<_}
 use mathlib.Core.Path.{_≡_, refl, sym, ap, _∙_, subst}
-use mathlib.Core.Bool.{true, not}
+use mathlib.Core.Bool.{true, _||_}
 use mathlib.Core.List.{List, [], _∷_}
 use mathlib.Core.Logic.{_⊎_, ⊎-elim}
 use native.Mathlib.Omega.{arith}
-use lib.Dec.{ltb, leb, eqb}
+use lib.Dec.{ltb, eqb}
 use lib.ListN.{length, length-append}
-use borrow.Author.Tests.{ltb-false, leb-false, eqb-false, not-false, lt-ltb, le-ltb}
+use borrow.Author.Tests.{ltb-false, eqb-false, lt-ltb, le-ltb}
 use Rattle.sums.proofs.Sum.{lt-or-ge}
-use Rattle.cluster.specs.Terms.{mostBits, mostCopies, mostNodes, bufferRows, partitions, Layout, row, idsOf, mem, rising}
+use Rattle.cluster.specs.Terms.{mostBits, mostCopies, bufferRows, partitions, Layout, row, idsOf, mem, rising}
 use Rattle.cluster.specs.declared.Node.{Node}
 use Rattle.cluster.specs.TermsReading.{Accepted}
 use Rattle.cluster.proofs.Lists.{mem-head, mem-tail, mem-cases, rising-none}
-use Rattle.fields.specs.RecordField.{ruleOf, numberAt, nodeWidth, rowWidth, Whole, nodeAtByte}
+use Rattle.fields.specs.RecordField.{ruleOf, numberAt, nodeWidth, rowWidth, Whole, nodeAtByte, idsAt}
 use Rattle.fields.proofs.RecordField.{one-tag}
-use Rattle.cluster_record.specs.RecordClusterFaults.{Item, BitsOf, ReplicationOf, RedundancyOf, OneNode, FormerRow, idsAt, itemIn, Reading, beginning, allowedAfter, withItem, upTo, formerWith, readingWith, outside, lastOf, unordered, tooMany, faultIn}
+use Rattle.cluster_record.specs.RecordClusterFaults.{Item, BitsOf, ReplicationOf, RedundancyOf, OneNode, FormerRow, itemIn, Reading, nothingRead, allowedAfter, withItem, upTo, formerWith, readingWith, faultIn}
 use Rattle.sums.proofs.Tests.{neither}
-use Rattle.cluster_record.proofs.Items.{item-bits, item-replication, item-redundancy, item-node, item-five, length-ids, ids-snoc, rising-snoc, faults-none}
+use Rattle.cluster_record.proofs.Items.{item-bits, item-replication, item-redundancy, item-node, item-five, ids-snoc, rising-snoc, in-range, sound-node, sound-row}
+use Rattle.fields.proofs.IdBytes.{length-ids}
 use Rattle.cluster_record.proofs.FieldFaults.{few-partitions}
 use Rattle.cluster_record.proofs.Rows.{every-snoc, row-upTo, length-next}
 
@@ -99,7 +100,7 @@ module _ {n at : ℕ} {allowed : List ℕ} {tag start len : ℕ} (w : Whole n at
 
 -- ---- what holds of a reading
 
--- The cluster so far is accepted, and so are the rows; what was not read yet is as in the beginning.
+-- The cluster so far is accepted, and so are the rows; what was not read yet is as in the nothingRead.
 pub record Well (r : Reading) : Type 0 where
   pub accepted : Accepted (r .cluster)
   pub alone : r .last < 3 → r .cluster .redundancy ≡ 1
@@ -114,9 +115,9 @@ pub record Well (r : Reading) : Type 0 where
 pub rows-few : (r : Reading) → Well r → length (r .former) ≤ bufferRows
 rows-few r w = omega (arith, w .rows-le, few-partitions (r .cluster .bits) (w .accepted .bits))
 
-pub well-beginning : Well beginning
-unfolding beginning idsOf
-well-beginning = record {
+pub well-nothing : Well nothingRead
+unfolding nothingRead idsOf
+well-nothing = record {
   accepted = record { bits = omega arith; replication = (omega arith, omega arith); redundancy = (omega arith, omega arith); few = omega arith; ids = rising-none 0 };
   alone = λ l. refl;
   no-nodes = λ l. refl;
@@ -130,11 +131,10 @@ well-beginning = record {
 -- Each field without fault keeps it.
 module _ (r : Reading) (tag : ℕ) (w : Well r) where
   well-bits : (k : ℕ) → r .last ≡ 0 → tag ≡ 1 → faultIn (r .cluster) (length (r .former)) (BitsOf k) ≡ 0 → Well (readingWith r tag (BitsOf k))
-  unfolding readingWith withItem formerWith outside
+  unfolding readingWith withItem formerWith faultIn
   well-bits k z e f =
-      let n = faults-none (r .cluster) (length (r .former)) (BitsOf k) f in
       record {
-        accepted = record { bits = ltb-false mostBits k (n .0); replication = w .accepted .replication; redundancy = w .accepted .redundancy; few = w .accepted .few; ids = w .accepted .ids };
+        accepted = record { bits = ltb-false mostBits k (in-range (ltb mostBits k) f); replication = w .accepted .replication; redundancy = w .accepted .redundancy; few = w .accepted .few; ids = w .accepted .ids };
         alone = λ l. w .alone (omega arith);
         no-nodes = λ l. w .no-nodes (omega arith);
         no-rows = λ l. w .no-rows (omega arith);
@@ -145,9 +145,9 @@ module _ (r : Reading) (tag : ℕ) (w : Well r) where
       }
 
   well-replication : (k : ℕ) → r .last ≡ 1 → tag ≡ 2 → faultIn (r .cluster) (length (r .former)) (ReplicationOf k) ≡ 0 → Well (readingWith r tag (ReplicationOf k))
-  unfolding readingWith withItem formerWith outside
+  unfolding readingWith withItem formerWith faultIn
   well-replication k z e f =
-      let n = neither (eqb k 0) (ltb mostCopies k) (faults-none (r .cluster) (length (r .former)) (ReplicationOf k) f .0) in
+      let n = neither (eqb k 0) (ltb mostCopies k) (in-range (eqb k 0 || ltb mostCopies k) f) in
       let some : (k ≡ 0 → ⊥) = eqb-false k 0 (n .0) in
       record {
         accepted = record { bits = w .accepted .bits; replication = (omega arith, ltb-false mostCopies k (n .1)); redundancy = (w .accepted .redundancy .0, omega (arith, w .alone (omega arith))); few = w .accepted .few; ids = w .accepted .ids };
@@ -161,9 +161,9 @@ module _ (r : Reading) (tag : ℕ) (w : Well r) where
       }
 
   well-redundancy : (k : ℕ) → r .last ≡ 2 → tag ≡ 3 → faultIn (r .cluster) (length (r .former)) (RedundancyOf k) ≡ 0 → Well (readingWith r tag (RedundancyOf k))
-  unfolding readingWith withItem formerWith outside
+  unfolding readingWith withItem formerWith faultIn
   well-redundancy k z e f =
-      let n = neither (eqb k 0) (ltb (r .cluster .replication) k) (faults-none (r .cluster) (length (r .former)) (RedundancyOf k) f .0) in
+      let n = neither (eqb k 0) (ltb (r .cluster .replication) k) (in-range (eqb k 0 || ltb (r .cluster .replication) k) f) in
       let some : (k ≡ 0 → ⊥) = eqb-false k 0 (n .0) in
       record {
         accepted = record { bits = w .accepted .bits; replication = w .accepted .replication; redundancy = (omega arith, ltb-false (r .cluster .replication) k (n .1)); few = w .accepted .few; ids = w .accepted .ids };
@@ -177,19 +177,17 @@ module _ (r : Reading) (tag : ℕ) (w : Well r) where
       }
 
   well-node : (n : Node) → r .last < 5 → tag ≡ 4 → faultIn (r .cluster) (length (r .former)) (OneNode n) ≡ 0 → Well (readingWith r tag (OneNode n))
-  unfolding readingWith withItem formerWith unordered tooMany
+  unfolding readingWith withItem formerWith
   well-node n z e f =
       let l : List Node = r .cluster .nodes in
-      let h = faults-none (r .cluster) (length (r .former)) (OneNode n) f in
-      let above : lastOf 0 (idsOf l) < n .id = leb-false (n .id) (lastOf 0 (idsOf l)) (h .1) in
-      let room : length l < mostNodes = leb-false mostNodes (length l) (h .2) in
+      let h = sound-node (r .cluster) (length (r .former)) n f in
       record {
         accepted = record {
           bits = w .accepted .bits;
           replication = w .accepted .replication;
           redundancy = w .accepted .redundancy;
-          few = omega (arith, length-append l (n ∷ []));
-          ids = ap rising (ids-snoc l n) ∙ rising-snoc 0 (idsOf l) (n .id) (w .accepted .ids) above;
+          few = omega (arith, length-append l (n ∷ []), h .1);
+          ids = ap rising (ids-snoc l n) ∙ rising-snoc 0 (idsOf l) (n .id) (w .accepted .ids) (h .0);
         };
         alone = λ l. absurd (omega arith);
         no-nodes = λ l. absurd (omega arith);
@@ -201,22 +199,19 @@ module _ (r : Reading) (tag : ℕ) (w : Well r) where
       }
 
   well-row : (p : ℕ) (l : List ℕ) → tag ≡ 5 → length l ≤ mostCopies → faultIn (r .cluster) (length (r .former)) (FormerRow p l) ≡ 0 → Well (readingWith r tag (FormerRow p l))
-  unfolding readingWith withItem formerWith outside unordered
+  unfolding readingWith withItem formerWith
   well-row p l e few f =
       let F : Layout = r .former in
-      let h = faults-none (r .cluster) (length F) (FormerRow p l) f in
-      let inside : p < partitions (r .cluster) = leb-false (partitions (r .cluster)) p (neither (leb (partitions (r .cluster)) p) (mem 0 l) (h .0) .0) in
-      let n = neither (ltb p (length F)) (not (rising l)) (h .1) in
-      let passed : length F ≤ p = ltb-false p (length F) (n .0) in
+      let h = sound-row (r .cluster) (length F) p l f in
       record {
         accepted = w .accepted;
         alone = λ l. absurd (omega arith);
         no-nodes = λ l. absurd (omega arith);
         no-rows = λ l. absurd (omega arith);
         last-le = omega arith;
-        rows-le = omega (arith, length-next F p l passed);
+        rows-le = omega (arith, length-next F p l (h .1), h .0);
         row-ids = every-snoc (λ (x : List ℕ). rising x ≡ true) [] (upTo p F) l
-            (λ q. ap rising (row-upTo p F q) ∙ w .row-ids q) (not-false (rising l) (n .1)) (rising-none 0);
+            (λ q. ap rising (row-upTo p F q) ∙ w .row-ids q) (h .2) (rising-none 0);
         row-few = every-snoc (λ (x : List ℕ). length x ≤ mostCopies) [] (upTo p F) l
             (λ q. subst (λ (x : List ℕ). length x ≤ mostCopies) (sym (row-upTo p F q)) (w .row-few q)) few (omega arith);
       }

@@ -13,7 +13,7 @@ use Rattle.fields.specs.RecordField.{Bytes, part, field, fieldAt}
 use Rattle.fields.specs.declared.Field.the-variants.{Body}
 use Rattle.fields.proofs.Numbers.{length-part}
 use Rattle.fields.proofs.RecordField.{whole, field-back, length-field}
-use Rattle.cluster_record.specs.RecordCluster.{nodeField, nodeFields, rowField, rowFields}
+use Rattle.cluster_record.specs.RecordCluster.{nodeField, nodeFields, formerField, formerFields}
 use Rattle.cluster_record.specs.RecordClusterFaults.{upTo}
 use Rattle.cluster_record.proofs.Rows.{length-upTo}
 
@@ -24,32 +24,32 @@ unfolding nodeFields
 nodes-snoc [] n = append-nil (nodeField n)
 nodes-snoc (x ∷ l) n = ap (λ (r : List ℕ). nodeField x ++ r) (nodes-snoc l n) ∙ sym (append-assoc (nodeField x) (nodeFields l) (nodeField n))
 
-pub rows-append : (p : ℕ) (F G : Layout) → rowFields p (F ++ G) ≡ rowFields p F ++ rowFields (p + length F) G
-unfolding rowFields
-rows-append p [] G = ap (λ (k : ℕ). rowFields k G) (sym (add-zero p))
+pub rows-append : (p : ℕ) (F G : Layout) → formerFields p (F ++ G) ≡ formerFields p F ++ formerFields (p + length F) G
+unfolding formerFields
+rows-append p [] G = ap (λ (k : ℕ). formerFields k G) (sym (add-zero p))
 rows-append p (r ∷ F) G =
     let e : suc p + length F ≡ p + suc (length F) = omega arith in
-    ap (λ (x : List ℕ). rowField p r ++ x) (rows-append (suc p) F G ∙ ap (λ (k : ℕ). rowFields (suc p) F ++ rowFields k G) e)
-    ∙ sym (append-assoc (rowField p r) (rowFields (suc p) F) (rowFields (p + suc (length F)) G))
+    ap (λ (x : List ℕ). formerField p r ++ x) (rows-append (suc p) F G ∙ ap (λ (k : ℕ). formerFields (suc p) F ++ formerFields k G) e)
+    ∙ sym (append-assoc (formerField p r) (formerFields (suc p) F) (formerFields (p + suc (length F)) G))
 
 -- Empty rows have no fields.
-pub rows-empty : (p n : ℕ) → rowFields p (replicate n []) ≡ []
-unfolding rowFields rowField
+pub rows-empty : (p n : ℕ) → formerFields p (replicate n []) ≡ []
+unfolding formerFields formerField
 rows-empty p zero = refl
 rows-empty p (suc n) = rows-empty (suc p) n
 
-pub rows-upTo : (p : ℕ) (F : Layout) → rowFields 0 (upTo p F) ≡ rowFields 0 F
+pub rows-upTo : (p : ℕ) (F : Layout) → formerFields 0 (upTo p F) ≡ formerFields 0 F
 unfolding upTo
 rows-upTo p F =
     rows-append 0 F (replicate (p - length F) [])
-    ∙ (ap (λ (x : List ℕ). rowFields 0 F ++ x) (rows-empty (0 + length F) (p - length F)) ∙ append-nil (rowFields 0 F))
+    ∙ (ap (λ (x : List ℕ). formerFields 0 F ++ x) (rows-empty (0 + length F) (p - length F)) ∙ append-nil (formerFields 0 F))
 
-pub rows-next : (p : ℕ) (F : Layout) (r : List ℕ) → length F ≤ p → rowFields 0 (upTo p F ++ (r ∷ [])) ≡ rowFields 0 F ++ rowField p r
-unfolding rowFields
+pub rows-next : (p : ℕ) (F : Layout) (r : List ℕ) → length F ≤ p → formerFields 0 (upTo p F ++ (r ∷ [])) ≡ formerFields 0 F ++ formerField p r
+unfolding formerFields
 rows-next p F r h =
     let e : 0 + length (upTo p F) ≡ p = omega (arith, length-upTo p F h) in
     rows-append 0 (upTo p F) (r ∷ [])
-    ∙ ap₂ (λ (x y : List ℕ). x ++ y) (rows-upTo p F) (append-nil (rowField (0 + length (upTo p F)) r) ∙ ap (λ (k : ℕ). rowField k r) e)
+    ∙ ap₂ (λ (x y : List ℕ). x ++ y) (rows-upTo p F) (append-nil (formerField (0 + length (upTo p F)) r) ∙ ap (λ (k : ℕ). formerField k r) e)
 
 -- ---- what was read, as bytes
 

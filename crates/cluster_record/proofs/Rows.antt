@@ -12,9 +12,10 @@ use Rattle.cells.specs.ModelCells.{put}
 use Rattle.cells.proofs.Cells.{length-put, getD-put-in, getD-put-out}
 use Rattle.cluster.specs.Terms.{mostCopies, rowCells, bufferRows, layoutCells, Layout, row, cellsOf}
 use Rattle.cluster.proofs.CellLayouts.{length-cellsOf, getD-cellsOf}
-use Rattle.fields.specs.RecordField.{numberAt, rowWidth}
-use Rattle.cluster_record.specs.RecordClusterFaults.{Item, idsAt, itemIn, upTo, formerWith}
-use Rattle.cluster_record.proofs.Items.{item-five, length-ids, getD-ids}
+use Rattle.fields.specs.RecordField.{numberAt, rowWidth, idsAt}
+use Rattle.cluster_record.specs.RecordClusterFaults.{Item, itemIn, upTo, formerWith}
+use Rattle.cluster_record.proofs.Items.{item-five}
+use Rattle.fields.proofs.IdBytes.{length-ids, getD-ids}
 
 -- What holds of every element of a list, of one more and of the default holds of every element of the longer list.
 pub every-snoc : {A : Type 0} (P : A → Type 0) (d : A) (l : List A) (x : A) → ((i : ℕ) → P (getD l i d)) → P x → P d → (i : ℕ) → P (getD (l ++ (x ∷ [])) i d)

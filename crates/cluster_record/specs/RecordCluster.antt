@@ -7,8 +7,7 @@ use lib.ListN.{getD}
 use Rattle.cluster.specs.Terms.{mostNodes, bufferRows, Topology, Layout, nodeAt, row, IsFormer}
 use Rattle.cluster.specs.declared.Node.{Node}
 use Rattle.cluster.specs.TermsReading.{Accepted}
-unfoldable pub use Rattle.fields.specs.RecordField.{idBytes}
-use Rattle.fields.specs.RecordField.{bytesOf, nodeWidth, nodeBytes, FitsNode, headWidth, longestField, field}
+use Rattle.fields.specs.RecordField.{bytesOf, nodeWidth, nodeBytes, FitsNode, headWidth, longestField, field, idBytes}
 
 -- "1 bits (1 byte), 2 replication (1), 3 redundancy (1)"
 unfoldable pub bitsField : Topology → List ℕ
@@ -30,18 +29,18 @@ nodeFields [] = []
 nodeFields (n ∷ ns) = nodeField n ++ nodeFields ns
 
 -- "5 former row (2 + 4m: partition 2, then m rising ids, m from 1 to 8)"; "A partition without a row had no former copies."
-unfoldable pub rowField : ℕ → List ℕ → List ℕ
-rowField p [] = []
-rowField p (i ∷ l) = field 5 (bytesOf 2 p ++ idBytes (i ∷ l))
+unfoldable pub formerField : ℕ → List ℕ → List ℕ
+formerField p [] = []
+formerField p (i ∷ l) = field 5 (bytesOf 2 p ++ idBytes (i ∷ l))
 
 -- "by rising partition": the fields of the rows of the partitions p, p + 1 and on.
-unfoldable pub rowFields : ℕ → Layout → List ℕ
-rowFields p [] = []
-rowFields p (r ∷ rs) = rowField p r ++ rowFields (suc p) rs
+unfoldable pub formerFields : ℕ → Layout → List ℕ
+formerFields p [] = []
+formerFields p (r ∷ rs) = formerField p r ++ formerFields (suc p) rs
 
 -- "Cluster record: 1 bits, 2 replication, 3 redundancy, once each in this order; then 4 box, by rising id; then 5 former row, by rising partition."
 unfoldable pub clusterRecord : Topology → Layout → List ℕ
-clusterRecord t F = bitsField t ++ (replicationField t ++ (redundancyField t ++ (nodeFields (t .nodes) ++ rowFields 0 F)))
+clusterRecord t F = bitsField t ++ (replicationField t ++ (redundancyField t ++ (nodeFields (t .nodes) ++ formerFields 0 F)))
 
 -- The numbers that a record holds fit the bytes that it has for them: those of a node, and four for each id of a row.
 pub record FitsRecord (t : Topology) (F : Layout) : Type 0 where
@@ -49,7 +48,7 @@ pub record FitsRecord (t : Topology) (F : Layout) : Type 0 where
   pub former : (p j : ℕ) → getD (row F p) j 0 < 2 ^ 32
 
 -- s is the record of an accepted cluster and its former layout.
-pub record IsRecord (s : List ℕ) (t : Topology) (F : Layout) : Type 0 where
+pub record IsClusterRecord (s : List ℕ) (t : Topology) (F : Layout) : Type 0 where
   pub bytes : s ≡ clusterRecord t F
   pub accepted : Accepted t
   pub former : IsFormer t F

@@ -53,6 +53,7 @@ over p s = p ++ drop (length p) s
 abbrev pub nodeWidth : ℕ
 nodeWidth = 10
 
+-- The bytes of a node, in this order.
 unfoldable pub nodeBytes : Node → List ℕ
 nodeBytes n = bytesOf 4 (n .id) ++ (bytesOf 2 (n .zone) ++ bytesOf 4 (n .capacity))
 
