@@ -1,9 +1,18 @@
 # The commands of the README, and what they are made of. `make test` is the merge gate.
-.PHONY: test plan soak bench
-.SILENT: test plan
+.PHONY: help test plan library soak bench
+.SILENT: help test plan library
 
 CONSOLE = --offline --manifest-path console/Cargo.toml
-LIBRARY = target/staticlib/libconsole.a
+COMMAND = console/target/release/dezghuri
+LIBRARY = build/libconsole.a
+
+# What a bare `make` does: the gate takes a quarter of an hour, and nobody should start it by chance.
+help:
+	echo 'make plan      plans the sample cluster of five boxes, then the same cluster after one box was replaced'
+	echo 'make library   proves the C functions and puts the static library that programs link into build/'
+	echo 'make test      proves every crate from nothing, tries the edits that must be refused, runs all tests'
+	echo 'make soak      compares many more cases with the listing and the parser than `make test` does'
+	echo 'make bench     times the planner beside plain Rust'
 
 test:
 	sh tools/test.sh
@@ -11,9 +20,12 @@ test:
 # Plans the sample, then the same cluster after one of its boxes was replaced.
 plan: $(LIBRARY)
 	cargo build --release --quiet $(CONSOLE)
-	console/target/release/console plan samples/home.txt --out target/home.layout
+	$(COMMAND) plan samples/home.txt --out build/home.layout --replace
 	echo
-	console/target/release/console plan samples/home-next.txt --former target/home.layout --out target/home-next.layout
+	$(COMMAND) plan samples/home-next.txt --former build/home.layout --out build/home-next.layout --replace
+
+library: $(LIBRARY)
+	echo '$(LIBRARY) is made.'
 
 # Compares a hundred times as many cases as `make test` does; SOAK=N for N times as many, SEED=N for others.
 soak: $(LIBRARY)
@@ -25,7 +37,6 @@ bench: $(LIBRARY)
 
 # The C functions, proved and compiled; again only when a crate has changed.
 $(LIBRARY): crates.txt $(shell find crates -name '*.rt' -o -name '*.antt')
-	@mkdir -p target
-	@echo 'Proving the planner and compiling it: some minutes the first time (see target/staticlib.log).'
-	@rt staticlib console >target/staticlib.log 2>&1 || { cat target/staticlib.log; exit 1; }
-	@touch $@
+	@mkdir -p build
+	@echo 'Proving the planner and compiling it: some minutes the first time (see build/library.log).'
+	@sh tools/library.sh >build/library.log 2>&1 || { cat build/library.log; exit 1; }

@@ -1,17 +1,17 @@
-//! Links the static library of the proved functions, which `rt staticlib console` makes.
+//! Links the static library of the proved functions, which `make library` puts into `build/`.
 
 use std::path::PathBuf;
 use std::process::exit;
 
 fn main() {
     let here = std::env::var_os("CARGO_MANIFEST_DIR").expect("cargo sets it");
-    let folder = PathBuf::from(here).join("../target/staticlib");
+    let folder = PathBuf::from(here).join("../build");
     let library = folder.join("libconsole.a");
     println!("cargo::rerun-if-changed={}", library.display());
     println!("cargo::rerun-if-changed=build.rs");
     if !library.is_file() {
         println!(
-            "cargo::error={} is missing: run `rt staticlib console` in the project's folder first",
+            "cargo::error={} is missing: run `make library` in the project's folder first",
             library.display()
         );
         exit(1);

@@ -1,14 +1,17 @@
 #!/bin/sh
 # Runs the built program `plan` on each record of samples/plan and compares what it prints with what is expected there, byte for byte. Of an
-# expected line 3 `improvements N` the number is free, up to 2,048. A's record is run once more in two parts, for a read that is short.
+# expected line 3 `improvements N` the number is free, up to 2,048. A's record is run once more in two parts, for a read that is short. The
+# command's `plan --record` must print the very same, and end with status 1 where the record is refused.
 set -u
 cd "$(dirname "$0")/.." || exit 2
 program=target/bin/plan
+command=console/target/release/dezghuri
 samples=samples/plan
 
 fail() { printf 'run-samples: %s\n' "$*" >&2; exit 1; }
 
 [ -x "$program" ] || fail "$program is missing"
+[ -x "$command" ] || fail "$command is missing"
 work=$(mktemp -d) || exit 2
 trap 'rm -rf "$work"' EXIT
 
@@ -35,13 +38,23 @@ compare() {
     fail "$1: the above was printed, which is not what is expected"
 }
 
+# compare_command NAME: fails unless the command prints what the program printed, from a file and from standard input.
+compare_command() {
+    case $(sed -n 1p "$work/printed") in 'refused '*) status=1 ;; *) status=0 ;; esac
+    "$command" plan --record "$samples/$1.record" >"$work/again"
+    [ $? -eq $status ] && cmp -s "$work/printed" "$work/again" || fail "$1: the command and the program differ"
+    "$command" plan --record - <"$samples/$1.record" >"$work/again"
+    [ $? -eq $status ] && cmp -s "$work/printed" "$work/again" || fail "$1: the command and the program differ on standard input"
+}
+
 count=0
 for name in A B D E K empty lone-byte too-long largest; do
     [ -f "$samples/$name.record" ] || fail "$samples/$name.record is missing"
     "$program" <"$samples/$name.record" >"$work/printed" || fail "$name: the program ended with status $?"
     compare "$name"
+    compare_command "$name"
     count=$((count + 1))
 done
 { dd bs=20 count=1 2>/dev/null; sleep 1; cat; } <"$samples/A.record" | "$program" >"$work/printed"
 compare A
-printf 'run-samples: %d records, each printed what is expected\n' "$count"
+printf 'run-samples: %d records, of each the program and the command printed what is expected\n' "$count"

@@ -1,6 +1,7 @@
 #!/bin/sh
-# The gate: proves every listed crate with `rt ci`, then runs the program `plan` on the stored records, builds the static library of the
-# console crate and runs the Rust tests, once those crates exist. The last line is rt's own 'N passed, 0 failed', and is printed only where all passed.
+# The gate: proves every listed crate with `rt ci`, builds the static library of the console crate, runs the Rust tests, and runs the program
+# `plan` on the stored records. A part that is missing is a failure. The last line is rt's own 'N passed, 0 failed', and is printed only where
+# all passed.
 set -u
 cd "$(dirname "$0")/.." || exit 2
 
@@ -10,33 +11,35 @@ for tool in rt cargo rustc cc; do
     command -v "$tool" >/dev/null 2>&1 || fail "$tool is missing"
 done
 
-log=$(mktemp) || exit 2
-trap 'rm -f "$log"' EXIT
+work=$(mktemp -d) || exit 2
+trap 'rm -rf "$work"' EXIT
 
-# rt's last line is held back: it stands at the end only if what follows passes too.
-rt ci >"$log" 2>&1
-status=$?
-sed '$d' "$log"
-last=$(sed -n '$p' "$log")
-if [ "$status" -ne 0 ]; then
-    printf '%s\n' "$last"
-    fail "rt ci ended with status $status"
-fi
-case $last in
-    *' passed, 0 failed') ;;
-    *) printf '%s\n' "$last"; fail "rt ci's last line is not 'N passed, 0 failed'" ;;
-esac
+# Passes each line on as it comes, but holds back one that reads as a pass until another follows; the one still held at the end goes into a file.
+hold_back() {
+    held=
+    while IFS= read -r line || [ -n "$line" ]; do
+        [ -z "$held" ] || printf '%s\n' "$held"
+        held=
+        case $line in
+            *' passed, 0 failed') held=$line ;;
+            *) printf '%s\n' "$line" ;;
+        esac
+    done
+    printf '%s\n' "$held" >"$work/last"
+}
 
-if [ -d crates/plan ]; then
-    sh tools/run-samples.sh || fail "the program plan printed something else than is stored"
-fi
-if [ -d crates/console ]; then
-    rt staticlib console || fail "the static library of the console crate was not built"
-fi
+# A pipe's status is that of its last command, so rt's own goes through a file.
+{ rt ci 2>&1; printf '%s\n' "$?" >"$work/status"; } | hold_back
+status=$(cat "$work/status") || fail "rt ci did not end"
+last=$(cat "$work/last") || exit 2
+[ "$status" -eq 0 ] || fail "rt ci ended with status $status"
+[ -n "$last" ] || fail "rt ci's last line is not 'N passed, 0 failed'"
+
+sh tools/library.sh || fail "the static library of the console crate was not built"
 for manifest in console/reference/Cargo.toml console/Cargo.toml; do
-    if [ -f "$manifest" ]; then
-        cargo test --release --offline --manifest-path "$manifest" || fail "a Rust test failed"
-    fi
+    cargo test --release --offline --manifest-path "$manifest" || fail "a Rust test failed"
 done
+cargo build --release --quiet --offline --manifest-path console/Cargo.toml || fail "the command was not built"
+sh tools/run-samples.sh || fail "the program plan, or the command, printed something else than is stored"
 
 printf '%s\n' "$last"

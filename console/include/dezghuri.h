@@ -1,5 +1,5 @@
 /* The planner's C functions: layouts of a cluster of storage boxes ("nodes"), proved.
- * Link libconsole.a, which `rt staticlib console` makes.
+ * Link libconsole.a, which `make library` puts into build/.
  *
  * Every function answers a refusal number, DEZGHURI_OK where it refuses nothing. Its other numbers go into
  * the lent slice `answer`.

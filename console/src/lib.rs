@@ -6,6 +6,8 @@
 //! partition that the disks allow, then, among all layouts of that size, one that lies nearest to
 //! the former layout.
 //!
+//! [`Cluster::losses`] names the partitions of which the nodes that are gone had the last copies.
+//!
 //! What is computed is computed by the C functions of `include/dezghuri.h`, whose contracts are
 //! proved; this library lends them their buffers and names their answers. [`ffi`] has them one for
 //! one.
@@ -39,11 +41,13 @@ mod cluster;
 #[allow(unsafe_code)]
 pub mod ffi;
 mod layout;
+mod losses;
 mod plan;
 mod refusal;
 
 pub use check::Figures;
 pub use cluster::{Cluster, Node};
 pub use layout::Layout;
+pub use losses::Losses;
 pub use plan::{Plan, Verdict, ENOUGH};
 pub use refusal::{Place, Refusal, Refused};

@@ -117,11 +117,11 @@ pub struct Refused {
 
 impl fmt::Display for Refused {
     fn fmt(&self, f: &mut fmt::Formatter<'_>) -> fmt::Result {
-        write!(f, "refused {}", self.refusal.number())?;
+        write!(f, "{}", self.refusal)?;
         if let Some(place) = self.place {
-            write!(f, " at {place}")?;
+            write!(f, ", at {place}")?;
         }
-        write!(f, ": {}", self.refusal)
+        write!(f, " (refused {})", self.refusal.number())
     }
 }
 
@@ -164,14 +164,14 @@ mod tests {
     }
 
     #[test]
-    fn messages_say_number_place_and_meaning() {
+    fn messages_say_meaning_place_and_number() {
         let tag = judge(2, Some(wide(1, 4)), Some(0)).unwrap_err();
         assert_eq!(
             tag.to_string(),
-            "refused 2 at byte 4294967300: a tag that is not allowed next"
+            "a tag that is not allowed next, at byte 4294967300 (refused 2)"
         );
         let none = judge(9, Some(0), Some(0)).unwrap_err();
-        assert_eq!(none.to_string(), "refused 9: no layout is valid at size 1");
+        assert_eq!(none.to_string(), "no layout is valid at size 1 (refused 9)");
         let zones = judge(11, Some(0), Some(7)).unwrap_err();
         assert_eq!(zones.place, Some(Place::Partition(7)));
         let full = judge(12, Some(0), Some(7)).unwrap_err();

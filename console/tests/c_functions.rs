@@ -14,7 +14,7 @@ fn a_c_program_calls_each_function() {
         .args(["-std=c99", "-Wall", "-Wextra", "-pedantic", "-Werror"])
         .args(["-Iinclude", "tests/c/calls.c", "-o"])
         .arg(&program)
-        .arg("../target/staticlib/libconsole.a")
+        .arg("../build/libconsole.a")
         .output()
         .expect("a C compiler, cc, is needed");
     let told = String::from_utf8_lossy(&compiled.stderr);

@@ -1,8 +1,11 @@
 //! A folder of its own for each test, in which the command is called.
 
+use dezghuri::{Layout, Plan, Verdict};
 use std::fs;
 use std::path::{Path, PathBuf};
-use std::process::Command;
+use std::process::{Command, Stdio};
+
+const BINARY: &str = env!("CARGO_BIN_EXE_dezghuri");
 
 pub struct Folder(PathBuf);
 
@@ -47,17 +50,68 @@ impl Folder {
     }
 
     /// Calls the command with these words, in this folder.
-    pub fn console(&self, words: &str) -> Done {
-        let output = Command::new(env!("CARGO_BIN_EXE_console"))
-            .current_dir(&self.0)
-            .args(words.split_whitespace())
-            .output()
-            .expect("the command is built");
-        Done {
-            status: output.status.code().expect("it ends by itself"),
-            out: String::from_utf8_lossy(&output.stdout).into_owned(),
-            err: String::from_utf8_lossy(&output.stderr).into_owned(),
-            bytes: output.stdout,
-        }
+    pub fn call(&self, words: &str) -> Done {
+        let mut command = self.command();
+        command.args(words.split_whitespace());
+        finish(&mut command)
     }
+
+    /// Calls it with something else for its standard output.
+    pub fn call_into(&self, words: &str, out: Stdio) -> Done {
+        let mut command = self.command();
+        command.args(words.split_whitespace()).stdout(out);
+        finish(&mut command)
+    }
+
+    /// Calls it with a standard stream closed, as the shell's `>&-` and `<&-` do.
+    pub fn call_closed(&self, words: &str, stream: &str) -> Done {
+        let mut shell = Command::new("sh");
+        let line = format!("exec \"$0\" {words} {stream}&-");
+        shell.current_dir(&self.0).args(["-c", &line, BINARY]);
+        finish(&mut shell)
+    }
+
+    /// Calls it with these bytes as its standard input.
+    pub fn call_with(&self, words: &str, input: &[u8]) -> Done {
+        self.write("input", input);
+        let input = fs::File::open(self.path("input")).expect("it was written");
+        let mut command = self.command();
+        command.args(words.split_whitespace()).stdin(input);
+        finish(&mut command)
+    }
+
+    fn command(&self) -> Command {
+        let mut command = Command::new(BINARY);
+        command.current_dir(&self.0);
+        command
+    }
+}
+
+fn finish(command: &mut Command) -> Done {
+    let output = command.output().expect("the command is built");
+    Done {
+        status: output.status.code().expect("it ends by itself"),
+        out: String::from_utf8_lossy(&output.stdout).into_owned(),
+        err: String::from_utf8_lossy(&output.stderr).into_owned(),
+        bytes: output.stdout,
+    }
+}
+
+/// The layout record of these rows, one for each of 2^bits partitions.
+pub fn layout_record(bits: u8, size: u32, rows: &[&[u32]]) -> Vec<u8> {
+    assert_eq!(rows.len(), 1 << bits);
+    let mut layout = Layout::default();
+    for (partition, ids) in (0..=u8::MAX).zip(rows) {
+        layout.set_row(partition, ids);
+    }
+    let plan = Plan {
+        bits,
+        replication: u8::try_from(rows[0].len()).expect("at most eight"),
+        size,
+        distance: 0,
+        verdict: Verdict::Finished,
+        improvements: 0,
+        layout,
+    };
+    plan.to_record().expect("the rows make a layout")
 }

@@ -1,6 +1,12 @@
 //! The command as its owner calls it: whole outputs, exit status, and what is in the folder after.
 
 mod folder;
+mod lost;
+mod printed;
+mod record_lines;
+mod replaced;
+mod shown;
+mod told;
 
 use folder::Folder;
 
@@ -17,7 +23,7 @@ fn planned_home(name: &str) -> Folder {
     let folder = Folder::new(name);
     folder.write("home.txt", HOME);
     folder.write("next.txt", HOME_NEXT);
-    let done = folder.console("plan home.txt --out last");
+    let done = folder.call("plan home.txt --out last");
     assert_eq!(done.status, 0, "{}", done.err);
     folder
 }
@@ -28,7 +34,7 @@ fn planned_home(name: &str) -> Folder {
 fn the_first_plan_of_the_sample() {
     let folder = Folder::new("first");
     folder.write("home.txt", HOME);
-    let done = folder.console("plan home.txt --out last");
+    let done = folder.call("plan home.txt --out last");
     assert_eq!((done.status, done.err.as_str()), (0, ""));
     assert_eq!(done.out, include_str!("first.txt"));
     assert_eq!(folder.names(), ["home.txt", "last"]);
@@ -40,10 +46,10 @@ fn the_first_plan_of_the_sample() {
 #[test]
 fn a_plan_after_a_box_was_replaced() {
     let folder = planned_home("next");
-    let done = folder.console("plan next.txt --former last --out next");
+    let done = folder.call("plan next.txt --former last --out next");
     assert_eq!((done.status, done.err.as_str()), (0, ""));
     assert_eq!(done.out, include_str!("next.txt"));
-    let shown = folder.console("show next.txt next");
+    let shown = folder.call("show next.txt next");
     assert_eq!((shown.status, shown.err.as_str()), (0, ""));
     assert_eq!(shown.out, include_str!("show.txt"));
 }
@@ -52,7 +58,7 @@ fn a_plan_after_a_box_was_replaced() {
 fn nothing_moves_where_nothing_changed() {
     let folder = planned_home("same");
     let before = folder.read("last");
-    let done = folder.console("plan home.txt --former last --out last");
+    let done = folder.call("plan home.txt --former last --out last");
     assert_eq!(done.status, 0, "{}", done.err);
     let told = "Transfers: 0 copies are to be sent, 0 copies are to be dropped.\n";
     assert!(done.out.contains(told), "{}", done.out);
@@ -63,14 +69,14 @@ fn nothing_moves_where_nothing_changed() {
 #[test]
 fn a_stopped_plan_says_what_that_means() {
     let folder = planned_home("stopped");
-    let done = folder.console("plan next.txt --former last --out next --allowance 1");
+    let done = folder.call("plan next.txt --former last --out next --allowance 1");
     assert_eq!((done.status, done.err.as_str()), (0, ""));
     let told =
         "Stopped after 1 improvement: the layout is valid, but another one of this size needs \
                 fewer\ntransfers. A larger allowance comes nearer to it.\nWritten to next.\n";
     assert!(done.out.ends_with(told), "{}", done.out);
-    assert_eq!(folder.console("check next.txt next").status, 0);
-    let shown = folder.console("show next.txt next");
+    assert_eq!(folder.call("check next.txt next").status, 0);
+    let shown = folder.call("show next.txt next");
     let told = "Planned: stopped after 1 improvement, another layout of this size needed fewer \
                 transfers.\n";
     assert!(shown.out.ends_with(told), "{}", shown.out);
@@ -81,7 +87,7 @@ fn a_layout_is_checked() {
     let folder = planned_home("check");
     let checked = |file: &str, text: &str| {
         folder.write(file, text);
-        let done = folder.console(&format!("check {file} last"));
+        let done = folder.call(&format!("check {file} last"));
         (done.status, done.out + &done.err)
     };
     let edited = |from: &str, to: &str| {
@@ -99,8 +105,8 @@ fn a_layout_is_checked() {
         checked("smaller.txt", &edited("archive   3T", "archive   2T")),
         (
             1,
-            "refused 12, not valid: box 5 is to hold 154 copies of 19,480 MB, 2,999,920 MB \
-             together, and has 2,000,000 MB\n"
+            "not valid: box 5 is to hold 154 copies of 19,480 MB, 2,999,920 MB together, and has \
+             2,000,000 MB (refused 12)\n"
                 .into()
         )
     );
@@ -108,24 +114,21 @@ fn a_layout_is_checked() {
         checked("fewer.txt", &edited("copies 3", "copies 2")),
         (
             1,
-            "refused 10, not valid: it has 3 copies of each partition, 2 are wanted\n".into()
+            "not valid: it has 3 copies of each partition, 2 are wanted (refused 10)\n".into()
         )
     );
     assert_eq!(
         checked("bits.txt", &edited("copies 3", "bits 7\ncopies 3")),
         (
             1,
-            "refused 10, not valid: it has bits 8, 7 are wanted\n".into()
+            "not valid: it has bits 8, 7 are wanted (refused 10)\n".into()
         )
     );
     let (status, told) = checked("gone.txt", &edited("box 5 ", "box 6 "));
     assert_eq!(status, 1);
+    assert!(told.starts_with("not valid: partition "), "{told}");
     assert!(
-        told.starts_with("refused 10, not valid: partition "),
-        "{told}"
-    );
-    assert!(
-        told.ends_with(" lies on box 5, which is not there\n"),
+        told.ends_with(" lies on box 5, which is not there (refused 10)\n"),
         "{told}"
     );
 }
@@ -134,10 +137,10 @@ fn a_layout_is_checked() {
 fn zones_are_checked_by_name() {
     let folder = Folder::new("zones");
     folder.write("home.txt", THREE);
-    assert_eq!(folder.console("plan home.txt --out last").status, 0);
+    assert_eq!(folder.call("plan home.txt --out last").status, 0);
     folder.write("one.txt", THREE.replace("home", "shop"));
-    let done = folder.console("check one.txt last");
-    let told = "refused 11, not valid: partition 0 lies in 1 zone (shop), 2 are wanted\n";
+    let done = folder.call("check one.txt last");
+    let told = "not valid: partition 0 lies in 1 zone (shop), 2 are wanted (refused 11)\n";
     assert_eq!((done.status, done.err.as_str()), (1, told));
 }
 
@@ -145,13 +148,13 @@ fn zones_are_checked_by_name() {
 fn one_partition_is_shown() {
     let folder = Folder::new("row");
     folder.write("home.txt", THREE);
-    assert_eq!(folder.console("plan home.txt --out last").status, 0);
-    let shown = folder.console("show home.txt last 1");
+    assert_eq!(folder.call("plan home.txt --out last").status, 0);
+    let shown = folder.call("show home.txt last 1");
     let row =
         "Partition 1 lies on\n\n  box  name   zone\n    1         shop\n    2  tower  shop\n    \
                3         home\n";
     assert_eq!((shown.status, shown.out.as_str()), (0, row));
-    let beyond = folder.console("show home.txt last 2");
+    let beyond = folder.call("show home.txt last 2");
     let told = "last has 2 partitions, numbered from 0\n";
     assert_eq!((beyond.status, beyond.err.as_str()), (2, told));
 }
@@ -167,20 +170,18 @@ fn a_cluster_record_is_written() {
         &[4, 0, 10, 0, 0, 0, 3, 0, 1, 0, 0, 0, 50],
     ]
     .concat();
-    let done = folder.console("record home.txt");
+    let done = folder.call("record home.txt");
     assert_eq!((done.status, done.bytes), (0, expected.clone()));
-    let done = folder.console("record home.txt --out record");
-    assert_eq!(
-        (done.status, done.out.as_str()),
-        (0, "51 bytes written to record.\n")
-    );
+    let done = folder.call("record home.txt --out record");
+    let told = "home.txt makes a cluster record of 51 bytes.\nWritten to record.\n";
+    assert_eq!((done.status, done.out.as_str()), (0, told));
     assert_eq!(folder.read("record"), expected);
 
-    assert_eq!(folder.console("plan home.txt --out last").status, 0);
+    assert_eq!(folder.call("plan home.txt --out last").status, 0);
     let row = |p| [5, 0, 14, 0, p, 0, 0, 0, 1, 0, 0, 0, 2, 0, 0, 0, 3];
     let with_rows = [expected, row(0).to_vec(), row(1).to_vec()].concat();
     assert_eq!(
-        folder.console("record home.txt --former last").bytes,
+        folder.call("record home.txt --former last").bytes,
         with_rows
     );
 }
@@ -191,8 +192,8 @@ fn no_layout_is_told_with_its_reason_and_nothing_is_written() {
         let folder = Folder::new("none");
         folder.write("home.txt", text);
         folder.write("next", "kept");
-        let done = folder.console("plan home.txt --out next");
-        let told = format!("refused 9, there is no layout: {why}\n");
+        let done = folder.call("plan home.txt --out next");
+        let told = format!("there is no layout: {why} (refused 9)\n");
         assert_eq!((done.status, done.err, done.out), (1, told, String::new()));
         assert_eq!(folder.read("next"), b"kept");
         assert_eq!(folder.names(), ["home.txt", "next"]);
@@ -219,7 +220,7 @@ fn a_bad_file_is_told_by_line_and_nothing_is_written() {
     let folder = Folder::new("bad");
     folder.write("home.txt", include_str!("bad.txt"));
     folder.write("next", "kept");
-    let done = folder.console("plan home.txt --out next");
+    let done = folder.call("plan home.txt --out next");
     assert_eq!((done.status, done.out.as_str()), (2, ""));
     assert_eq!(done.err, include_str!("bad-told.txt"));
     assert_eq!(folder.read("next"), b"kept");
@@ -229,7 +230,7 @@ fn a_bad_file_is_told_by_line_and_nothing_is_written() {
         "show home.txt next",
         "record home.txt",
     ] {
-        let done = folder.console(line);
+        let done = folder.call(line);
         assert_eq!(
             (done.status, done.err.as_str()),
             (2, include_str!("bad-told.txt"))
@@ -245,31 +246,31 @@ fn a_damaged_layout_is_refused_and_nothing_is_written() {
     let damaged = [
         (
             record[..record.len() - 1].to_vec(),
-            "refused 1 at byte 4364: one or two bytes left, or a field's body cut short",
+            "one or two bytes left, or a field's body cut short, at byte 4364 (refused 1)",
         ),
         (
             record[..29].to_vec(),
-            "refused 7 at byte 29: the record ends before a field or row that it must have",
+            "the record ends before a field or row that it must have, at byte 29 (refused 7)",
         ),
         (
             [&record[..], &[10, 0, 14]].concat(),
-            "refused 2 at byte 4381: a tag that is not allowed next",
+            "a tag that is not allowed next, at byte 4381 (refused 2)",
         ),
         (
             vec![],
-            "refused 7 at byte 0: the record ends before a field or row that it must have",
+            "the record ends before a field or row that it must have, at byte 0 (refused 7)",
         ),
     ];
     for (bytes, why) in damaged {
         folder.write("last", &bytes);
-        let told = format!("last: this is not a whole layout record ({why})\n");
+        let told = format!("last: this is not a whole layout record: {why}\n");
         for line in [
             "plan next.txt --former last --out next",
             "check home.txt last",
             "show home.txt last",
             "show home.txt last 0",
         ] {
-            let done = folder.console(line);
+            let done = folder.call(line);
             assert_eq!(
                 (done.status, &done.err, &done.out[..]),
                 (2, &told, ""),
@@ -284,7 +285,7 @@ fn a_damaged_layout_is_refused_and_nothing_is_written() {
 fn a_former_layout_of_other_partitions_is_refused() {
     let folder = planned_home("bits");
     folder.write("next.txt", HOME_NEXT.replace("zones 2", "zones 2\nbits 7"));
-    let done = folder.console("plan next.txt --former last --out next");
+    let done = folder.call("plan next.txt --former last --out next");
     let told = "last was planned with bits 8, next.txt has bits 7: they cannot change\n";
     assert_eq!((done.status, done.err.as_str()), (2, told));
     assert_eq!(folder.names(), ["home.txt", "last", "next.txt"]);
@@ -298,7 +299,7 @@ fn files_that_are_not_there_are_told() {
         ("plan home.txt --former other --out next", "other"),
         ("check home.txt other", "other"),
     ] {
-        let done = folder.console(line);
+        let done = folder.call(line);
         let told = format!("{file}: No such file or directory (os error 2)\n");
         assert_eq!((done.status, done.err), (2, told), "{line}");
     }
@@ -309,25 +310,14 @@ fn files_that_are_not_there_are_told() {
 fn only_a_file_is_replaced() {
     let folder = planned_home("place");
     std::fs::create_dir(folder.path("folder")).unwrap();
-    let done = folder.console("plan home.txt --out folder");
+    let done = folder.call("plan home.txt --out folder");
     let told = "folder: not written: there is something there that is not a file\n";
     assert_eq!((done.status, done.err.as_str()), (2, told));
-    let done = folder.console("plan home.txt --out nowhere/next");
+    let done = folder.call("plan home.txt --out nowhere/next");
     let told = "nowhere/next: not written: No such file or directory (os error 2)\n";
     assert_eq!((done.status, done.err.as_str()), (2, told));
-    std::os::unix::fs::symlink("last", folder.path("link")).unwrap();
-    folder.write("last", "old");
-    assert_eq!(folder.console("plan home.txt --out link").status, 0);
-    assert_eq!(
-        folder.read("last").len(),
-        29 + 256 * 17,
-        "what the link points to"
-    );
-    assert!(folder.path("link").is_symlink());
-    assert_eq!(
-        folder.names(),
-        ["folder", "home.txt", "last", "link", "next.txt"]
-    );
+    assert_eq!(done.out, "", "it is known before anything is printed");
+    assert_eq!(folder.names(), ["folder", "home.txt", "last", "next.txt"]);
 }
 
 #[test]
@@ -337,7 +327,7 @@ fn the_description_is_never_replaced() {
         "plan home.txt --out ./home.txt",
         "record home.txt --out home.txt",
     ] {
-        let done = folder.console(line);
+        let done = folder.call(line);
         assert_eq!(done.status, 2, "{}", done.err);
         assert!(
             done.err.contains("would replace the description"),
@@ -351,13 +341,32 @@ fn the_description_is_never_replaced() {
 #[test]
 fn faulty_calls_end_with_status_2() {
     let folder = Folder::new("usage");
-    let done = folder.console("plan --speed 7 home.txt");
-    let told = "console: --speed is not an option here\n`console help` says how it is called\n";
+    let done = folder.call("plan --speed 7 home.txt");
+    let told = "dezghuri: --speed is not an option here\n`dezghuri help` says how it is called\n";
     assert_eq!((done.status, done.err.as_str()), (2, told));
-    assert_eq!(folder.console("").status, 2);
-    let help = folder.console("help");
-    assert_eq!(help.status, 0);
-    assert!(help
-        .out
-        .contains("console plan FILE [--former LAST] [--out NEXT] [--allowance N]"));
+    assert_eq!(folder.call("").status, 2);
+}
+
+#[test]
+fn help_and_version_are_printed() {
+    let folder = Folder::new("help");
+    for line in [
+        "help",
+        "--help",
+        "-h",
+        "plan --help",
+        "plan home.txt -h",
+        "check -h",
+        "show home.txt last --help",
+        "record -h",
+    ] {
+        let help = folder.call(line);
+        assert_eq!((help.status, help.err.as_str()), (0, ""), "{line}");
+        assert_eq!(help.out, include_str!("help.txt"), "{line}");
+    }
+    for line in ["--version", "-V", "version"] {
+        let version = folder.call(line);
+        assert_eq!((version.status, version.err.as_str()), (0, ""), "{line}");
+        assert_eq!(version.out, "dezghuri 0.1.0\n", "{line}");
+    }
 }

@@ -36,12 +36,24 @@ pub fn is_unit(word: &str) -> bool {
     units.contains(&word.to_ascii_uppercase().as_str())
 }
 
+/// The letter of a unit that is spelled out.
+pub fn spelled_out(word: &str) -> Option<char> {
+    let word = word.to_lowercase();
+    let word = word.strip_suffix('s').unwrap_or(&word);
+    match word.strip_suffix("byte").unwrap_or(word) {
+        "mega" | "mebi" | "meg" => Some('M'),
+        "giga" | "gibi" | "gig" => Some('G'),
+        "tera" | "tebi" => Some('T'),
+        _ => None,
+    }
+}
+
 /// A number with commas between its thousands.
 pub fn thousands(number: u64) -> String {
     let digits = number.to_string();
     let mut text = String::new();
     for (place, digit) in digits.chars().enumerate() {
-        if place > 0 && (digits.len() - place).is_multiple_of(3) {
+        if place > 0 && (digits.len() - place) % 3 == 0 {
             text.push(',');
         }
         text.push(digit);

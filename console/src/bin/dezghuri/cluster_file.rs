@@ -1,10 +1,13 @@
 //! The text file in which an owner describes the cluster.
 
+mod slips;
+
 use crate::units;
 use dezghuri::{Cluster, Layout, Node};
 use std::collections::BTreeSet;
 use std::fmt;
 use std::ops::RangeInclusive;
+use std::path::Path;
 
 /// The most boxes of a cluster.
 const MOST_BOXES: usize = 32;
@@ -18,6 +21,27 @@ pub struct Described {
     pub cluster: Cluster,
     /// One for each node, in the same order.
     pub labels: Vec<Label>,
+    /// What is no fault but looks like a slip.
+    pub warnings: Vec<Note>,
+}
+
+impl Described {
+    /// Whether the cluster has a box of this id.
+    pub fn has(&self, id: u32) -> bool {
+        self.cluster.nodes.iter().any(|node| node.id == id)
+    }
+
+    /// What the owner calls a box; of one that is gone the file has no words.
+    pub fn label(&self, id: u32) -> Label {
+        let mut labels = self.cluster.nodes.iter().zip(&self.labels);
+        match labels.find(|(node, _)| node.id == id) {
+            Some((_, label)) => label.clone(),
+            None => Label {
+                name: String::new(),
+                zone: "not there any more".into(),
+            },
+        }
+    }
 }
 
 /// What the owner calls a box and the zone that it stands in.
@@ -27,14 +51,24 @@ pub struct Label {
     pub zone: String,
 }
 
-/// Something wrong with the file, and the line that it is on, if it is on one.
+/// Something to say of the file, and the line that it is on, if it is on one.
 #[derive(Debug, PartialEq, Eq)]
-pub struct Fault {
+pub struct Note {
     pub line: Option<usize>,
     pub what: String,
 }
 
-impl fmt::Display for Fault {
+impl Note {
+    /// The note with the name of its file.
+    pub fn told_of(&self, path: &Path) -> String {
+        match self.line {
+            Some(_) => format!("{}, {self}", path.display()),
+            None => format!("{}: {self}", path.display()),
+        }
+    }
+}
+
+impl fmt::Display for Note {
     fn fmt(&self, f: &mut fmt::Formatter<'_>) -> fmt::Result {
         if let Some(line) = self.line {
             write!(f, "line {line}: ")?;
@@ -44,14 +78,14 @@ impl fmt::Display for Fault {
 }
 
 /// Reads the whole file; every line that is at fault is told.
-pub fn parse(bytes: &[u8]) -> Result<Described, Vec<Fault>> {
+pub fn parse(bytes: &[u8]) -> Result<Described, Vec<Note>> {
     let text = bytes.strip_prefix(b"\xef\xbb\xbf").unwrap_or(bytes);
     let mut lines = Lines::default();
     let mut faults = Vec::new();
     for (number, line) in (1..).zip(text.split(|byte| *byte == b'\n')) {
         if let Err(what) = lines.take(number, line) {
             let line = Some(number);
-            faults.push(Fault { line, what });
+            faults.push(Note { line, what });
         }
     }
     faults.extend(lines.faults_of_all());
@@ -69,6 +103,8 @@ struct Lines {
     zones: Option<Setting>,
     bits: Option<Setting>,
     boxes: Vec<BoxLine>,
+    /// Whether a line begins with the word box, be it at fault or not.
+    has_box: bool,
 }
 
 /// A number that is set once; it has no value where its line is at fault.
@@ -82,7 +118,11 @@ struct BoxLine {
     id: u32,
     zone: Zone,
     capacity: u32,
+    /// The capacity as it is written.
+    written: String,
     name: String,
+    /// Whether its remark begins in a word, as in `tower #2`.
+    is_cut: bool,
 }
 
 #[derive(Clone, PartialEq, Eq)]
@@ -94,11 +134,14 @@ enum Zone {
 impl Lines {
     fn take(&mut self, line: usize, bytes: &[u8]) -> Result<(), String> {
         let text = std::str::from_utf8(bytes).map_err(|_| "this is not plain text (UTF-8)")?;
-        let text = text.split('#').next().unwrap_or("").trim();
+        let (text, remark) = text.split_once('#').unwrap_or((text, ""));
+        let is_cut = slips::touch(text, remark);
+        let text = text.trim();
         if text.contains(|c: char| c.is_control() && c != '\t') {
             return Err("this has a control character in it".into());
         }
         let words: Vec<&str> = text.split_whitespace().collect();
+        self.has_box |= words.first() == Some(&"box");
         match words[..] {
             [] => Ok(()),
             ["copies", ..] => set(&mut self.copies, line, &words, 1..=8),
@@ -106,7 +149,7 @@ impl Lines {
             ["bits", ..] => set(&mut self.bits, line, &words, 0..=8),
             ["box", id, zone, capacity, ref name @ ..] => {
                 let found = self.box_line(line, [id, zone, capacity], name)?;
-                self.boxes.push(found);
+                self.boxes.push(BoxLine { is_cut, ..found });
                 Ok(())
             }
             ["box", ..] => Err("a box has an id, a zone and a capacity: box 1 home 2T".into()),
@@ -123,12 +166,21 @@ impl Lines {
                 "write the unit at the number, without a space: {capacity}{unit}"
             ));
         }
+        if let Some(words) = slips::zone_of_several_words(zone, capacity, name) {
+            return Err(format!(
+                "a zone is one word: write {}, and not '{}'",
+                words.join("-"),
+                words.join(" ")
+            ));
+        }
         let found = BoxLine {
             line,
             id: self.new_id(id)?,
             zone: self.zone(zone)?,
             capacity: units::megabytes(capacity)?,
+            written: capacity.into(),
             name: name.join(" "),
+            is_cut: false,
         };
         if self.boxes.len() == MOST_BOXES {
             return Err(format!("this is one box too many: at most {MOST_BOXES}"));
@@ -171,10 +223,10 @@ impl Lines {
     }
 
     /// Faults that no single line has.
-    fn faults_of_all(&self) -> Vec<Fault> {
+    fn faults_of_all(&self) -> Vec<Note> {
         let mut faults = Vec::new();
         let mut missing = |what: &str| {
-            faults.push(Fault {
+            faults.push(Note {
                 line: None,
                 what: what.into(),
             })
@@ -185,13 +237,13 @@ impl Lines {
         if self.zones.is_none() {
             missing("there is no line that says in how many zones they lie: zones 2");
         }
-        if self.boxes.is_empty() {
+        if !self.has_box {
             missing("there is no line with a box: box 1 home 2T");
         }
         if let (Some(copies), Some(zones)) = (&self.copies, &self.zones) {
             if let (Some(c), Some(z)) = (copies.value, zones.value) {
                 if z > c {
-                    faults.push(Fault {
+                    faults.push(Note {
                         line: Some(zones.line),
                         what: format!("{c} copies cannot lie in {z} zones"),
                     });
@@ -203,6 +255,7 @@ impl Lines {
 
     /// The cluster of lines without a fault.
     fn described(mut self) -> Described {
+        let warnings = slips::of(&self.boxes);
         let numbers = zone_numbers(&self.boxes);
         let value = |setting: &Option<Setting>| setting.as_ref().and_then(|s| s.value);
         let (copies, zones) = (value(&self.copies), value(&self.zones));
@@ -231,7 +284,11 @@ impl Lines {
             nodes,
             former: Layout::default(),
         };
-        Described { cluster, labels }
+        Described {
+            cluster,
+            labels,
+            warnings,
+        }
     }
 }
 

@@ -30,7 +30,7 @@ pub fn no_plan(described: &Described, refused: Refused) -> String {
             count(1 << cluster.bits, "partition", "partitions")
         )
     };
-    format!("refused 9, there is no layout: {why}")
+    format!("there is no layout: {why} (refused 9)")
 }
 
 /// Why the plan's layout is not valid for the cluster.
@@ -43,7 +43,7 @@ pub fn not_valid(described: &Described, plan: &Plan, refused: Refused) -> String
         Some(Place::Node(id)) => too_full(described, plan, id),
         _ => return refused.to_string(),
     };
-    format!("refused {}, not valid: {why}", refused.refusal.number())
+    format!("{why} (refused {})", refused.refusal.number())
 }
 
 fn bad_row(described: &Described, plan: &Plan, partition: u32) -> String {

@@ -5,7 +5,7 @@ use reference::random::Random;
 
 fn faults(text: &str) -> Vec<String> {
     let faults = parse(text.as_bytes()).expect_err(text);
-    faults.iter().map(Fault::to_string).collect()
+    faults.iter().map(Note::to_string).collect()
 }
 
 const GOOD: &str = "copies 2\nzones 1\nbox 1 a 5\n";
@@ -86,6 +86,36 @@ fn what_is_missing_is_told() {
     assert_eq!(faults("# nothing\n\n"), expected);
 }
 
+/// A file whose boxes are all at fault has lines with a box.
+#[test]
+fn boxes_that_are_all_at_fault_are_not_told_to_be_missing() {
+    let expected = [
+        "line 3: a box has an id, a zone and a capacity: box 1 home 2T",
+        "line 4: the id of a box is a number from 1 to 4294967295, and not 'two'",
+    ];
+    assert_eq!(
+        faults("copies 2\nzones 1\nbox 1 home\nbox two home 2T\n"),
+        expected
+    );
+}
+
+#[test]
+fn a_zone_of_several_words_is_told() {
+    let expected = [
+        "line 4: a zone is one word: write my-house, and not 'my house'",
+        "line 5: a zone is one word: write my-old-house, and not 'my old house'",
+        "line 6: 'house' is not a capacity: write megabytes, or a number that ends in G or T, as 500G",
+        "line 7: '5X' is not a capacity: write megabytes, or a number that ends in G or T, as 500G",
+    ];
+    let boxes = [
+        "box 16 my house 1T\n",
+        "box 17 my old house 500G the tower\n",
+        "box 18 my house tower\n",
+        "box 19 home 5X 1T\n",
+    ];
+    assert_eq!(faults(&(GOOD.to_string() + &boxes.concat())), expected);
+}
+
 #[test]
 fn more_zones_than_copies_are_refused() {
     let text = GOOD.replace("zones 1", "zones 3");
@@ -107,7 +137,7 @@ fn what_is_no_text_is_refused_by_line() {
     let mut bytes = GOOD.as_bytes().to_vec();
     bytes.extend(b"box 2 a\x1b[2J 5\nbox 3 \xff 5\n");
     let faults = parse(&bytes).unwrap_err();
-    let told: Vec<_> = faults.iter().map(Fault::to_string).collect();
+    let told: Vec<_> = faults.iter().map(Note::to_string).collect();
     let expected = [
         "line 4: this has a control character in it",
         "line 5: this is not plain text (UTF-8)",

@@ -2,6 +2,11 @@
 
 use std::process::ExitCode;
 
+/// The status of a call to which the planner says no.
+pub const REFUSED: u8 = 1;
+/// The status of a call that is at fault itself, or whose files are.
+const BAD: u8 = 2;
+
 /// What went wrong, in lines for the owner.
 #[derive(Debug, PartialEq, Eq)]
 pub enum Failure {
@@ -24,16 +29,16 @@ impl Failure {
             Failure::Refused(what) => vec![what.clone()],
             Failure::Bad(faults) => faults.clone(),
             Failure::Usage(what) => vec![
-                format!("console: {what}"),
-                "`console help` says how it is called".into(),
+                format!("dezghuri: {what}"),
+                "`dezghuri help` says how it is called".into(),
             ],
         }
     }
 
     pub fn status(&self) -> ExitCode {
-        match self {
-            Failure::Refused(_) => ExitCode::from(1),
-            Failure::Bad(_) | Failure::Usage(_) => ExitCode::from(2),
-        }
+        ExitCode::from(match self {
+            Failure::Refused(_) => REFUSED,
+            Failure::Bad(_) | Failure::Usage(_) => BAD,
+        })
     }
 }

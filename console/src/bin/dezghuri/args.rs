@@ -3,20 +3,28 @@
 use std::ffi::OsString;
 use std::path::PathBuf;
 
-/// What `console help` prints.
+/// What `dezghuri --version` prints.
+pub const VERSION: &str = concat!("dezghuri ", env!("CARGO_PKG_VERSION"), "\n");
+
+/// What `dezghuri help` prints.
 pub const HELP: &str = "\
 Plans where the copies of a cluster of storage boxes lie.
 
-  console plan FILE [--former LAST] [--out NEXT] [--allowance N]
+  dezghuri plan FILE [--former LAST] [--out NEXT] [--allowance N] [--replace]
       plans the cluster that FILE describes, starting from the layout LAST, and
       writes the layout to NEXT; N improvements at most (0 to 65535; without it
       as many as it takes)
-  console check FILE LAYOUT
+  dezghuri check FILE LAYOUT
       says whether LAYOUT is valid for the cluster that FILE describes
-  console show FILE LAYOUT [PARTITION]
-      shows what the boxes hold, or which boxes hold one partition
-  console record FILE [--former LAST] [--out RECORD]
+  dezghuri show FILE LAYOUT [PARTITION]
+      shows what the boxes hold, or which boxes hold one partition; a layout of
+      other boxes is shown too, with the boxes that are not there any more
+  dezghuri record FILE [--former LAST] [--out RECORD]
       writes the cluster record that the program `plan` reads
+  dezghuri plan --record RECORD
+      plans a cluster record and prints what the program `plan` prints, for
+      scripts; - is standard input
+  dezghuri help, dezghuri --version
 
 FILE is a text file:
 
@@ -25,22 +33,31 @@ FILE is a text file:
   bits 8                      # 2^8 = 256 partitions; may be left out
   box 1 workshop 4T tower     # id, zone, capacity, and a name if you like
 
-A capacity is in megabytes, or ends in G or T. A zone is a name, or a number
-from 0 to 65535. A # begins a remark.
+A capacity is in megabytes, or ends in G or T. A zone is a name of one word, or
+a number from 0 to 65535. A # begins a remark.
+
+Nothing is written before the report is printed. A layout that is there already
+is replaced only where it is the --former of this plan, or with --replace; it is
+kept as NEXT.old. What is not a layout is never replaced.
 
 Exit status: 0 done; 1 there is no such layout, or it is not valid; 2 the call
-or a file is at fault.
+or a file is at fault, or the report could not be printed.
 ";
 
 /// One call of the command.
 #[derive(Debug, PartialEq, Eq)]
 pub enum Command {
     Help,
+    Version,
     Plan {
         file: PathBuf,
         former: Option<PathBuf>,
         out: Option<PathBuf>,
         allowance: u16,
+        replace: bool,
+    },
+    PlanRecord {
+        record: PathBuf,
     },
     Check {
         file: PathBuf,
@@ -58,34 +75,54 @@ pub enum Command {
     },
 }
 
+/// Options of `plan` that have a word after them.
+const PLAN_OPTIONS: [&str; 4] = ["--former", "--out", "--allowance", "--record"];
+
 /// The call that the words make, or what is wrong with them.
 pub fn parse(words: impl IntoIterator<Item = OsString>) -> Result<Command, String> {
     let mut words = words.into_iter();
     let Some(first) = words.next() else {
         return Err("say what to do: plan, check, show, record or help".into());
     };
+    let words: Vec<OsString> = words.collect();
+    let is_help = |word: &OsString| word == "--help" || word == "-h";
     match first.to_str() {
         Some("help" | "--help" | "-h") => Ok(Command::Help),
-        Some("plan") => plan(Words::sort(words, &["--former", "--out", "--allowance"])?),
-        Some("check") => check(Words::sort(words, &[])?),
-        Some("show") => show(Words::sort(words, &[])?),
-        Some("record") => record(Words::sort(words, &["--former", "--out"])?),
+        Some("--version" | "-V" | "version") => Ok(Command::Version),
+        Some("plan" | "check" | "show" | "record") if words.iter().any(is_help) => {
+            Ok(Command::Help)
+        }
+        Some("plan") => plan(Words::sort(words, &PLAN_OPTIONS, &["--replace"])?),
+        Some("check") => check(Words::sort(words, &[], &[])?),
+        Some("show") => show(Words::sort(words, &[], &[])?),
+        Some("record") => record(Words::sort(words, &["--former", "--out"], &[])?),
         _ => Err(format!("there is no command {first:?}")),
     }
 }
 
 fn plan(mut words: Words) -> Result<Command, String> {
+    if let Some(record) = words.path("--record") {
+        return match words.is_empty() {
+            true => Ok(Command::PlanRecord { record }),
+            false => Err("--record stands alone: the record holds all that is planned".into()),
+        };
+    }
     let allowance = match words.option("--allowance") {
         None => dezghuri::ENOUGH,
         Some(word) => number(&word).ok_or("--allowance takes a number from 0 to 65535")?,
     };
     let (former, out) = (words.path("--former"), words.path("--out"));
+    let replace = words.flag("--replace");
+    if replace && out.is_none() {
+        return Err("--replace goes with --out: without it nothing is written".into());
+    }
     let [file] = words.places("a FILE")?;
     Ok(Command::Plan {
         file: file.into(),
         former,
         out,
         allowance,
+        replace,
     })
 }
 
@@ -132,18 +169,22 @@ fn number<T: std::str::FromStr>(word: &OsString) -> Option<T> {
 struct Words {
     places: Vec<OsString>,
     options: Vec<(&'static str, OsString)>,
+    flags: Vec<&'static str>,
 }
 
 impl Words {
-    /// Tells options, each with its value, from the other words.
+    /// Tells options, each with its value, and flags from the other words.
     fn sort(
-        mut words: impl Iterator<Item = OsString>,
-        known: &[&'static str],
+        words: Vec<OsString>,
+        options: &[&'static str],
+        flags: &[&'static str],
     ) -> Result<Words, String> {
         let mut sorted = Words {
             places: Vec::new(),
             options: Vec::new(),
+            flags: Vec::new(),
         };
+        let mut words = words.into_iter().peekable();
         while let Some(word) = words.next() {
             let Some(text) = word.to_str().filter(|text| text.starts_with('-')) else {
                 sorted.places.push(word);
@@ -153,18 +194,44 @@ impl Words {
                 Some((name, value)) => (name, Some(OsString::from(value))),
                 None => (text, None),
             };
-            let Some(name) = known.iter().find(|option| **option == name) else {
+            if let Some(flag) = flags.iter().find(|flag| **flag == name) {
+                sorted.add_flag(flag, value)?;
+            } else if let Some(option) = options.iter().find(|option| **option == name) {
+                let value = value.or_else(|| words.next_if(|next| !is_option(next)));
+                sorted.add_option(option, value)?;
+            } else {
                 return Err(format!("{name} is not an option here"));
-            };
-            if sorted.options.iter().any(|(earlier, _)| earlier == name) {
-                return Err(format!("{name} is given twice"));
             }
-            let Some(value) = value.or_else(|| words.next()) else {
-                return Err(format!("{name} needs a word after it"));
-            };
-            sorted.options.push((name, value));
         }
         Ok(sorted)
+    }
+
+    fn add_flag(&mut self, name: &'static str, value: Option<OsString>) -> Result<(), String> {
+        if value.is_some() {
+            return Err(format!("{name} takes no word"));
+        }
+        self.flags.push(name);
+        Ok(())
+    }
+
+    fn add_option(&mut self, name: &'static str, value: Option<OsString>) -> Result<(), String> {
+        if self.options.iter().any(|(earlier, _)| *earlier == name) {
+            return Err(format!("{name} is given twice"));
+        }
+        let Some(value) = value else {
+            return Err(format!("{name} needs a word after it"));
+        };
+        self.options.push((name, value));
+        Ok(())
+    }
+
+    /// Whether all words have been taken.
+    fn is_empty(&self) -> bool {
+        self.places.is_empty() && self.options.is_empty() && self.flags.is_empty()
+    }
+
+    fn flag(&self, name: &str) -> bool {
+        self.flags.contains(&name)
     }
 
     fn option(&mut self, name: &str) -> Option<OsString> {
@@ -186,6 +253,11 @@ impl Words {
     }
 }
 
+/// Whether the word is an option, and so not the value of the one before it.
+fn is_option(word: &OsString) -> bool {
+    word.to_str().is_some_and(|text| text.starts_with("--"))
+}
+
 #[cfg(test)]
 mod tests {
     use super::*;
@@ -201,9 +273,46 @@ mod tests {
             former: Some("last".into()),
             out: Some("next".into()),
             allowance: 7,
+            replace: true,
         };
-        let line = "plan --former last home.txt --allowance=7 --out next";
+        let line = "plan --former last --replace home.txt --allowance=7 --out next";
         assert_eq!(called(line), Ok(expected));
+    }
+
+    #[test]
+    fn a_record_is_planned_by_itself() {
+        let planned = |record: &str| {
+            let record = record.into();
+            Ok(Command::PlanRecord { record })
+        };
+        assert_eq!(called("plan --record home.record"), planned("home.record"));
+        assert_eq!(called("plan --record -"), planned("-"));
+        for words in ["home.txt", "--out next", "--allowance 7", "--replace"] {
+            let told = "--record stands alone: the record holds all that is planned";
+            assert_eq!(
+                called(&format!("plan --record - {words}")),
+                Err(told.into())
+            );
+        }
+    }
+
+    #[test]
+    fn help_may_be_asked_for_anywhere() {
+        for line in [
+            "help",
+            "-h",
+            "--help",
+            "plan -h",
+            "plan home.txt --help",
+            "check --help",
+            "show --speed 7 -h",
+            "record home.txt --out --help",
+        ] {
+            assert_eq!(called(line), Ok(Command::Help), "{line}");
+        }
+        for line in ["--version", "-V", "version"] {
+            assert_eq!(called(line), Ok(Command::Version), "{line}");
+        }
     }
 
     #[test]
@@ -239,6 +348,19 @@ mod tests {
             ("check home.txt last --out x", "--out is not an option here"),
             ("plan home.txt --out", "--out needs a word after it"),
             ("plan home.txt --out a --out b", "--out is given twice"),
+            (
+                "plan home.txt --out --former a",
+                "--out needs a word after it",
+            ),
+            ("plan home.txt --replace=yes", "--replace takes no word"),
+            (
+                "plan home.txt --replace",
+                "--replace goes with --out: without it nothing is written",
+            ),
+            (
+                "record home.txt --replace",
+                "--replace is not an option here",
+            ),
             (
                 "plan home.txt --allowance 65536",
                 "--allowance takes a number from 0 to 65535",

@@ -1,0 +1,91 @@
+//! Files that are read.
+
+use crate::cluster_file::{self, Described};
+use crate::failure::Failure;
+use dezghuri::{ffi, Cluster, Plan};
+use std::fs::{self, File};
+use std::io::{self, Read};
+use std::path::Path;
+
+/// No description of a cluster is longer; what is longer is some other file.
+const LONGEST_TEXT: u64 = 1 << 20;
+
+/// What the program `plan` reads of a cluster record: a longer one is refused within these bytes.
+const RECORD_READ: u64 = 11_000;
+
+/// The cluster that a text file describes.
+pub fn read_description(path: &Path) -> Result<Described, Failure> {
+    let text = read_at_most(path, LONGEST_TEXT + 1)?;
+    if let Some(what) = other_than_text(&text) {
+        return Err(Failure::bad(format!("{}: {what}", path.display())));
+    }
+    cluster_file::parse(&text).map_err(|faults| {
+        let told = faults.iter().map(|fault| fault.told_of(path));
+        Failure::Bad(told.collect())
+    })
+}
+
+/// One line for a file that is no text, instead of a fault for each of its lines.
+fn other_than_text(bytes: &[u8]) -> Option<&'static str> {
+    if Plan::from_record(bytes).is_ok() {
+        Some("this is a layout record; the text file comes first")
+    } else if Cluster::from_record(bytes).is_ok() {
+        Some("this is a cluster record; `plan --record` plans it, all else takes a text file")
+    } else if bytes.contains(&0) {
+        Some("this is not a text file")
+    } else if bytes.len() as u64 > LONGEST_TEXT {
+        Some("this is too long to describe a cluster")
+    } else {
+        None
+    }
+}
+
+/// The plan of a layout record. Three bytes past the longest are enough to refuse a longer one.
+pub fn read_plan(path: &Path) -> Result<Plan, Failure> {
+    let record = read_at_most(path, ffi::LAYOUT_RECORD_BYTES as u64 + 3)?;
+    Plan::from_record(&record).map_err(|refused| {
+        let what = match is_text(&record) {
+            true => "this is a text file, and not a layout record".into(),
+            false => format!("this is not a whole layout record: {refused}"),
+        };
+        Failure::bad(format!("{}: {what}", path.display()))
+    })
+}
+
+/// Whether there is text and no byte that texts do not have; every record has such bytes.
+fn is_text(bytes: &[u8]) -> bool {
+    let of_text = |byte: &u8| *byte >= b' ' || b"\t\r\n".contains(byte);
+    !bytes.is_empty() && bytes.iter().all(of_text)
+}
+
+/// As many bytes of a cluster record as the program `plan` reads; `-` is standard input.
+pub fn read_cluster_record(path: &Path) -> Result<Vec<u8>, Failure> {
+    if path != Path::new("-") {
+        return read_at_most(path, RECORD_READ);
+    }
+    if streams::stdin_was_closed() {
+        return Err(Failure::bad("standard input is closed".into()));
+    }
+    let mut bytes = Vec::new();
+    io::stdin()
+        .take(RECORD_READ)
+        .read_to_end(&mut bytes)
+        .map_err(|error| Failure::bad(format!("standard input: {error}")))?;
+    Ok(bytes)
+}
+
+fn read_at_most(path: &Path, most: u64) -> Result<Vec<u8>, Failure> {
+    let mut bytes = Vec::new();
+    File::open(path)
+        .and_then(|file| file.take(most).read_to_end(&mut bytes))
+        .map_err(|error| Failure::bad(format!("{}: {error}", path.display())))?;
+    Ok(bytes)
+}
+
+/// Whether both names lead to one file that is there.
+pub fn are_one(first: &Path, second: &Path) -> bool {
+    match (fs::canonicalize(first), fs::canonicalize(second)) {
+        (Ok(first), Ok(second)) => first == second,
+        _ => false,
+    }
+}

@@ -1,0 +1,286 @@
+//! The file that a call writes: what may stand there, and how none of it is lost.
+
+use crate::failure::Failure;
+use dezghuri::{ffi, Cluster, Plan};
+use std::fs::{self, File, Metadata, OpenOptions};
+use std::io::{self, ErrorKind, Read, Write};
+use std::os::unix::fs::{fchown, MetadataExt, OpenOptionsExt, PermissionsExt};
+use std::path::{Path, PathBuf};
+use std::time::SystemTime;
+
+/// The records that are written; only one of the same kind is ever replaced.
+#[derive(Clone, Copy, Debug, PartialEq, Eq)]
+pub enum Kind {
+    Layout,
+    Cluster,
+}
+
+impl Kind {
+    /// The words for a record of this kind.
+    pub fn name(self) -> &'static str {
+        match self {
+            Kind::Layout => "layout record",
+            Kind::Cluster => "cluster record",
+        }
+    }
+
+    fn is_of(self, bytes: &[u8]) -> bool {
+        match self {
+            Kind::Layout => Plan::from_record(bytes).is_ok(),
+            Kind::Cluster => Cluster::from_record(bytes).is_ok(),
+        }
+    }
+}
+
+/// What is longer than this is no record.
+const LONGEST_RECORD: u64 = ffi::CLUSTER_RECORD_BYTES as u64;
+
+/// A record to be written, and what stands in its place.
+pub struct Output {
+    /// As the owner calls it.
+    path: PathBuf,
+    kind: Kind,
+    bytes: Vec<u8>,
+    found: Option<Found>,
+}
+
+/// A record of the right kind that may be replaced.
+#[derive(PartialEq, Eq)]
+struct Found {
+    /// What the name leads to, where it is a link: the link stays.
+    target: PathBuf,
+    bytes: Vec<u8>,
+    mode: u32,
+    owner: (u32, u32),
+    modified: Option<SystemTime>,
+}
+
+impl Output {
+    /// Looks at the place; refused where what stands there must not be replaced.
+    pub fn new(path: &Path, kind: Kind, bytes: Vec<u8>) -> Result<Output, Failure> {
+        let found = look(path, kind).map_err(|error| not_written(path, &error))?;
+        if let Some(found) = &found {
+            let old = old_of(&found.target);
+            look_at_old(&old, kind).map_err(|error| not_written(&old, &error))?;
+        }
+        Ok(Output {
+            path: path.into(),
+            kind,
+            bytes,
+            found,
+        })
+    }
+
+    /// Whether a record stands there already.
+    pub fn replaces(&self) -> bool {
+        self.found.is_some()
+    }
+
+    /// Where the record that stands there is kept once it is replaced.
+    pub fn old(&self) -> PathBuf {
+        match &self.found {
+            Some(found) => old_of(&found.target),
+            None => old_of(&self.path),
+        }
+    }
+
+    /// Writes the record; what to say of it. Whatever fails, power included, at every instant the
+    /// one record or the other stands whole under the name.
+    pub fn write(&self) -> Result<String, Failure> {
+        let kept = self
+            .put()
+            .map_err(|error| not_written(&self.path, &error))?;
+        let mut told = format!("Written to {}.\n", self.path.display());
+        if self.found.is_some() {
+            let (kind, old) = (self.kind.name(), self.old());
+            told += &format!("The {kind} before it is kept as {}", old.display());
+            if let Some(older) = kept {
+                told += &format!(", the one before that as {}", older.display());
+            }
+            told += ".\n";
+        }
+        Ok(told)
+    }
+
+    /// Puts the bytes into a new file beside the place, which then takes its name; the new name of
+    /// an older record, if one had to make room.
+    fn put(&self) -> io::Result<Option<PathBuf>> {
+        if look(&self.path, self.kind)? != self.found {
+            return Err(io::Error::other("it was changed meanwhile"));
+        }
+        let target = match &self.found {
+            Some(found) => &found.target,
+            None => &self.path,
+        };
+        let fresh = beside(target, "new")?;
+        write_new(&fresh, &self.bytes, self.found.as_ref())?;
+        let put = self.take_name(&fresh, target);
+        if put.is_err() {
+            // The first error is the one to tell.
+            let _ = fs::remove_file(&fresh);
+        }
+        put
+    }
+
+    /// Gives the new file the name, once what has it is kept.
+    fn take_name(&self, fresh: &Path, target: &Path) -> io::Result<Option<PathBuf>> {
+        let kept = match &self.found {
+            Some(found) => keep(found)?,
+            None => None,
+        };
+        fs::rename(fresh, target)?;
+        sync_folder(target);
+        Ok(kept)
+    }
+}
+
+fn not_written(path: &Path, error: &io::Error) -> Failure {
+    Failure::bad(format!("{}: not written: {error}", path.display()))
+}
+
+/// What stands at the place: nothing, or a record of the kind that may be replaced.
+fn look(path: &Path, kind: Kind) -> io::Result<Option<Found>> {
+    let is_link = match fs::symlink_metadata(path) {
+        Ok(there) => there.is_symlink(),
+        Err(error) if error.kind() == ErrorKind::NotFound => {
+            fs::metadata(folder_of(path))?;
+            return Ok(None);
+        }
+        Err(error) => return Err(error),
+    };
+    let there = fs::metadata(path).map_err(|error| match error.kind() {
+        ErrorKind::NotFound => io::Error::other("it is a link to a file that is not there"),
+        _ => error,
+    })?;
+    let bytes = read_record(path, &there, kind)?;
+    // Root may write every file, so the mode is asked first and the system then.
+    if there.permissions().readonly() {
+        return Err(io::Error::other("it is read-only"));
+    }
+    OpenOptions::new().write(true).open(path)?;
+    Ok(Some(Found {
+        target: match is_link {
+            true => fs::canonicalize(path)?,
+            false => path.into(),
+        },
+        bytes,
+        mode: there.mode() & 0o7777,
+        owner: (there.uid(), there.gid()),
+        modified: there.modified().ok(),
+    }))
+}
+
+/// The bytes of a record of the kind; anything else that stands there is an error.
+fn read_record(path: &Path, there: &Metadata, kind: Kind) -> io::Result<Vec<u8>> {
+    if !there.is_file() {
+        return Err(io::Error::other(
+            "there is something there that is not a file",
+        ));
+    }
+    let mut bytes = Vec::new();
+    File::open(path)?
+        .take(LONGEST_RECORD + 1)
+        .read_to_end(&mut bytes)?;
+    match kind.is_of(&bytes) {
+        true => Ok(bytes),
+        false => Err(io::Error::other(format!(
+            "there is a file there that is not a {}, and nothing else is replaced",
+            kind.name()
+        ))),
+    }
+}
+
+/// An error where something else than a record has the name of an old one.
+fn look_at_old(old: &Path, kind: Kind) -> io::Result<()> {
+    match fs::symlink_metadata(old) {
+        Ok(there) => read_record(old, &there, kind).map(drop),
+        Err(error) if error.kind() == ErrorKind::NotFound => Ok(()),
+        Err(error) => Err(error),
+    }
+}
+
+/// Gives the record that is to be replaced its second name; an older record that has that name and
+/// differs is not lost either, but takes a number, which is answered.
+fn keep(found: &Found) -> io::Result<Option<PathBuf>> {
+    let old = old_of(&found.target);
+    let spare = beside(&found.target, "old")?;
+    // Not every file system gives a file two names; a copy serves as well.
+    fs::hard_link(&found.target, &spare)
+        .or_else(|_| write_new(&spare, &found.bytes, Some(found)))?;
+    let kept =
+        make_room(&old, &found.bytes).and_then(|older| fs::rename(&spare, &old).map(|()| older));
+    // It is still there where that failed, or where both were names of one file already.
+    let _ = fs::remove_file(&spare);
+    sync_folder(&old);
+    kept
+}
+
+/// Renames what has this name, unless it holds these bytes; its new name.
+fn make_room(old: &Path, bytes: &[u8]) -> io::Result<Option<PathBuf>> {
+    match fs::read(old) {
+        Err(error) if error.kind() == ErrorKind::NotFound => return Ok(None),
+        Ok(older) if older == bytes => return Ok(None),
+        _ => (),
+    }
+    let mut names = (1..).map(|number: u32| with_ending(old, &format!(".{number}")));
+    let free = names.find(|name| fs::symlink_metadata(name).is_err());
+    let free = free.ok_or_else(|| io::Error::other("too many old ones are kept"))?;
+    fs::rename(old, &free)?;
+    Ok(Some(free))
+}
+
+/// A new file with these bytes, as open to others as the one found; where it fails, none is left.
+fn write_new(path: &Path, bytes: &[u8], like: Option<&Found>) -> io::Result<()> {
+    let mode = like.map_or(0o666, |_| 0o600);
+    let mut options = OpenOptions::new();
+    let mut file = options.write(true).create_new(true).mode(mode).open(path)?;
+    let filled = fill(&mut file, bytes, like);
+    if filled.is_err() {
+        let _ = fs::remove_file(path);
+    }
+    filled
+}
+
+fn fill(file: &mut File, bytes: &[u8], like: Option<&Found>) -> io::Result<()> {
+    file.write_all(bytes)?;
+    if let Some(like) = like {
+        // Only root may give a file away; for others it is theirs already.
+        let _ = fchown(&*file, Some(like.owner.0), Some(like.owner.1));
+        file.set_permissions(fs::Permissions::from_mode(like.mode))?;
+    }
+    file.sync_all()
+}
+
+/// The name for a record that is replaced.
+fn old_of(path: &Path) -> PathBuf {
+    with_ending(path, ".old")
+}
+
+fn with_ending(path: &Path, ending: &str) -> PathBuf {
+    let mut name = path.as_os_str().to_os_string();
+    name.push(ending);
+    name.into()
+}
+
+/// A name for a new file in the same folder.
+fn beside(target: &Path, ending: &str) -> io::Result<PathBuf> {
+    match target.file_name() {
+        Some(_) => Ok(with_ending(
+            target,
+            &format!(".{}.{ending}", std::process::id()),
+        )),
+        None => Err(io::Error::other("this names no file")),
+    }
+}
+
+fn folder_of(path: &Path) -> &Path {
+    match path.parent() {
+        Some(parent) if parent != Path::new("") => parent,
+        _ => Path::new("."),
+    }
+}
+
+/// Makes the names in the folder last through a loss of power, where the file system can.
+fn sync_folder(path: &Path) {
+    let _ = File::open(folder_of(path)).and_then(|folder| folder.sync_all());
+}

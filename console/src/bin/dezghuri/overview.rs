@@ -1,0 +1,299 @@
+//! A layout at a glance.
+
+use crate::cluster_file::Described;
+use crate::table::{self, Column, Side};
+use crate::transfers::Transfers;
+use crate::units::{count, percent, thousands, Unit};
+use dezghuri::{Plan, Refused, Verdict};
+use std::collections::BTreeMap;
+
+/// A plan, with its copies counted by boxes and by zones.
+pub struct Overview<'a> {
+    plan: &'a Plan,
+    boxes: Vec<BoxLine>,
+    zones: Vec<ZoneLine>,
+    /// The size to hope for, where the layout is valid for the boxes.
+    hope: Option<u64>,
+}
+
+struct BoxLine {
+    id: u32,
+    name: String,
+    zone: String,
+    held: Held,
+}
+
+struct ZoneLine {
+    zone: String,
+    boxes: usize,
+    held: Held,
+}
+
+/// What a line of a table holds on its disks.
+#[derive(Clone, Copy)]
+struct Held {
+    /// In megabytes; of a box that is gone it is not known.
+    capacity: Option<u64>,
+    copies: u64,
+}
+
+impl<'a> Overview<'a> {
+    /// Counts the copies; refused where the plan is not valid for the cluster.
+    pub fn of_valid(described: &Described, plan: &'a Plan) -> Result<Overview<'a>, Refused> {
+        let figures = described.cluster.figures(&plan.layout, plan.size)?;
+        Ok(Overview {
+            plan,
+            boxes: box_lines(described, &figures.copies),
+            zones: zone_lines(described, &figures.zone_copies),
+            hope: Some(figures.hope),
+        })
+    }
+
+    /// Counts the copies of a layout that was made for other boxes; those that are gone have their
+    /// lines too.
+    pub fn of_other(described: &Described, plan: &'a Plan) -> Overview<'a> {
+        let nodes = &described.cluster.nodes;
+        let mut counts: BTreeMap<u32, u32> = BTreeMap::new();
+        for id in plan.layout.rows().flat_map(|(_, ids)| ids) {
+            *counts.entry(*id).or_default() += 1;
+        }
+        let copies = nodes
+            .iter()
+            .map(|node| counts.remove(&node.id).unwrap_or(0));
+        let copies: Vec<u32> = copies.collect();
+        let in_zone = |zone: u16| {
+            let counted = nodes.iter().zip(&copies);
+            counted.filter(move |(node, _)| node.zone == zone)
+        };
+        let of_zone = |zone: u16| in_zone(zone).map(|(_, copies)| copies).sum();
+        let zone_copies: Vec<u32> = nodes.iter().map(|node| of_zone(node.zone)).collect();
+        let mut overview = Overview {
+            plan,
+            boxes: box_lines(described, &copies),
+            zones: zone_lines(described, &zone_copies),
+            hope: None,
+        };
+        overview.add_gone(described, &counts);
+        overview
+    }
+
+    /// Adds the boxes that the cluster has no more, each with its copies.
+    fn add_gone(&mut self, described: &Described, counts: &BTreeMap<u32, u32>) {
+        let held = |copies: u32| Held {
+            capacity: None,
+            copies: copies.into(),
+        };
+        for (id, copies) in counts {
+            self.boxes.push(BoxLine {
+                id: *id,
+                name: described.label(*id).name,
+                zone: described.label(*id).zone,
+                held: held(*copies),
+            });
+        }
+        self.boxes.sort_by_key(|line| line.id);
+        if let Some(id) = counts.keys().next() {
+            self.zones.push(ZoneLine {
+                zone: described.label(*id).zone,
+                boxes: counts.len(),
+                held: held(counts.values().sum()),
+            });
+        }
+    }
+
+    /// The table of the boxes, with the transfers of a plan that was made just now.
+    pub fn boxes(&self, transfers: Option<&Transfers>) -> String {
+        let ids = self.boxes.iter().map(|line| line.id.to_string());
+        let names = self.boxes.iter().map(|line| line.name.clone());
+        let zones = self.boxes.iter().map(|line| line.zone.clone());
+        let mut columns = vec![
+            Column::new(Side::Right, "box", ids.chain(["all".into()])),
+            Column::new(Side::Left, "name", names.chain([String::new()])),
+            Column::new(Side::Left, "zone", zones.chain([String::new()])),
+        ];
+        columns.retain(|column| !column.is_blank());
+        let mut held: Vec<Held> = self.boxes.iter().map(|line| line.held).collect();
+        held.push(sum(&held));
+        columns.extend(self.disk_columns(&held));
+        if let Some(transfers) = transfers {
+            columns.push(counted("to receive", &transfers.received));
+            columns.push(counted("to drop", &transfers.dropped));
+        }
+        table::text(&columns)
+    }
+
+    /// The table of the zones, in the order of their first boxes.
+    pub fn zones(&self) -> String {
+        let names = self.zones.iter().map(|line| line.zone.clone());
+        let boxes = self.zones.iter().map(|line| line.boxes.to_string());
+        let held: Vec<Held> = self.zones.iter().map(|line| line.held).collect();
+        let mut columns = vec![
+            Column::new(Side::Left, "zone", names),
+            Column::new(Side::Right, "boxes", boxes),
+        ];
+        columns.extend(self.disk_columns(&held));
+        table::text(&columns)
+    }
+
+    /// All of a plan that was kept.
+    pub fn past(&self) -> String {
+        [
+            self.boxes(None),
+            "\n".into(),
+            self.zones(),
+            "\n".into(),
+            self.size(),
+            self.past_verdict(),
+        ]
+        .concat()
+    }
+
+    /// What the size means.
+    pub fn size(&self) -> String {
+        let size = u64::from(self.plan.size);
+        let (partition, unit) = (thousands(size), self.unit());
+        let (all, name) = (unit.of(size << self.plan.bits), unit.name);
+        match self.hope {
+            Some(hope) => format!(
+                "Size: each partition may grow to {partition} MB, all data to {all} {name}; used is \
+                 what it takes then.\n\
+                 Hope: with nothing lost to rounding and zones it would be {} MB a partition.\n",
+                thousands(hope)
+            ),
+            None => format!(
+                "Size: it was planned for partitions of {partition} MB, {all} {name} of data in all; \
+                 used is what that takes.\n"
+            ),
+        }
+    }
+
+    /// What the verdict means of a plan that was made just now.
+    pub fn verdict(&self) -> String {
+        match self.plan.verdict {
+            Verdict::Finished => "Finished: no layout of this size needs fewer transfers.\n".into(),
+            Verdict::Stopped => format!(
+                "Stopped after {}: the layout is valid, but another one of this size needs fewer\n\
+                 transfers. A larger allowance comes nearer to it.\n",
+                self.improvements(),
+            ),
+        }
+    }
+
+    /// What the verdict means of a plan that was kept.
+    fn past_verdict(&self) -> String {
+        match self.plan.verdict {
+            Verdict::Finished => {
+                "Planned: finished, no layout of this size needed fewer transfers.\n".into()
+            }
+            Verdict::Stopped => format!(
+                "Planned: stopped after {}, another layout of this size needed fewer transfers.\n",
+                self.improvements(),
+            ),
+        }
+    }
+
+    fn improvements(&self) -> String {
+        count(self.plan.improvements.into(), "improvement", "improvements")
+    }
+
+    /// One unit for everything, so that numbers can be compared.
+    fn unit(&self) -> Unit {
+        Unit::for_all(self.boxes.iter().filter_map(|line| line.held.capacity))
+    }
+
+    /// Capacity, copies, and how much of the disk they fill once each partition has its size.
+    fn disk_columns(&self, held: &[Held]) -> [Column; 4] {
+        let unit = self.unit();
+        let used = |line: &Held| line.copies * u64::from(self.plan.size);
+        let unknown = || String::from("-");
+        let number = |head: &str, cell: &dyn Fn(&Held) -> String| {
+            Column::new(Side::Right, head, held.iter().map(cell))
+        };
+        [
+            number(&format!("capacity {}", unit.name), &|line| {
+                line.capacity.map_or_else(unknown, |whole| unit.of(whole))
+            }),
+            number("copies", &|line| thousands(line.copies)),
+            number(&format!("used {}", unit.name), &|line| unit.of(used(line))),
+            number("share", &|line| {
+                let share = |whole| percent(used(line), whole);
+                line.capacity.map_or_else(unknown, share)
+            }),
+        ]
+    }
+}
+
+/// A line for each box of the cluster.
+fn box_lines(described: &Described, copies: &[u32]) -> Vec<BoxLine> {
+    let nodes = described.cluster.nodes.iter().zip(&described.labels);
+    let lines = nodes.zip(copies).map(|((node, label), copies)| BoxLine {
+        id: node.id,
+        name: label.name.clone(),
+        zone: label.zone.clone(),
+        held: Held {
+            capacity: Some(node.capacity.into()),
+            copies: (*copies).into(),
+        },
+    });
+    lines.collect()
+}
+
+/// A line for each zone, from the copies in the zone of each box.
+fn zone_lines(described: &Described, zone_copies: &[u32]) -> Vec<ZoneLine> {
+    let nodes = &described.cluster.nodes;
+    let is_first = |b: &usize| nodes[..*b].iter().all(|node| node.zone != nodes[*b].zone);
+    let mates = |b: usize| nodes.iter().filter(move |node| node.zone == nodes[b].zone);
+    let firsts = (0..nodes.len()).filter(is_first);
+    let lines = firsts.map(|b| ZoneLine {
+        zone: described.labels[b].zone.clone(),
+        boxes: mates(b).count(),
+        held: Held {
+            capacity: Some(mates(b).map(|node| u64::from(node.capacity)).sum()),
+            copies: zone_copies[b].into(),
+        },
+    });
+    lines.collect()
+}
+
+/// What the transfers come to where there was no layout before.
+pub fn first_transfers_in_words(transfers: &Transfers) -> String {
+    format!(
+        "Transfers: there was no layout before, all {} are new.\n",
+        count(transfers.all_received(), "copy", "copies")
+    )
+}
+
+/// What the transfers come to.
+pub fn transfers_in_words(transfers: &Transfers) -> String {
+    let gone: u64 = transfers.gone.values().sum();
+    let mut text = format!(
+        "Transfers: {} to be sent, {} to be dropped.\n",
+        count(transfers.all_received(), "copy is", "copies are"),
+        count(transfers.all_dropped(), "copy is", "copies are"),
+    );
+    if gone > 0 {
+        let boxes = transfers.gone.iter();
+        let boxes: Vec<String> = boxes.map(|(id, n)| format!("box {id} ({n})")).collect();
+        text += &format!(
+            "Gone: {} on boxes that are no longer there: {}.\n",
+            count(gone, "copy was", "copies were"),
+            boxes.join(", "),
+        );
+    }
+    text
+}
+
+/// All lines together; their capacity is known only where that of each is.
+fn sum(lines: &[Held]) -> Held {
+    Held {
+        capacity: lines.iter().map(|line| line.capacity).sum(),
+        copies: lines.iter().map(|line| line.copies).sum(),
+    }
+}
+
+/// A column of numbers with their sum below.
+fn counted(head: &str, numbers: &[u64]) -> Column {
+    let total = numbers.iter().sum();
+    let cells = numbers.iter().copied().chain([total]).map(thousands);
+    Column::new(Side::Right, head, cells)
+}

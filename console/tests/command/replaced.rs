@@ -1,0 +1,206 @@
+//! What may be replaced, and what is kept of it.
+
+use crate::folder::Folder;
+use crate::{planned_home, HOME};
+use std::fs;
+use std::os::unix::fs::{symlink, PermissionsExt};
+
+fn mode(folder: &Folder, file: &str) -> u32 {
+    let there = fs::metadata(folder.path(file)).expect("the file is there");
+    there.permissions().mode() & 0o7777
+}
+
+fn set_mode(folder: &Folder, file: &str, mode: u32) {
+    let mode = fs::Permissions::from_mode(mode);
+    fs::set_permissions(folder.path(file), mode).expect("it is the test's own file");
+}
+
+/// Calls that must leave all as it is, each with what it says.
+fn refused(folder: &Folder, line: &str, told: &str) {
+    let names = folder.names();
+    let before: Vec<_> = names
+        .iter()
+        .map(|name| fs::read(folder.path(name)).ok())
+        .collect();
+    let done = folder.call(line);
+    assert_eq!(
+        (done.status, done.err.as_str(), done.out.as_str()),
+        (2, told, ""),
+        "{line}"
+    );
+    assert_eq!(folder.names(), names, "{line}");
+    let after: Vec<_> = names
+        .iter()
+        .map(|name| fs::read(folder.path(name)).ok())
+        .collect();
+    assert!(before == after, "{line}");
+}
+
+#[test]
+fn a_forgotten_former_layout_replaces_nothing() {
+    let folder = planned_home("forgotten");
+    fs::copy(folder.path("last"), folder.path("copy")).unwrap();
+    for line in [
+        "plan next.txt --out last",
+        "plan next.txt --former copy --out last",
+    ] {
+        refused(&folder, line, include_str!("forgotten.txt"));
+    }
+}
+
+/// The layout of the sample's boxes as they are next is forced, as that after a replaced box is.
+#[test]
+fn with_replace_the_old_layout_is_kept() {
+    let folder = planned_home("replace");
+    let before = folder.read("last");
+    let done = folder.call("plan next.txt --out last --replace");
+    assert_eq!((done.status, done.err.as_str()), (0, ""));
+    assert_eq!(done.out, include_str!("replaced.txt"));
+    assert!(folder.read("last.old") == before);
+    assert_eq!(folder.call("check next.txt last").status, 0);
+    assert_eq!(folder.names(), ["home.txt", "last", "last.old", "next.txt"]);
+}
+
+#[test]
+fn the_former_layout_is_replaced_and_kept() {
+    let folder = planned_home("former");
+    let before = folder.read("last");
+    let done = folder.call("plan next.txt --former ./last --out last");
+    assert_eq!((done.status, done.err.as_str()), (0, ""));
+    let told = "Written to last.\nThe layout record before it is kept as last.old.\n";
+    assert!(done.out.ends_with(told), "{}", done.out);
+    assert!(folder.read("last.old") == before);
+}
+
+/// A plan made twice must not cost the layout that tells where the data is.
+#[test]
+fn an_older_layout_is_not_lost_either() {
+    let folder = planned_home("older");
+    let first = folder.read("last");
+    assert_eq!(
+        folder.call("plan next.txt --former last --out last").status,
+        0
+    );
+    let second = folder.read("last");
+    let done = folder.call("plan home.txt --former last.old --out last --replace");
+    assert_eq!((done.status, done.err.as_str()), (0, ""));
+    let told = "Written to last.\nThe layout record before it is kept as last.old, the one before \
+                that as last.old.1.\n";
+    assert!(done.out.ends_with(told), "{}", done.out);
+    assert!(folder.read("last.old") == second);
+    assert!(folder.read("last.old.1") == first);
+    // From here on nothing changes any more, and no more names are taken.
+    let third = folder.read("last");
+    for _ in 0..3 {
+        assert_eq!(
+            folder.call("plan home.txt --former last --out last").status,
+            0
+        );
+    }
+    assert!(folder.read("last") == third);
+    assert!(folder.read("last.old") == third);
+    assert!(folder.read("last.old.2") == second);
+    let old = ["last.old", "last.old.1", "last.old.2"];
+    let names = [&["home.txt", "last"][..], &old, &["next.txt"]];
+    assert_eq!(folder.names(), names.concat());
+}
+
+#[test]
+fn only_a_layout_is_replaced_by_a_layout() {
+    let folder = planned_home("kinds");
+    folder.write("empty", "");
+    folder.write("long", [0; 20_000]);
+    assert_eq!(folder.call("record home.txt --out record").status, 0);
+    for file in ["next.txt", "empty", "long", "record"] {
+        let told = format!(
+            "{file}: not written: there is a file there that is not a layout record, and nothing \
+             else is replaced\n"
+        );
+        for line in [
+            format!("plan home.txt --out {file}"),
+            format!("plan home.txt --out {file} --replace"),
+            format!("plan home.txt --former last --out {file} --replace"),
+        ] {
+            refused(&folder, &line, &told);
+        }
+    }
+}
+
+#[test]
+fn only_a_cluster_record_is_replaced_by_one() {
+    let folder = planned_home("records");
+    let told =
+        "last: not written: there is a file there that is not a cluster record, and nothing \
+                else is replaced\n";
+    refused(&folder, "record home.txt --out last", told);
+    assert_eq!(folder.call("record home.txt --out record").status, 0);
+    let before = folder.read("record");
+    let done = folder.call("record next.txt --former last --out record");
+    let told = "next.txt makes a cluster record of 4,429 bytes.\nWritten to record.\n\
+                The cluster record before it is kept as record.old.\n";
+    assert_eq!((done.status, done.out.as_str()), (0, told));
+    assert!(folder.read("record.old") == before);
+    assert!(folder.read("record").starts_with(&before[..12]));
+}
+
+#[test]
+fn what_has_the_name_of_an_old_layout_is_not_replaced() {
+    let folder = planned_home("old-name");
+    folder.write("last.old", HOME);
+    let told = "last.old: not written: there is a file there that is not a layout record, and \
+                nothing else is replaced\n";
+    refused(&folder, "plan next.txt --former last --out last", told);
+    fs::remove_file(folder.path("last.old")).unwrap();
+    fs::create_dir(folder.path("last.old")).unwrap();
+    let told = "last.old: not written: there is something there that is not a file\n";
+    refused(&folder, "plan next.txt --former last --out last", told);
+}
+
+#[test]
+fn the_mode_of_a_replaced_file_is_kept() {
+    let folder = planned_home("mode");
+    for bits in [0o600, 0o640, 0o664] {
+        set_mode(&folder, "last", bits);
+        let done = folder.call("plan home.txt --former last --out last");
+        assert_eq!(done.status, 0, "{}", done.err);
+        assert_eq!(mode(&folder, "last"), bits);
+        assert_eq!(mode(&folder, "last.old"), bits);
+    }
+}
+
+#[test]
+fn a_read_only_file_is_not_replaced() {
+    let folder = planned_home("read-only");
+    for bits in [0o400, 0o444] {
+        set_mode(&folder, "last", bits);
+        let told = "last: not written: it is read-only\n";
+        refused(&folder, "plan home.txt --former last --out last", told);
+        refused(&folder, "plan home.txt --out last --replace", told);
+        assert_eq!(mode(&folder, "last"), bits);
+    }
+}
+
+#[test]
+fn what_a_link_points_to_is_replaced() {
+    let folder = planned_home("link");
+    symlink("last", folder.path("link")).unwrap();
+    let before = folder.read("last");
+    let done = folder.call("plan next.txt --former last --out link");
+    assert_eq!((done.status, done.err.as_str()), (0, ""));
+    assert!(folder.path("link").is_symlink());
+    assert!(folder.read("last") != before);
+    assert!(folder.read("last.old") == before);
+    let names = ["home.txt", "last", "last.old", "link", "next.txt"];
+    assert_eq!(folder.names(), names);
+}
+
+#[test]
+fn a_link_to_nothing_is_not_replaced() {
+    let folder = planned_home("dangling");
+    symlink("nowhere", folder.path("link")).unwrap();
+    let told = "link: not written: it is a link to a file that is not there\n";
+    refused(&folder, "plan home.txt --out link", told);
+    refused(&folder, "plan home.txt --out link --replace", told);
+    refused(&folder, "record home.txt --out link", told);
+    assert!(folder.path("link").is_symlink());
+}
