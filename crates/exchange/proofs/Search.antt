@@ -247,7 +247,7 @@ search-stands G (suc n) k v e m f o =
 -- The search ends with a potential or with a simple negative cycle; it never runs out of levels.
 pub outcome-stands : (G : Graph) → 1 ≤ G .N → Stands G (outcome G)
 unfolding outcome fell
-outcome-stands G h = search-stands G (G .N) 0 0 (omega arith) h refl (open-zero G)
+outcome-stands G h = search-stands G _ 0 0 (omega arith) h refl (open-zero G)
 
 -- The end with a potential.
 pub outcome-potential : (G : Graph) (k : ℕ) → 1 ≤ G .N → outcome G ≡ Potential k → (k < G .N) × IsPotential G (dist G k)

@@ -57,6 +57,11 @@ module _ {A : Type 0} (improves : A → Bool) (next : A → A) where
             early = λ l. e;
           }
 
+  -- Without an allowance the state stays.
+  pub run-none : (s : A) → run improves next 0 s ≡ record { state = s; finished = not (improves s); steps = 0 }
+  unfolding run
+  run-none s = refl
+
   -- What improvements keep, a run keeps.
   module _ (Good : A → Type 0) (stays : (x : A) → Good x → improves x ≡ true → Good (next x)) where
     pub run-keeps : (a : ℕ) (s : A) → Good s → Good (run improves next a s .state)

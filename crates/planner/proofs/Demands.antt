@@ -1,7 +1,7 @@
 -- Demand 3 of the planner, and what refusal 9 means: the theorems that a customer reads. Their statements are in the terms of document 01.
 -- Assumes nothing.
 use Prim.Native.Nat.{ℕ, suc, _+_, _≤_}
-use mathlib.Core.Path.{_≡_, refl, subst}
+use mathlib.Core.Path.{_≡_, subst}
 use mathlib.Core.Bool.{false}
 use mathlib.Core.List.{List}
 use native.Mathlib.Omega.{arith}
@@ -11,9 +11,8 @@ use Rattle.cluster.specs.TermsReading.{Accepted}
 use Rattle.incidence.proofs.TieLayouts.{valid-of-within}
 use Rattle.sizing.specs.ModelSizing.{Fits32, sizeOf}
 use Rattle.sizing.proofs.Sizes.{size-none, none-size, size-largest}
-use Rattle.improve.specs.ModelImprove.{ranIn}
 use Rattle.planner.specs.Demand.{Rules, Demand3}
-use Rattle.planner.specs.ModelPlan.{ranFrom, planFrom, planOf, startRows, layoutRows, farRows, improvesAt, nextAt}
+use Rattle.planner.specs.ModelPlan.{planFrom, planOf, startRows, layoutRows, farRows, improvesAt, nextAt}
 use Rattle.sets.specs.ModelBits.{bitsAt}
 use Rattle.planner.proofs.Rules.{rules}
 use Rattle.planner.proofs.Machines.{GoodRows, start-good, machine}
@@ -21,10 +20,9 @@ use Rattle.planner.proofs.Machines.{GoodRows, start-good, machine}
 -- From any good first rows the answers of planning obey the rules of planning by allowance, with the layout of these rows as the beginning.
 pub rules-from : (t : Topology) → Accepted t → Fits32 t → 1 ≤ sizeOf t → (F : Layout) → IsFormer t F → (start : List ℕ) → GoodRows t start
     → Rules t (layoutRows t start) F (planFrom t F start)
-unfolding planFrom ranFrom ranIn
+unfolding planFrom
 rules-from t a low large F fo start g =
     rules t F (sizeOf t) (improvesAt t F) (nextAt t F) (layoutRows t) (farRows t F) start (GoodRows t) (machine t a F fo low large start g)
-    (layoutRows t start) refl
 
 -- Demand 3: whatever the former layout and the allowance, the answers of planning obey the rules of planning by allowance.
 pub demand3 : (t : Topology) → Accepted t → Fits32 t → (L : Layout) → ValidAt t L 1 → Demand3 t (planOf t)

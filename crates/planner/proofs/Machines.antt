@@ -3,7 +3,7 @@
 -- Assumes nothing.
 use Prim.Native.Nat.{ℕ, _+_, _*_, _^_, _≤_, _<_}
 use mathlib.Core.Path.{_≡_, refl, sym, ap, _∙_, subst}
-use mathlib.Core.Bool.{false}
+use mathlib.Core.Bool.{true, false}
 use mathlib.Core.List.{List, []}
 use native.Mathlib.Omega.{arith}
 use native.Mathlib.Nat.{mul-le-mul}
@@ -136,6 +136,18 @@ module _ (t : Topology) (acc : Accepted t) where
           let w = none-former ground rows g (λ p b l k. fm-bit p l b k ∙ ap (λ (r : List ℕ). one-if (mem (nodeAt t b .id) r)) (h p l)) in
           (w .0, omega (arith, w .1, sum-zero P (λ p. length (row F p)) (λ p l. ap length (h p l))))
 
+      -- One improvement brings the layout nearer by twice the number of nodes at most ..
+      bounded : (rows : List ℕ) → GoodRows t rows → improvesAt t F rows ≡ true → farRows t F rows ≤ farRows t F (nextAt t F rows) + 2 * N
+      bounded rows g e =
+          let n = next-good ground rows g e in
+          omega (arith, next-gains ground rows g e .1, far-is rows g, measure rows g, far-is _ n, measure _ n)
+
+      -- .. and by two at least.
+      falls : (rows : List ℕ) → GoodRows t rows → improvesAt t F rows ≡ true → farRows t F (nextAt t F rows) + 2 ≤ farRows t F rows
+      falls rows g e =
+          let n = next-good ground rows g e in
+          omega (arith, next-gains ground rows g e .0, far-is rows g, measure rows g, far-is _ n, measure _ n)
+
       -- From good first rows the rows of planning are a machine that improves layouts.
       pub machine : Fits32 t → 1 ≤ sizeOf t → (start : List ℕ) → GoodRows t start
           → Machine t F (sizeOf t) (improvesAt t F) (nextAt t F) (layoutRows t) (farRows t F) start (GoodRows t)
@@ -147,12 +159,8 @@ module _ (t : Topology) (acc : Accepted t) where
             stays = next-good ground;
             valid = λ x g. unfold layoutRows in valid-of-within t (acc .ids) (bitsAt x) (sizeOf t) large (g .within);
             measured = far-is;
-            falls = λ x g e.
-                let n = next-good ground x g e in
-                omega (arith, next-gains ground x g e .0, far-is x g, measure x g, far-is (nextAt t F x) n, measure (nextAt t F x) n);
-            bounded = λ x g e.
-                let n = next-good ground x g e in
-                omega (arith, next-gains ground x g e .1, far-is x g, measure x g, far-is (nextAt t F x) n, measure (nextAt t F x) n);
+            falls = falls;
+            bounded = bounded;
             nearest = none-nearer;
             enough = run-finishes ground start g 2048 (mul-le-mul few-partitions (acc .replication .1));
             blank = blank start g;

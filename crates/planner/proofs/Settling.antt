@@ -138,7 +138,7 @@ module _ (c : Cluster) (former : List ℕ) (a size P : ℕ) (before rows : List 
     pub answer-is : (d : ℕ) → d ≡ c .replication * P + idsTotal former P - 2 * agreementIn rows before P → (f : Bool) → f ≡ ranFrom t size before (dealtAt t size) a .finished
         → (s : ℕ) → s ≡ ranFrom t size before (dealtAt t size) a .steps
         → _≡_ {A = Planned} (record { refusal = 0; size = size; distance = d; finished = f; improvements = s }) (answered (planIn c former a))
-    unfolding planOf planFrom farRows
+    unfolding planOf planFrom farRows ranFrom ranIn
     answer-is d ed f ef s es′ =
         λ i. record { refusal = 0; size = es i; distance = far i; finished = (ef ∙ ap (λ (r : Ran (List ℕ)). r .finished) ran-is) i; improvements = (es′ ∙ ap (λ (r : Ran (List ℕ)). r .steps) ran-is) i }
       where
@@ -151,7 +151,7 @@ module _ (c : Cluster) (former : List ℕ) (a size P : ℕ) (before rows : List 
     -- The cells written are those of its layout.
     pub cells-are : (cells : List ℕ) → 2048 ≤ length cells
         → cellsWritten (t .nodes) rows P cells ≡ cellsOf (planIn c former a .layout) ++ drop 2048 cells
-    unfolding planOf planFrom layoutRows
+    unfolding planOf planFrom layoutRows ranFrom ranIn
     cells-are cells whole =
         ap (λ (n : ℕ). cellsWritten (t .nodes) rows n cells) eP
         ∙ (written-layout t rows cells (few-partitions t acc) (good .long) whole

@@ -10,7 +10,7 @@ use Rattle.sums.specs.TermsSums.{tab}
 use Rattle.cluster.specs.Terms.{bufferRows, Topology, partitions, Layout}
 use Rattle.incidence.specs.ModelIncidence.{incidence, layoutOf, formerPairs, zoneCells}
 use Rattle.sizing.specs.ModelSizing.{nodesOf, mateCells, capCells, sizeOf, dealtRows}
-use Rattle.improve.specs.ModelRun.{Ran}
+use Rattle.improve.specs.ModelRun.{Ran, run}
 use Rattle.improve.specs.ModelImprove.{improvesIn, nextIn, ranIn, agreementIn}
 use Rattle.planner.specs.Demand.{Answer}
 
@@ -51,12 +51,25 @@ nextAt t F = nextIn (formerMasks t F) (partitions t) (matesOf t) (capCells t (si
 unfoldable pub ranFrom : Topology → ℕ → List ℕ → List ℕ → ℕ → Ran (List ℕ)
 ranFrom t s before rows a = ranIn before (partitions t) (matesOf t) (capCells t s) (nodesOf t) (t .redundancy) a rows
 
+-- ---- the answer
+
+module _ {A : Type 0} (improves : A → Bool) (next : A → A) (lay : A → Layout) (far : A → ℕ) (s : ℕ) (start : A) where
+  -- How the run with an allowance ended.
+  abbrev pub ended : ℕ → Ran A
+  ended a = run improves next a start
+
+  -- The state that it reached.
+  abbrev pub reached : ℕ → A
+  reached a = ended a .state
+
+  -- The answer with an allowance, s the size, `lay` the layout that a state stands for and `far` its distance.
+  abbrev pub answerAt : ℕ → Answer
+  answerAt a = record { layout = lay (reached a); size = s; distance = far (reached a); finished = ended a .finished; improvements = ended a .steps }
+
 -- The answer of planning from any first rows.
 unfoldable pub planFrom : Topology → Layout → List ℕ → ℕ → Answer
-planFrom t F rows a =
-    let r = ranFrom t (sizeOf t) (formerMasks t F) rows a in
-    record { layout = layoutRows t (r .state); size = sizeOf t; distance = farRows t F (r .state); finished = r .finished; improvements = r .steps }
+planFrom t F rows = answerAt (improvesAt t F) (nextAt t F) (layoutRows t) (farRows t F) (sizeOf t) rows
 
 -- The answer of planning, of the nodes in use, the first P former rows and the allowance alone: the run from the beginning.
 unfoldable pub planOf : Topology → Layout → ℕ → Answer
-planOf t F a = planFrom t F (startRows t) a
+planOf t F = planFrom t F (startRows t)
