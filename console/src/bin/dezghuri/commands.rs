@@ -34,7 +34,7 @@ pub struct Answer {
 }
 
 impl Answer {
-    fn report(report: impl Into<Vec<u8>>) -> Answer {
+    pub fn report(report: impl Into<Vec<u8>>) -> Answer {
         Answer {
             report: report.into(),
             json: None,
@@ -88,7 +88,7 @@ pub fn run(command: &Command, warnings: &mut Vec<String>) -> Result<Answer, Fail
 }
 
 /// The place for a record; never that of the description.
-fn output(kind: Kind, record: Vec<u8>, file: &Path, out: &Path) -> Result<Output, Failure> {
+pub fn output(kind: Kind, record: Vec<u8>, file: &Path, out: &Path) -> Result<Output, Failure> {
     if files::are_one(file, out) {
         return Err(Failure::Usage(format!(
             "--out {} would replace the description of the cluster",
@@ -99,7 +99,7 @@ fn output(kind: Kind, record: Vec<u8>, file: &Path, out: &Path) -> Result<Output
 }
 
 /// The cluster of the file, with the layout of the former plan.
-fn describe(
+pub fn describe(
     file: &Path,
     former: Option<&Path>,
     warnings: &mut Vec<String>,
