@@ -96,9 +96,11 @@ fn zone_names(described: &Description, zones: &[u16]) -> String {
     listed(names.iter())
 }
 
-/// A line for each box that holds nothing.
+/// A line for each box that holds nothing; but one of capacity 0 is meant to hold nothing.
 pub fn unused(described: &Description, plan: &Plan) -> String {
-    let unused = described.cluster.unused(&plan.layout, plan.size);
+    let mut unused = described.cluster.unused(&plan.layout, plan.size);
+    let nodes = &described.cluster.nodes;
+    unused.retain(|(id, _)| nodes.iter().any(|node| node.id == *id && node.capacity > 0));
     let line = |(id, why): &(u32, Unused)| {
         let label = labels::of(described, *id);
         let why = match why {
