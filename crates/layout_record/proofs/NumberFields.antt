@@ -16,12 +16,12 @@ use Rattle.cluster.specs.Terms.{mostBits, mostCopies}
 use Rattle.fields.specs.RecordField.{bytesOf, field, numberAt, written, ruleOf, legal, fieldAt, Whole}
 use Rattle.fields.specs.declared.Field.{Field}
 use Rattle.fields.specs.declared.Field.the-variants.{Body, Refused}
-use Rattle.fields.proofs.RecordField.{one-tag}
+use Rattle.fields.proofs.RecordField.{one-tag, length-number}
 use Rattle.layout_record.specs.declared.Numbers.{Numbers}
 use Rattle.layout_record.specs.declared.table.Entry.{Entry}
 use Rattle.layout_record.specs.RecordLayout.{entry, headTable, entryAt, numbersIn, numbersFrom, holds, allHold, inRange, numberFields, headFields}
 use Rattle.layout_record.specs.RecordLayoutFaults.{nextField, HeadRead, HeadEnds, HeadRefused, headNumber, headFrom}
-use Rattle.layout_record.proofs.Puts.{put-next, length-number}
+use Rattle.fields.proofs.Puts.{put-next}
 
 -- ---- the next field
 
