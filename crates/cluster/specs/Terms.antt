@@ -7,7 +7,7 @@ use Prim.Native.Nat.{ℕ, _+_, _*_, _^_, _/_, _%_, _≤_, _<_}
 use mathlib.Core.Path.{_≡_}
 use mathlib.Core.List.{List, [], _∷_, map}
 use mathlib.Core.Bool.{Bool, true, false, not, cond, _&&_, _||_}
-use lib.Dec.{ltb, eqb}
+use lib.Dec.{ltb, leb, eqb}
 use lib.ListN.{length, take, drop, getD}
 use Rattle.sums.specs.TermsSums.{sumTo, one-if, tab}
 use Rattle.cluster.specs.declared.Cluster.{Cluster}
@@ -152,6 +152,10 @@ pub record ValidAt (t : Topology) (L : Layout) (s : ℕ) : Type 0 where
   pub partition-rows : length L ≡ partitions t
   pub rows : (p : ℕ) → p < partitions t → ValidRow t (row L p)
   pub capacities : (b : ℕ) → b < length (t .nodes) → copiesIn L (nodeAt t b .id) * s ≤ nodeAt t b .capacity
+
+-- Whether a node takes so many copies at size s: "copies held times s is at most its capacity", as a test.
+unfoldable pub takes : Node → ℕ → ℕ → Bool
+takes n copies s = leb (copies * s) (n .capacity)
 
 -- "The size of a cluster is the largest whole s with a layout valid at s."
 pub record IsSize (t : Topology) (s : ℕ) : Type 0 where

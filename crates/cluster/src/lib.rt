@@ -1,7 +1,8 @@
 // A cluster in hand: its limits, its nodes, and what makes it acceptable.
 ghost use mathlib.Core.Path.{_≡_};
+ghost use Prim.Native.Nat.{_^_, _≤_, min};
 ghost use Rattle.cluster.specs.TermsReading.{noNodes};
-ghost use Rattle.cluster.specs.Terms.{faultOf};
+ghost use Rattle.cluster.specs.Terms.{mostBits, bufferRows, takes, faultOf};
 
 mod faults;
 pub mod refusal;
@@ -12,6 +13,26 @@ pub struct Node {
     pub id: u32,
     pub zone: u16,
     pub capacity: u32,
+}
+
+impl Node {
+    // Whether the node takes so many copies at a size.
+    pub fn takes(self, copies: u32, size: u32) -> bool
+        ensures { λ r. ⌜ r ≡ takes self copies size ⌝ }
+    {
+        (copies as u64) * (size as u64) <= self.capacity as u64
+    }
+}
+
+// The number of partitions that bits make; more bits than a cluster has count as the most.
+pub fn partitions(bits: u32) -> usize
+    ensures { λ r. ⌜ (r ≡ 2 ^ min bits mostBits) × (r ≤ bufferRows) ⌝ }
+{
+    if bits < Cluster::BITS {
+        1 << bits
+    } else {
+        Cluster::PARTITIONS
+    }
 }
 
 // A cluster by value. Only the first `count` nodes are in use; the other slots are not looked at.

@@ -21,9 +21,9 @@ use Rattle.layouts.proofs.CheckMeaning.{valid-fits, valid-passed}
 use Rattle.sizing.specs.ModelSizing.{Fits32, sizeOf}
 use Rattle.planner.specs.Demand.{Answer, Demand3, Rules}
 use Rattle.planner.specs.ModelPlan.{planOf}
-use Rattle.planner.specs.TermsPlan.{unusable, planRefusal, answerOf, answered, plannedOf, assignmentAfter}
+use Rattle.planner.specs.TermsPlan.{unusable, planRefusal, planIn, answered, plannedOf, assignmentAfter}
 use Rattle.planner.specs.declared.Planned.{Planned}
-use Rattle.planner.proofs.Refusals.{Usable, usable}
+use Rattle.planner.proofs.Refusals.{Usable, usable, lent-former}
 use Rattle.layout_record.specs.declared.Numbers.{Numbers}
 use Rattle.layout_record.specs.declared.ReadLayout.{ReadLayout}
 use Rattle.layout_record.specs.declared.Written.{Written}
@@ -35,7 +35,7 @@ use Rattle.layout_record.proofs.NumberFields.{more-hold}
 use Rattle.layout_record.proofs.Exact.{writes-layout, reads-record}
 use Rattle.whole.specs.TermsWhole.{planNumbers, Stays}
 use Rattle.whole.proofs.Alike.{distance-self, distance-none}
-use Rattle.whole.proofs.Plans.{none-refused, usable-sized, not-refused, plan-answered, plan-laid, one-size, size-below, distance-most, valid-words, lent-former, plan-rules, few-improvements}
+use Rattle.whole.proofs.Plans.{none-refused, usable-sized, not-refused, plan-answered, plan-laid, one-size, size-below, distance-most, valid-words, plan-rules, few-improvements}
 
 -- The plan of a cluster c with a former layout and an allowance: its answer r and the cells that it leaves in the lent assignment.
 module _ (c : Cluster) (former : List ℕ) (allowance : ℕ) (assignment scratch : List ℕ) where
@@ -75,7 +75,7 @@ module _ (c : Cluster) (former : List ℕ) (allowance : ℕ) (assignment scratch
     rules = demand .rules F fo
 
     abbrev plan : Answer
-    plan = answerOf c former allowance
+    plan = planIn c former allowance
 
     abbrev L : Layout
     L = plan .layout
