@@ -47,6 +47,24 @@ scratchCells = 16384
 abbrev pub figureCells : ℕ
 figureCells = 2 * mostNodes
 
+-- ---- the limits of what is said of a layout
+
+-- "6 size (4 bytes, at least 1)"
+abbrev pub mostSize : ℕ
+mostSize = 4294967295
+
+-- "7 distance (2, at most 4,096)"
+abbrev pub mostDistance : ℕ
+mostDistance = 4096
+
+-- "8 verdict (1: 1 finished, 0 stopped)"
+abbrev pub mostVerdict : ℕ
+mostVerdict = 1
+
+-- "9 improvements (2, at most 2,048)"
+abbrev pub mostImprovements : ℕ
+mostImprovements = 2048
+
 -- ---- the cluster
 
 -- "A cluster has partition bits k, replication R, zone redundancy Z and boxes": its numbers and the nodes in use, and nothing of the slots

@@ -61,6 +61,14 @@ impl Cluster {
     pub const SCRATCH: usize = 16384;
     // The cells of the lent figures: two for each node.
     pub const FIGURES: usize = 2 * Cluster::NODES;
+    // The largest size of a layout.
+    pub const SIZE: u32 = 4294967295;
+    // The largest distance of a layout.
+    pub const DISTANCE: u32 = 4096;
+    // The larger verdict: 1 finished, 0 stopped.
+    pub const VERDICT: u32 = 1;
+    // The most improvements.
+    pub const IMPROVEMENTS: u32 = 2048;
 
     // The cluster with no nodes, which a refused reading yields.
     pub fn none() -> Cluster

@@ -8,8 +8,8 @@ ghost use Rattle.cluster.specs.Terms.{topology, partitions, cellsOf, faultOf};
 ghost use Rattle.masks.specs.ModelMasks.{rowsFormed, idsTotal};
 ghost use Rattle.sizing.specs.ModelSizing.{Fits32, sizeOf};
 ghost use Rattle.improve.specs.ModelImprove.{agreementIn};
-ghost use Rattle.planner.specs.ModelPlan.{ranFrom};
-ghost use Rattle.planner.specs.TermsPlan.{answerOf, answered};
+ghost use Rattle.planner.specs.ModelPlan.{dealtAt, ranFrom};
+ghost use Rattle.planner.specs.TermsPlan.{planIn, answered};
 use super::Planned;
 use cluster::Cluster;
 use improve::Ended;
@@ -24,9 +24,9 @@ pub(crate) fn improved(
     rows: &mut [u32],
 ) -> Ended
     requires { ⌜ (faultOf c ≡ 0) × (now rows ≡ replicate 256 0) ⌝ }
-    ensures { λ r. ⌜ (now (rows .exit) ≡ ranFrom (topology c) size (now (before .entry)) allowance .state)
-        × (r .finished ≡ ranFrom (topology c) size (now (before .entry)) allowance .finished)
-        × (r .improvements ≡ ranFrom (topology c) size (now (before .entry)) allowance .steps)
+    ensures { λ r. ⌜ (now (rows .exit) ≡ ranFrom (topology c) size (now (before .entry)) (dealtAt (topology c) size) allowance .state)
+        × (r .finished ≡ ranFrom (topology c) size (now (before .entry)) (dealtAt (topology c) size) allowance .finished)
+        × (r .improvements ≡ ranFrom (topology c) size (now (before .entry)) (dealtAt (topology c) size) allowance .steps)
         × Fits32 (topology c) ⌝ }
 {
     let partitions = cluster::partitions(c.bits);
@@ -76,8 +76,8 @@ pub(crate) fn settle(
 ) -> Planned
     requires { ⌜ (faultOf c ≡ 0) × (2048 ≤ length (now assignment)) × (rowsFormed (now former) (partitions (topology c)) ≡ true)
         × (size ≡ sizeOf (topology c)) × (1 ≤ size) ⌝ }
-    ensures { λ r. ⌜ (r ≡ answered (answerOf c (now (former .entry)) allowance))
-        × (now (assignment .exit) ≡ cellsOf (answerOf c (now (former .entry)) allowance .layout) ++ drop 2048 (now (assignment .entry)))
+    ensures { λ r. ⌜ (r ≡ answered (planIn c (now (former .entry)) allowance))
+        × (now (assignment .exit) ≡ cellsOf (planIn c (now (former .entry)) allowance .layout) ++ drop 2048 (now (assignment .entry)))
         × Fits32 (topology c) ⌝ }
 {
     let partitions = cluster::partitions(c.bits);
