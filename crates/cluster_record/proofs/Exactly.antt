@@ -19,12 +19,12 @@ use Rattle.cluster_record.specs.declared.ReadCluster.{ReadCluster}
 use Rattle.cluster_record.specs.RecordCluster.{IsRecord}
 use Rattle.cluster_record.specs.RecordClusterFaults.{Reading, Outcome, beginning, allowedAfter, refusedAt, ended, upTo, readCluster}
 use Rattle.cluster_record.specs.RecordClusterAnswer.{outcomeOf, answerOf, readAnswer, formerAfter}
-use Rattle.cluster_record.proofs.FieldFaults.{few-partitions}
+use Rattle.cluster_record.proofs.FieldFaults.{few-partitions, refused-some}
 use Rattle.cluster.proofs.Slots.{topology-slots}
 use Rattle.cluster_record.proofs.Walks.{walk-holds}
 use Rattle.cluster_record.proofs.Readings.{kind, row-bytes, Well, well-beginning, well-step}
 use Rattle.cluster_record.proofs.Answers.{long-answer, accepted-former}
-use Rattle.cluster_record.proofs.Sound.{reads-records}
+use Rattle.cluster_record.proofs.Sound.{well-former, reads-records}
 use Rattle.cluster_record.proofs.Complete.{records-read}
 
 -- The reading of s is not refused and yields the cluster t and the former layout F.
@@ -80,11 +80,16 @@ module _ (s former : List ℕ) (long : layoutCells ≤ length former) where
 
 -- ---- every cluster that is answered
 
--- Each reading yields a cluster without fault, refused ones the cluster with no nodes.
-reads-accepted : (s : List ℕ) → Accepted (readCluster s .cluster)
+-- Each reading yields a cluster without fault, refused ones the cluster with no nodes; one that is not refused yields a former layout of it too.
+abbrev Yields : Outcome → Type 0
+Yields o = Accepted (o .cluster) × (o .refusal ≡ 0 → IsFormer (o .cluster) (o .former))
+
+pub reads-yield : (s : List ℕ) → Yields (readCluster s)
 unfolding readCluster
-reads-accepted s =
-    walk-holds s (λ at r. Well r) (λ o. Accepted (o .cluster)) (λ at r w h. at-end r w) (λ at r w refusal byte e. none) (λ at r w tag start len e some. none)
+reads-yield s =
+    walk-holds s (λ at r. Well r) Yields (λ at r w h. at-end r w)
+    (λ at r w refusal byte e. (none, λ z. absurd (omega (arith, refused-some s at (allowedAfter (r .last)) 0 refusal byte e))))
+    (λ at r w tag start len e some. (none, λ z. absurd (some z)))
     (λ at r w tag start len e z. let f = whole s at (allowedAfter (r .last)) 0 tag start len e in
     well-step s r tag start len w (kind (r .last) tag (f .member)) (λ d. row-bytes f d .1) z)
     (length s) 0 beginning (omega arith) well-beginning
@@ -92,12 +97,12 @@ reads-accepted s =
     none : Accepted (refusedAt 0 0 .cluster)
     none = unfold beginning in well-beginning .accepted
 
-    at-end : (r : Reading) → Well r → Accepted (ended s r .cluster)
+    at-end : (r : Reading) → Well r → Yields (ended s r)
     at-end r w = unfold ended in go (ltb (r .last) 3)
       where
-        go : (x : Bool) → Accepted (cond x (refusedAt 7 (length s)) (record { refusal = 0; byte = 0; cluster = r .cluster; former = upTo (partitions (r .cluster)) (r .former) }) .cluster)
-        go true = none
-        go false = w .accepted
+        go : (x : Bool) → Yields (cond x (refusedAt 7 (length s)) (record { refusal = 0; byte = 0; cluster = r .cluster; former = upTo (partitions (r .cluster)) (r .former) }))
+        go true = (none, λ z. absurd (omega arith))
+        go false = (w .accepted, λ z. well-former r w)
 
 -- The cluster answered, whatever came in: its unused slots are zero, it has at most 32 nodes, and no fault.
 pub record Yielded (c : Cluster) : Type 0 where
@@ -121,4 +126,4 @@ answer-yields s former = go (ltb (length former) layoutCells)
   where
     go : (x : Bool) → Yielded (slotsOf (cond x (refusedAt 8 0) (readCluster s) .cluster))
     go true = yielded (refusedAt 8 0 .cluster) (unfold beginning in well-beginning .accepted)
-    go false = yielded (readCluster s .cluster) (reads-accepted s)
+    go false = yielded (readCluster s .cluster) (reads-yield s .0)

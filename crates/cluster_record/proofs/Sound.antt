@@ -10,7 +10,7 @@ use lib.ListN.{length, take, getD}
 use lib.Seq.{take-all}
 use borrow.Author.Tests.{ltb-false}
 use Rattle.cluster.specs.declared.Node.{Node}
-use Rattle.cluster.specs.Terms.{mostCopies, Topology, partitions, Layout, noNode, rising}
+use Rattle.cluster.specs.Terms.{mostCopies, Topology, partitions, Layout, noNode, rising, IsFormer}
 use Rattle.fields.specs.RecordField.{bytesOf, Bytes, part, numberAt, field, fieldAt, Whole}
 use Rattle.fields.specs.declared.Field.the-variants.{Body}
 use Rattle.fields.proofs.Numbers.{bytes-there, number-at-lt, part-append}
@@ -208,6 +208,16 @@ sound-step s b at r tag start len q e none =
       inside = f .ends;
     }
 
+-- The rows that a reading has taken, up to P, are a former layout of its cluster.
+pub well-former : (r : Reading) → Well r → IsFormer (r .cluster) (upTo (partitions (r .cluster)) (r .former))
+well-former r w =
+    let P : ℕ = partitions (r .cluster) in
+    record {
+      partition-rows = length-upTo P (r .former) (w .rows-le);
+      ids = λ p k. ap rising (row-upTo P (r .former) p) ∙ w .row-ids p;
+      few = λ p k. subst (λ (x : List ℕ). length x ≤ mostCopies) (sym (row-upTo P (r .former) p)) (w .row-few p);
+    }
+
 -- At the end, after field 3, the whole is a record.
 sound-end : (s : List ℕ) (at : ℕ) (r : Reading) → Sound s at r → length s ≤ at → 3 ≤ r .last → IsRecord s (r .cluster) (upTo (partitions (r .cluster)) (r .former))
 sound-end s at r q h l =
@@ -218,11 +228,7 @@ sound-end s at r q h l =
     record {
       bytes = sym (take-all at s h) ∙ (q .bytes ∙ whole-record);
       accepted = w .accepted;
-      former = record {
-        partition-rows = length-upTo P F (w .rows-le);
-        ids = λ p k. ap rising (row-upTo P F p) ∙ w .row-ids p;
-        few = λ p k. subst (λ (x : List ℕ). length x ≤ mostCopies) (sym (row-upTo P F p)) (w .row-few p);
-      };
+      former = well-former r w;
       fits = record {
         ids = q .fits .ids;
         zones = q .fits .zones;
