@@ -8,15 +8,15 @@ use borrow.Author.Tests.{lt-ltb, le-ltb, eq-eqb, ne-eqb}
 use Rattle.cluster_record.specs.declared.ReadCluster.{ReadCluster}
 use Rattle.console.specs.TermsConsole.{unlessShort, afterReading}
 
-module _ {A : Type 0} (x y : A) where
-  pub short : (n : ℕ) (answer : List ℕ) → length answer < n → x ≡ unlessShort n answer x y
-  short n answer h = simp (lt-ltb (length answer) n h)
+module _ {A : Type 0} where
+  pub short : {x : A} (y : A) (n : ℕ) (answer : List ℕ) → length answer < n → x ≡ unlessShort n answer x y
+  short y n answer h = simp (lt-ltb (length answer) n h)
 
-  pub long : (n : ℕ) (answer : List ℕ) → n ≤ length answer → y ≡ unlessShort n answer x y
-  long n answer h = simp (le-ltb (length answer) n h)
+  pub long : {w y : A} (x : A) (n : ℕ) (answer : List ℕ) → n ≤ length answer → w ≡ y → w ≡ unlessShort n answer x y
+  long x n answer h e = simp (le-ltb (length answer) n h) e
 
-  pub refused : (r : ReadCluster) → (r .refusal ≡ 0 → ⊥) → x ≡ afterReading r x y
-  refused r h = simp (ne-eqb (r .refusal) 0 h)
+  pub refused : {x : A} (y : A) (r : ReadCluster) → (r .refusal ≡ 0 → ⊥) → x ≡ afterReading r x y
+  refused y r h = simp (ne-eqb (r .refusal) 0 h)
 
-  pub accepted : (r : ReadCluster) → r .refusal ≡ 0 → y ≡ afterReading r x y
-  accepted r h = simp (eq-eqb (r .refusal) 0 h)
+  pub accepted : {w y : A} (x : A) (r : ReadCluster) → r .refusal ≡ 0 → w ≡ y → w ≡ afterReading r x y
+  accepted x r h e = simp (eq-eqb (r .refusal) 0 h) e

@@ -15,7 +15,7 @@ returns : tie.Need-returns
 returns c =
     let lent = c .before .before .before .before .args .answer .now in
     let h = c .if1 .taken in
-    (short _ _ 3 lent h, short _ _ 3 lent h)
+    (short _ 3 lent h, short _ 3 lent h)
 
 read-requires : tie.Need-read-requires
 read-requires c κs = search needs
@@ -43,8 +43,8 @@ returns-2 c =
     let read = r .read .ensures in
     let found : f .check-read .result ≡ checked (reading (a .bytes .now)) (a .assignment .now) (a .size) =
     f .check-read .ensures ∙ ap (λ (x : ReadCluster). checked x (a .assignment .now) (a .size)) read in (
-      ap (λ (x : Checked). x .refusal) found ∙ long _ _ 3 lent h,
-      c .before .before .put-after .ensures ∙ ((λ i. checkNumbers (read i) (found i) ++ drop 3 lent) ∙ long _ _ 3 lent h),
+      long _ 3 lent h (ap (λ (x : Checked). x .refusal) found),
+      long _ 3 lent h (c .before .before .put-after .ensures ∙ (λ i. checkNumbers (read i) (found i) ++ drop 3 lent)),
     )
 
 pub dezghuri-check-spec : {M : Type 1} → statement M

@@ -20,7 +20,7 @@ returns : tie.Need-returns
 returns c =
     let lent = c .before .before .before .before .args .answer .now in
     let h = c .if1 .taken in
-    (short _ _ 102 lent h, short _ _ 102 lent h, short _ _ 102 lent h)
+    (short _ 102 lent h, short _ 102 lent h, short _ 102 lent h)
 
 read-cluster-requires : tie.Need-read-cluster-requires
 read-cluster-requires c κs = search needs
@@ -58,12 +58,12 @@ returns-2 c =
     let h = e .if1 .left in
     let read = r .read-cluster .ensures .0 in
     let nodes = nodeCells (r .read-cluster .result .cluster .nodes) in (
-      ap (λ (x : ReadCluster). x .refusal) read ∙ long _ _ 102 lent h,
-      r .read-cluster .ensures .1 ∙ long _ _ 102 lent h,
-      c .before .before .put-nodes .ensures
+      long _ 102 lent h (ap (λ (x : ReadCluster). x .refusal) read),
+      long _ 102 lent h (r .read-cluster .ensures .1),
+      long _ 102 lent h
+          (c .before .before .put-nodes .ensures
           ∙ (ap (λ (l : List ℕ). take 6 l ++ nodes ++ drop 102 l) (p .put-after .ensures)
-          ∙ (ap (λ (l : List ℕ). clusterNumbers (r .read-cluster .result) ++ l) (drop-drop 96 6 lent)
-          ∙ (ap (λ (x : ReadCluster). clusterNumbers x ++ drop 102 lent) read ∙ long _ _ 102 lent h))),
+          ∙ (ap (λ (l : List ℕ). clusterNumbers (r .read-cluster .result) ++ l) (drop-drop 96 6 lent) ∙ ap (λ (x : ReadCluster). clusterNumbers x ++ drop 102 lent) read))),
     )
 
 pub dezghuri-read-cluster-spec : {M : Type 1} → statement M

@@ -16,7 +16,7 @@ returns : tie.Need-returns
 returns c =
     let lent = c .before .before .before .before .before .args .answer .now in
     let h = c .if1 .taken in
-    (short _ _ 5 lent h, short _ _ 5 lent h, short _ _ 5 lent h)
+    (short _ 5 lent h, short _ 5 lent h, short _ 5 lent h)
 
 read-requires : tie.Need-read-requires
 read-requires c κs = search needs
@@ -57,9 +57,9 @@ returns-2 c =
     f .figures-read .ensures .0 ∙ ap (λ (x : ReadCluster). figured x (a .assignment .now) (a .size) (a .figures .now)) read in
     let high = g .high .ensures ∙ ap (λ (x : Figured). x .hope / 2 ^ 32) found in
     let low = l .low .ensures ∙ ap (λ (x : Figured). x .hope % 2 ^ 32) found in (
-      ap (λ (x : Figured). x .refusal) found ∙ long _ _ 5 lent h,
-      f .figures-read .ensures .1 ∙ (ap (λ (x : ReadCluster). figuresLeft x (a .assignment .now) (a .size) (a .figures .now)) read ∙ long _ _ 5 lent h),
-      c .before .before .put-after .ensures ∙ ((λ i. halves (read i .byte) ++ (found i .place ∷ high i ∷ low i ∷ []) ++ drop 5 lent) ∙ long _ _ 5 lent h),
+      long _ 5 lent h (ap (λ (x : Figured). x .refusal) found),
+      long _ 5 lent h (f .figures-read .ensures .1 ∙ ap (λ (x : ReadCluster). figuresLeft x (a .assignment .now) (a .size) (a .figures .now)) read),
+      long _ 5 lent h (c .before .before .put-after .ensures ∙ (λ i. halves (read i .byte) ++ (found i .place ∷ high i ∷ low i ∷ []) ++ drop 5 lent)),
     )
 
 pub dezghuri-figures-spec : {M : Type 1} → statement M

@@ -1,7 +1,6 @@
 -- `console::figure::figures_read` meets its contract.
 -- Assumes nothing.
 use borrow.Author.Needs.{needs}
-use mathlib.Core.Path.{_∙_}
 use Rattle.console.specs.TermsConsole.{figured, figuresLeft}
 use Rattle.console.proofs.Answered.{refused, accepted}
 use Rattle.console.proofs.figure.figures_read.Statement.{statement}
@@ -12,7 +11,7 @@ unfolding figured figuresLeft
 returns c =
     let r = c .before .before .before .before .args .read in
     let h = c .if1 .taken in
-    (refused _ _ r h, refused _ _ r h)
+    (refused _ r h, refused _ r h)
 
 figures-requires : tie.Need-figures-requires
 figures-requires c κs = search needs
@@ -27,7 +26,7 @@ returns-2 c =
     let t = k .before .before .before in
     let r = t .before .before .before .before .args .read in
     let h = t .if1 .left in
-    (k .figures .ensures .0 ∙ accepted _ _ r h, k .figures .ensures .1 ∙ accepted _ _ r h)
+    (accepted _ r h (k .figures .ensures .0), accepted _ r h (k .figures .ensures .1))
 
 pub figures-read-spec : {M : Type 1} → statement M
 figures-read-spec = tie.close (tie.spec returns figures-requires same-length returns-2)

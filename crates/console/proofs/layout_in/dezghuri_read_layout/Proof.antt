@@ -14,7 +14,7 @@ returns : tie.Need-returns
 returns c =
     let lent = c .before .before .before .before .args .answer .now in
     let h = c .if1 .taken in
-    (short _ _ 8 lent h, short _ _ 8 lent h, short _ _ 8 lent h)
+    (short _ 8 lent h, short _ 8 lent h, short _ 8 lent h)
 
 read-layout-requires : tie.Need-read-layout-requires
 read-layout-requires c κs = search needs
@@ -38,9 +38,9 @@ returns-2 c =
     let lent = e .before .before .before .before .args .answer .now in
     let h = e .if1 .left in
     let read = r .read-layout .ensures .0 in (
-      ap (λ (x : ReadLayout). x .refusal) read ∙ long _ _ 8 lent h,
-      r .read-layout .ensures .1 ∙ long _ _ 8 lent h,
-      c .before .before .put-after .ensures ∙ (ap (λ (x : ReadLayout). layoutNumbers x ++ drop 8 lent) read ∙ long _ _ 8 lent h),
+      long _ 8 lent h (ap (λ (x : ReadLayout). x .refusal) read),
+      long _ 8 lent h (r .read-layout .ensures .1),
+      long _ 8 lent h (c .before .before .put-after .ensures ∙ ap (λ (x : ReadLayout). layoutNumbers x ++ drop 8 lent) read),
     )
 
 pub dezghuri-read-layout-spec : {M : Type 1} → statement M

@@ -14,7 +14,7 @@ returns : tie.Need-returns
 returns c =
     let lent = c .before .before .before .before .args .answer .now in
     let h = c .if1 .taken in
-    (short _ _ 2 lent h, short _ _ 2 lent h, short _ _ 2 lent h)
+    (short _ 2 lent h, short _ 2 lent h, short _ 2 lent h)
 
 write-layout-requires : tie.Need-write-layout-requires
 write-layout-requires c κs = search needs
@@ -48,9 +48,9 @@ returns-2 c =
     let written = r .write-layout .ensures .0 in
     let high = g .high .ensures ∙ ap (λ (x : Written). x .length / 2 ^ 32) written in
     let low = l .low .ensures ∙ ap (λ (x : Written). x .length % 2 ^ 32) written in (
-      ap (λ (x : Written). x .refusal) written ∙ long _ _ 2 lent h,
-      r .write-layout .ensures .1 ∙ long _ _ 2 lent h,
-      c .before .before .put .ensures ∙ ((λ i. high i ∷ low i ∷ drop 2 lent) ∙ long _ _ 2 lent h),
+      long _ 2 lent h (ap (λ (x : Written). x .refusal) written),
+      long _ 2 lent h (r .write-layout .ensures .1),
+      long _ 2 lent h (c .before .before .put .ensures ∙ (λ i. high i ∷ low i ∷ drop 2 lent)),
     )
 
 pub dezghuri-write-layout-spec : {M : Type 1} → statement M

@@ -17,7 +17,7 @@ returns : tie.Need-returns
 returns c =
     let lent = c .before .before .before .before .before .args .answer .now in
     let h = c .if1 .taken in
-    (short _ _ 6 lent h, short _ _ 6 lent h, short _ _ 6 lent h, short _ _ 6 lent h, λ e long ample enough. absurd (omega arith))
+    (short _ 6 lent h, short _ 6 lent h, short _ 6 lent h, short _ 6 lent h, λ e long ample enough. absurd (omega arith))
 
 slice-aggregate-read-cluster : tie.Need-slice-aggregate-read-cluster
 slice-aggregate-read-cluster c = search needs
@@ -68,11 +68,12 @@ returns-2 c =
     let made : k .plan-read .result ≡ planned (reading s) (formerIn s) (a .allowance) (length cells) (length rest) =
     owed .0 ∙ (λ i. planned (read i) (former i) (a .allowance) (length cells) (length rest)) in
     let verdict = v .verdict .ensures ∙ ap (λ (x : Planned). one-if (x .finished)) made in (
-      ap (λ (x : Planned). x .refusal) made ∙ long _ _ 6 lent h,
-      owed .1 ∙ ((λ i. plannedAssignment (read i) (former i) (a .allowance) cells (length rest)) ∙ long _ _ 6 lent h),
-      owed .2 ∙ ((λ i. plannedScratch (read i) (former i) (length cells) rest) ∙ long _ _ 6 lent h),
-      c .before .before .put-after .ensures
-          ∙ ((λ i. halves (read i .byte) ++ (made i .size ∷ made i .distance ∷ verdict i ∷ made i .improvements ∷ []) ++ drop 6 lent) ∙ long _ _ 6 lent h),
+      long _ 6 lent h (ap (λ (x : Planned). x .refusal) made),
+      long _ 6 lent h (owed .1 ∙ (λ i. plannedAssignment (read i) (former i) (a .allowance) cells (length rest))),
+      long _ 6 lent h (owed .2 ∙ (λ i. plannedScratch (read i) (former i) (length cells) rest)),
+      long _ 6 lent h
+          (c .before .before .put-after .ensures
+          ∙ (λ i. halves (read i .byte) ++ (made i .size ∷ made i .distance ∷ verdict i ∷ made i .improvements ∷ []) ++ drop 6 lent)),
       record-owed s (length cells) (length rest) (length lent) (k .plan-read .result .refusal) (r .read-cluster .result) _ read former (owed .3),
     )
 

@@ -1,7 +1,6 @@
 -- `console::plan::plan_read` meets its contract.
 -- Assumes nothing.
 use borrow.Author.Needs.{needs}
-use mathlib.Core.Path.{_∙_}
 use Rattle.console.specs.TermsConsole.{planned, plannedAssignment, plannedScratch}
 use Rattle.console.proofs.Answered.{refused, accepted}
 use Rattle.console.proofs.plan.plan_read.Statement.{statement}
@@ -12,7 +11,7 @@ unfolding planned plannedAssignment plannedScratch
 returns c =
     let r = c .before .before .before .before .before .args .read in
     let h = c .if1 .taken in
-    (refused _ _ r h, refused _ _ r h, refused _ _ r h, λ e. absurd (h e))
+    (refused _ r h, refused _ r h, refused _ r h, λ e. absurd (h e))
 
 plan-requires : tie.Need-plan-requires
 plan-requires c κs = search needs
@@ -31,7 +30,7 @@ returns-2 c =
     let r = t .before .before .before .before .before .args .read in
     let h = t .if1 .left in
     let e = k .plan .ensures in
-    (e .0 ∙ accepted _ _ r h, e .1 ∙ accepted _ _ r h, e .2 ∙ accepted _ _ r h, λ z. e .3)
+    (accepted _ r h (e .0), accepted _ r h (e .1), accepted _ r h (e .2), λ z. e .3)
 
 pub plan-read-spec : {M : Type 1} → statement M
 plan-read-spec = tie.close (tie.spec returns plan-requires same-length same-length-2 returns-2)
