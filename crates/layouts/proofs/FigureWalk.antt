@@ -84,7 +84,7 @@ module _ (t : Topology) (cells : List ℕ) (p : ℕ) where
 
   -- The sums of the counts are the copies of the zones.
   pub zone-figure : length (t .nodes) ≤ mostNodes → (b : ℕ) → zoneSum t (copiesSoFar t cells p) b ≡ zoneCopies t (rowsIn p cells) b
-  unfolding zoneSum zoneCopies
+  unfolding zoneSum zoneCopies is
   zone-figure few b =
       ap (λ (n : ℕ). cond (ltb b (length (t .nodes))) n 0)
       (sum-cong (length (t .nodes)) (λ x. is (nodeAt t x .zone) (nodeAt t b .zone) * getD (copiesSoFar t cells p) x 0)

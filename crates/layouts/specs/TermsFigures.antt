@@ -4,8 +4,7 @@ use Prim.Native.Nat.{ℕ, _*_, _/_}
 use mathlib.Core.List.{List}
 use lib.Dec.{ltb, eqb}
 use lib.ListN.{length}
-use Rattle.sums.specs.TermsSums.{sumTo}
-use Rattle.sums.specs.ModelSums.{is}
+use Rattle.sums.specs.TermsSums.{sumTo, one-if}
 use mathlib.Core.Bool.{cond}
 use Rattle.cells.specs.ModelCells.{put}
 use Rattle.cluster.specs.Terms.{mostNodes, figureCells, Topology, topology, partitions, nodeAt, Layout, copiesIn, rowsIn}
@@ -22,7 +21,7 @@ nodeCopies t L b = cond (ltb b (length (t .nodes))) (copiesIn L (nodeAt t b .id)
 unfoldable pub zoneCopies : Topology → Layout → ℕ → ℕ
 zoneCopies t L b =
     cond (ltb b (length (t .nodes)))
-    (sumTo (length (t .nodes)) (λ x. is (nodeAt t x .zone) (nodeAt t b .zone) * copiesIn L (nodeAt t x .id))) 0
+    (sumTo (length (t .nodes)) (λ x. one-if (eqb (nodeAt t x .zone) (nodeAt t b .zone)) * copiesIn L (nodeAt t x .id))) 0
 
 -- "the size to hope for, total capacity over R times P, rounded down"
 unfoldable pub hopeOf : Topology → ℕ
