@@ -1,12 +1,11 @@
 -- What figures answer of a layout in hand, and what they leave in the lent cells.
 -- Assumes nothing.
 use Prim.Native.Nat.{ℕ, _*_, _/_}
-use mathlib.Core.List.{List}
+use mathlib.Core.List.{List, _++_}
 use lib.Dec.{ltb, eqb}
-use lib.ListN.{length}
-use Rattle.sums.specs.TermsSums.{sumTo, one-if}
+use lib.ListN.{length, drop}
+use Rattle.sums.specs.TermsSums.{sumTo, one-if, tab}
 use mathlib.Core.Bool.{cond}
-use Rattle.cells.specs.ModelCells.{put}
 use Rattle.cluster.specs.Terms.{mostNodes, figureCells, Topology, topology, partitions, nodeAt, Layout, copiesIn, rowsIn}
 use Rattle.cluster.specs.declared.Cluster.{Cluster}
 use Rattle.layouts.specs.declared.check.Checked.{Checked}
@@ -29,7 +28,7 @@ hopeOf t = sumTo (length (t .nodes)) (λ b. nodeAt t b .capacity) / (t .replicat
 
 -- "Cells 0 to 31: copies held per box in id order; 32 to 63: copies in that box's zone; unused cells 0". Cells after the 64 are kept.
 abbrev pub figuresMade : Topology → Layout → List ℕ → List ℕ
-figuresMade t L cells = put mostNodes (zoneCopies t L) mostNodes (put 0 (nodeCopies t L) mostNodes cells)
+figuresMade t L cells = tab (nodeCopies t L) mostNodes ++ tab (zoneCopies t L) mostNodes ++ drop figureCells cells
 
 -- "Refused as Check, with 8 for this buffer too"
 unfoldable pub figuresFault : Cluster → List ℕ → ℕ → List ℕ → Checked
