@@ -10,7 +10,7 @@ use lib.ListN.{length, drop}
 use Rattle.cluster.specs.Terms.{mostNodes, layoutCells, Topology, topology, partitions, Layout, IsFormer, cellsOf, rowsIn}
 use Rattle.cluster.specs.ModelRows.{FitsCells}
 use Rattle.cluster.specs.TermsReading.{Accepted, slotsOf}
-use Rattle.cluster.proofs.Accepting.{no-fault}
+use Rattle.cluster.proofs.Accepting.{no-fault, few-partitions}
 use Rattle.cluster.proofs.CellLayouts.{rowsIn-written}
 use Rattle.fields.specs.RecordField.{Bytes}
 use Rattle.fields.proofs.RecordField.{whole}
@@ -19,7 +19,6 @@ use Rattle.cluster_record.specs.RecordCluster.{IsClusterRecord}
 use Rattle.cluster_record.specs.RecordClusterFaults.{Reading, ClusterRead, nothingRead, allowedAfter, clusterRefused, ended, upTo, readCluster}
 use Rattle.cluster_record.specs.RecordClusterAnswer.{clusterOutcome, clusterAnswer, readClusterOf, formerRead}
 use Rattle.cluster_record.specs.RecordClusterClaims.{ReadsCluster, AnswersCluster, Yielded}
-use Rattle.cluster_record.proofs.FieldFaults.{few-partitions}
 use Rattle.cluster.proofs.Slots.{topology-slots}
 use Rattle.cluster_record.proofs.Walks.{walk-holds}
 use Rattle.cluster_record.proofs.Readings.{kind, row-bytes, Well, well-nothing, well-step}

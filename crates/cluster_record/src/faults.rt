@@ -59,7 +59,7 @@ fn row_fault(bytes: &[u8], bits: u32, next: usize, start: usize, count: usize) -
         (cond (ltb (numberAt (now (bytes .entry)) start 2) next || not (rising (idsAt (now (bytes .entry)) (start + 2) count))) 5 0) ⌝ }
 {
     let partition = fields::pair_at(bytes, start) as usize;
-    if (1 << bits) <= partition {
+    if cluster::partitions(bits) <= partition {
         return refusal::RANGE;
     }
     if fields::ids::has_zero(bytes, start + 2, count) {

@@ -20,7 +20,8 @@ use Rattle.layout_record.specs.RecordLayoutFaults.{rowFits, rowsFit}
 use Rattle.layout_record.proofs.Puts.{put-next, put-parts}
 use Rattle.layout_record.proofs.NumberFields.{few-bits, length-head}
 use Rattle.layout_record.proofs.RecordLaws.{length-row, rows-snoc, length-rows, rowsIn-more}
-use Rattle.layout_record.proofs.RowFaults.{fits-formed, few-partitions, Writable}
+use Rattle.layout_record.proofs.RowFaults.{fits-formed, Writable}
+use Rattle.cluster.proofs.Accepting.{few-partitions}
 use Rattle.sums.proofs.Tests.{every-at}
 
 -- The first cells of a formed row with so many ids are its ids.
