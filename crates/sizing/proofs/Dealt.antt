@@ -14,7 +14,6 @@ use Rattle.cluster.specs.Terms.{mostNodes, Topology, partitions}
 use Rattle.incidence.specs.ModelIncidence.{zoneIndex, capAt, cell, column, zoneCells}
 use Rattle.dealing.specs.ModelDeal.{given, start, among, dealt}
 use Rattle.dealing.proofs.Given.{given-le}
-use Rattle.dealing.specs.ModelDeal.{among}
 use Rattle.sizing.specs.ModelSizing.{Below, AtMost, nodesOf, capCells, beginning, dealtRows}
 use Rattle.cells.proofs.Cells.{put-cong}
 use Rattle.sizing.proofs.Agree.{SameBelow, start-agree, dealt-agree}

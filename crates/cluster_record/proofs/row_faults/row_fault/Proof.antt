@@ -1,28 +1,31 @@
--- `cluster_record::faults::row_fault` meets its contract: the tests stand in the order of the faults, both of range before both of order.
+-- `cluster_record::row_faults::row_fault` meets its contract: the tests stand in the order of the faults, both of range before both of order.
 -- Assumes nothing.
 use Prim.Native.Nat.{_^_, _≤_, _<_}
 use mathlib.Core.Path.{sym, _∙_}
 use borrow.Author.Tests.{le-leb, lt-leb, lt-ltb, le-ltb}
-use Rattle.cluster.proofs.Accepting.{partitions-in-range}
 use Rattle.fields.specs.RecordField.{numberAt}
+use Rattle.cluster.proofs.Accepting.{partitions-in-range}
+use Rattle.cluster.proofs.partitions.Reads as partitions-reads
 use borrow.Author.Needs.{needs}
 use native.Mathlib.Omega.{arith}
-use Rattle.cluster_record.proofs.faults.row_fault.Statement.{statement}
-use Rattle.cluster_record.proofs.faults.row_fault.Tie as tie
-use Rattle.cluster_record.proofs.faults.row_fault.Reads as reads
-use Rattle.cluster_record.proofs.faults.row_fault.Lts as lts
+use Rattle.cluster_record.proofs.row_faults.row_fault.Statement.{statement}
+use Rattle.cluster_record.proofs.row_faults.row_fault.Tie as tie
+use Rattle.cluster_record.proofs.row_faults.row_fault.Reads as reads
+use Rattle.cluster_record.proofs.row_faults.row_fault.Lts as lts
 use Rattle.fields.proofs.ids.has_zero.Reads as has-zero-reads
 use Rattle.fields.proofs.ids.ids_rise.Reads as ids-rise-reads
 use Rattle.fields.proofs.pair_at.Reads as pair-at-reads
 
 -- What the first test says of the partition.
 above : (c : tie.Then1) → let a = c .before .before .before .before .args in 2 ^ (a .bits) ≤ numberAt (a .bytes .now) (a .start) 2
-above c = let k = c .before .before .before .before in
-    omega (arith, c .before .before .pair-at .ensures, c .before .partitions .ensures, partitions-in-range (k .args .bits) (k .pre .0))
+above c =
+    let b = c .before .before .before .before in
+    omega (arith, c .before .before .pair-at .ensures, c .before .partitions .ensures, partitions-in-range (b .args .bits) (b .pre .0))
 
 below : (c : tie.Else1) → let a = c .before .before .before .before .args in numberAt (a .bytes .now) (a .start) 2 < 2 ^ (a .bits)
-below c = let k = c .before .before .before .before in
-    omega (arith, c .before .before .pair-at .ensures, c .before .partitions .ensures, partitions-in-range (k .args .bits) (k .pre .0))
+below c =
+    let b = c .before .before .before .before in
+    omega (arith, c .before .before .pair-at .ensures, c .before .partitions .ensures, partitions-in-range (b .args .bits) (b .pre .0))
 
 pair-at-requires : tie.Need-pair-at-requires
 pair-at-requires c κs = search needs
