@@ -8,6 +8,8 @@ use mathlib.Core.List.{List, []}
 use native.Mathlib.Omega.{arith}
 use native.Mathlib.Nat.{mul-le-mul}
 use lib.ListN.{length, drop, replicate, length-replicate, length-append, List·getD-append}
+use lib.Pow.{pow-pos}
+use Rattle.cluster.proofs.Accepting.{few-partitions}
 use Rattle.sums.specs.TermsSums.{one-if, tab}
 use Rattle.sums.proofs.Sum.{sum-zero}
 use Rattle.sets.specs.ModelBits.{bit, bitsAt, maskOf}
@@ -24,7 +26,6 @@ use Rattle.incidence.proofs.TieLayouts.{distance-bits, within-of-valid, valid-o
 use Rattle.incidence.proofs.Columns.{cell-column}
 use Rattle.sizing.specs.ModelSizing.{nodesOf, capCells, Fits32, sizeOf, dealtBits, dealtRows}
 use Rattle.sizing.proofs.Sizes.{size-is, beginning-within}
-use Rattle.sizing.proofs.Arrays.{partitions-few}
 use Rattle.sizing.proofs.Reading.{mates-hold, deal-length, deal-cell, deal-bit}
 use Rattle.improve.specs.ModelImprove.{ranIn, agreementIn}
 use Rattle.improve.proofs.Ground.{Ground, Good, agreement-weighs, next-good, next-gains, none-heavier, none-former, run-finishes}
@@ -45,15 +46,11 @@ module _ (t : Topology) (acc : Accepted t) where
   abbrev R : ℕ
   R = t .replication
 
-  -- At most 256 partitions.
-  pub few-partitions : P ≤ 256
-  few-partitions = partitions-few t acc .1
-
   -- The dealt rows are good.
   pub start-good : 1 ≤ sizeOf t → GoodRows t (startRows t)
   unfolding startRows
   start-good some =
-      let long : P ≤ length {A = ℕ} (replicate bufferRows 0) = omega (arith, few-partitions, length-replicate {A = ℕ} bufferRows 0) in
+      let long : P ≤ length {A = ℕ} (replicate bufferRows 0) = omega (arith, few-partitions (t .bits) (acc .bits), length-replicate {A = ℕ} bufferRows 0) in
       record {
         long = omega (arith, long, deal-length t (sizeOf t) (replicate bufferRows 0));
         small = λ p l. subst (λ (x : ℕ). x < 2 ^ N) (sym (deal-cell t (sizeOf t) (replicate bufferRows 0) long p l)) (mask-lt (dealtBits t (sizeOf t) p) N);
@@ -97,7 +94,7 @@ module _ (t : Topology) (acc : Accepted t) where
     unfolding capCells
     ground =
         record {
-          partitions = partitions-few t acc;
+          partitions = (pow-pos (t .bits), few-partitions (t .bits) (acc .bits));
           copied = acc .replication .0;
           zones = record { few = acc .few; inside = zone-below t; mate = mates-hold t (acc .few) (zoneCells t) (matesOf t) refl refl };
           capped = λ b l. cell-column (capAt t (sizeOf t)) N b (acc .few) l;
@@ -162,6 +159,6 @@ module _ (t : Topology) (acc : Accepted t) where
             falls = falls;
             bounded = bounded;
             nearest = none-nearer;
-            enough = run-finishes ground start g 2048 (mul-le-mul few-partitions (acc .replication .1));
+            enough = run-finishes ground start g 2048 (mul-le-mul (few-partitions (t .bits) (acc .bits)) (acc .replication .1));
             blank = blank start g;
           }

@@ -11,7 +11,7 @@ use borrow.Author.Tests.{le-leb, lt-ltb, le-ltb, eq-eqb, ne-eqb, eqb-true, ltb-f
 use Rattle.cluster.specs.Terms.{topology, partitions, Layout, IsFormer, cellsOf, rowAt, idsIn, formed, rowsIn, faultOf}
 use Rattle.cluster.specs.ModelRows.{illFormed, idCount, rowIds, FitsCells, HoldsRows}
 use Rattle.cluster.specs.declared.Cluster.{Cluster}
-use Rattle.cluster.proofs.Accepting.{accepted}
+use Rattle.cluster.proofs.Accepting.{few-partitions, accepted}
 use Rattle.cluster.proofs.CellLayouts.{few-ids, holds-cellsOf, holds-append}
 use Rattle.cluster.proofs.RowScans.{row-of-buffer}
 use Rattle.masks.specs.ModelMasks.{rowsFormed}
@@ -19,7 +19,6 @@ use Rattle.sums.specs.TermsSums.{everyTo}
 use Rattle.improve.proofs.Runs.{not-both}
 use Rattle.masks.proofs.Laws.{holds-formed, formed-former}
 use Rattle.planner.specs.TermsPlan.{unusable}
-use Rattle.planner.proofs.Machines.{few-partitions}
 
 -- Tests that are the same at each index are the same of all.
 pub every-cong : (n : ℕ) (f g : ℕ → Bool) → ((i : ℕ) → i < n → f i ≡ g i) → everyTo n f ≡ everyTo n g
@@ -46,7 +45,7 @@ module _ (cells : List ℕ) (whole : 2048 ≤ length cells) where
 -- The same of the former rows of a cluster without fault.
 former-same : (c : Cluster) (former : List ℕ) → 2048 ≤ length former → faultOf c ≡ 0
     → everyTo (partitions (topology c)) (λ p. formed (rowAt former p)) ≡ rowsFormed former (partitions (topology c))
-former-same c former whole e = rows-same former whole (partitions (topology c)) (few-partitions (topology c) (accepted c e))
+former-same c former whole e = rows-same former whole (partitions (topology c)) (few-partitions (c .bits) (accepted c e .bits))
 
 module _ (c : Cluster) (former : List ℕ) (a s : ℕ) where
   pub short-former : length former < 2048 → 8 ≡ unusable c former a s
@@ -116,7 +115,7 @@ pub cells-usable : (c : Cluster) (F : Layout) (rest : List ℕ) (a s : ℕ) → 
 cells-usable c F rest a s e f long ample =
     let P = partitions (topology c) in
     let fits : FitsCells F = record {
-      few-rows = omega (arith, f .partition-rows, few-partitions (topology c) (accepted c e));
+      few-rows = omega (arith, f .partition-rows, few-partitions (c .bits) (accepted c e .bits));
       ids = λ p l. f .ids p (omega (arith, f .partition-rows));
       few = λ p l. f .few p (omega (arith, f .partition-rows));
     } in

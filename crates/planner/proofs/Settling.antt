@@ -16,7 +16,7 @@ use Rattle.cluster.specs.Terms.{Topology, topology, partitions, Layout, IsForme
 use Rattle.cluster.specs.TermsReading.{Accepted}
 use Rattle.incidence.specs.ModelIncidence.{bitsOf, incidence, formerPairs, zoneCells}
 use Rattle.cluster.specs.declared.Cluster.{Cluster}
-use Rattle.cluster.proofs.Accepting.{accepted}
+use Rattle.cluster.proofs.Accepting.{few-partitions, accepted}
 use Rattle.cluster.proofs.CellLayouts.{row-rowsIn}
 use Rattle.incidence.proofs.TieDistance.{former-few}
 use Rattle.masks.specs.ModelMasks.{masksRead, rowMask, cellsWritten, idsTotal, rowsFormed}
@@ -29,7 +29,7 @@ use Rattle.planner.specs.ModelPlan.{formerMasks, dealtAt, startRows, ran
 use Rattle.planner.specs.TermsPlan.{planIn, answered}
 use Rattle.planner.specs.declared.Planned.{Planned}
 use Rattle.improve.proofs.Ground.{run-good}
-use Rattle.planner.proofs.Machines.{GoodRows, few-partitions, start-good, fm-long, ground, measure}
+use Rattle.planner.proofs.Machines.{GoodRows, start-good, fm-long, ground, measure}
 
 -- ---- the numbers of a cluster without fault
 
@@ -53,7 +53,7 @@ module _ (c : Cluster) (size P n : ℕ) (before rows zones mates caps dealt : Li
     the-dealt =
         e-dealt
         ∙ (ap (dealtIn c size) e-rows
-        ∙ deal-in c size (replicate 256 0) e (omega (arith, few-partitions (topology c) (accepted c e), length-replicate {A = ℕ} 256 0)))
+        ∙ deal-in c size (replicate 256 0) e (omega (arith, few-partitions (c .bits) (accepted c e .bits), length-replicate {A = ℕ} 256 0)))
 
     pub run-is : ranIn before P mates caps n (c .redundancy) a dealt ≡ ranFrom (topology c) size before (dealtAt (topology c) size) a
     unfolding ranFrom
@@ -98,7 +98,7 @@ module _ (c : Cluster) (former : List ℕ) (a size P : ℕ) (before rows : List 
     before-is =
         eb
         ∙ (ap (λ (n : ℕ). masksRead (t .nodes) former n (replicate 256 0)) eP
-        ∙ (simp (le-leb (partitions t) 256 (few-partitions t acc), length-replicate {A = ℕ} 256 0)
+        ∙ (simp (le-leb (partitions t) 256 (few-partitions (t .bits) (acc .bits)), length-replicate {A = ℕ} 256 0)
         (ap (λ (l : List ℕ). l ++ drop (partitions t) (replicate 256 0))
         (tab-cong (λ p. rowMask (t .nodes) former p) (λ p. maskOf (incidence t F p) (nodesOf t)) (partitions t) mask-is))))
 
@@ -127,10 +127,10 @@ module _ (c : Cluster) (former : List ℕ) (a size P : ℕ) (before rows : List 
         × (2 * agreementIn rows before P ≤ c .replication * P + idsTotal former P)
     measurable = (
       acc .replication .1,
-      omega (arith, eP, few-partitions t acc),
+      omega (arith, eP, few-partitions (t .bits) (acc .bits)),
       omega (arith, eP, ap length before-is, fm-long t acc F),
       omega (arith, eP, good .long),
-      omega (arith, ids-are, former-few t F fo, few-partitions t acc),
+      omega (arith, ids-are, former-few t F fo, few-partitions (t .bits) (acc .bits)),
       omega (arith, ids-are, agreement-is, ap (λ (n : ℕ). c .replication * n) eP, measure t acc F fo rows good),
     )
 
@@ -154,6 +154,6 @@ module _ (c : Cluster) (former : List ℕ) (a size P : ℕ) (before rows : List 
     unfolding planOf planFrom layoutRows ranFrom ranIn
     cells-are cells whole =
         ap (λ (n : ℕ). cellsWritten (t .nodes) rows n cells) eP
-        ∙ (written-layout t rows cells (few-partitions t acc) (good .long) whole
+        ∙ (written-layout t rows cells (few-partitions (t .bits) (acc .bits)) (good .long) whole
         (λ p l. omega (arith, good .within .rows p l .size, acc .replication .1))
         ∙ ap (λ (l : List ℕ). cellsOf (layoutRows t l) ++ drop 2048 cells) rows-are)

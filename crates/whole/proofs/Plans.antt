@@ -11,6 +11,7 @@ use native.Mathlib.Nat.{le-antisymm, mul-le-mul, eq-zero-or-pos}
 use lib.Dec.{eqb}
 use lib.ListN.{length, drop, getD, List·getD-eq-default}
 use borrow.Author.Tests.{eq-eqb, ne-eqb, eqb-true}
+use Rattle.cluster.proofs.Accepting.{few-partitions}
 use Rattle.sums.proofs.Sum.{lt-or-ge}
 use Rattle.cluster.specs.Terms.{layoutCells, Topology, topology, partitions, nodeAt, Layout, row, ValidAt, IsSize, IsFormer, distance, cellsOf}
 use Rattle.cluster.specs.TermsReading.{Accepted}
@@ -24,7 +25,6 @@ use Rattle.sizing.proofs.Sizes.{size-best, size-largest, beginning-valid}
 use Rattle.planner.specs.Demand.{Demand3, Rules}
 use Rattle.planner.specs.ModelPlan.{planOf}
 use Rattle.planner.specs.TermsPlan.{unusable, planRefusal, planIn, refusedWith, answered, plannedOf, assignmentAfter}
-use Rattle.planner.proofs.Machines.{few-partitions}
 use Rattle.planner.proofs.Refusals.{Usable, usable-has}
 use Rattle.planner.proofs.Demands.{demand3}
 
@@ -97,8 +97,8 @@ module _ (t : Topology) (acc : Accepted t) where
         arith,
         distance-law t L F (acc .ids) (v .rows) (f .ids),
         former-few t F f,
-        few-partitions t acc,
-        mul-le-mul (acc .replication .1) (few-partitions t acc),
+        few-partitions (t .bits) (acc .bits),
+        mul-le-mul (acc .replication .1) (few-partitions (t .bits) (acc .bits)),
       )
 
   -- The ids of a valid layout are those of nodes, and so have 32 bits where theirs have.
