@@ -38,7 +38,7 @@ use Rattle.circuits.proofs.Improving.{ok-right, witness-graph, turned-length, h
 use Rattle.improve.specs.ModelImprove.{arcsIn, cycleIn, improvesIn, nextIn, ranIn, agreementIn}
 use Rattle.improve.proofs.Runs.{run-keeps, run-ends}
 
--- What a run stands on: the zones of at most as many nodes as a mask holds in the slice of mates, the caps in cells, and a former row for each of the partitions.
+-- What a run stands on: the zones of the nodes in the slice of mates, the caps in cells, and a former row for each of the partitions.
 pub record Ground (P N R Z : ℕ) (zone cap : ℕ → ℕ) (former mates caps : List ℕ) : Type 0 where
   pub partitions : (1 ≤ P) × (P ≤ bufferRows)
   pub copied : 1 ≤ R
