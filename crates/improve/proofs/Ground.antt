@@ -14,7 +14,7 @@ use borrow.Author.Tests.{ne-eqb, le-leb}
 use Rattle.sums.specs.TermsSums.{sumTo, tab}
 use Rattle.sums.proofs.Sum.{lt-or-ge, sum-cong, sum-zero}
 use Rattle.sums.proofs.Tests.{true-or-false}
-use Rattle.sets.specs.ModelBits.{bit, bitsAt, meetOf, belowOf, countOf}
+use Rattle.sets.specs.ModelBits.{maskBits, bit, bitsAt, meetOf, belowOf, countOf}
 use Rattle.sets.proofs.Laws.{bit-le, bit-lt, bit-high, bit-meet, meet-lt, count-sum}
 use Rattle.cells.specs.ModelCells.{put}
 use Rattle.cells.proofs.Cells.{length-put, getD-put-in, length-tab}
@@ -26,19 +26,19 @@ use Rattle.exchange.proofs.Prices.{weigh-le}
 use Rattle.exchange.proofs.Search.{outcome-cycle}
 use Rattle.exchange.proofs.Circuit.{cost-row, cost-store}
 use Rattle.exchange.proofs.Join.{join-potential, no-gain}
-use Rattle.cluster.specs.Terms.{bufferRows}
+use Rattle.cluster.specs.Terms.{mostNodes, bufferRows}
 use Rattle.swaps.specs.ModelMates.{Mates}
 use Rattle.graph.specs.ModelArcs.{arcsOf, cellOf}
 use Rattle.graph.proofs.Members.{any}
 use Rattle.graph.proofs.Exchanges.{graph-exchange, graph-room, graph-witness}
-use Rattle.cycles.specs.ModelGraph.{graphOf, arcOf, weightOf}
+use Rattle.cycles.specs.ModelGraph.{walkCells, arcCells, graphOf, arcOf, weightOf}
 use Rattle.cycles.specs.ModelFound.{searchable, endLength, endWalk, foundLength, foundWalk}
 use Rattle.circuits.specs.ModelCircuits.{turnedOf, okOf, witnessOf}
 use Rattle.circuits.proofs.Improving.{ok-right, witness-graph, turned-length, held-cycle, turned-small, turned-better}
 use Rattle.improve.specs.ModelImprove.{arcsIn, cycleIn, improvesIn, nextIn, ranIn, agreementIn}
 use Rattle.improve.proofs.Runs.{run-keeps, run-ends}
 
--- What a run stands on: the zones of at most 32 nodes in the slice of mates, the caps in cells, and a former row for each of the partitions.
+-- What a run stands on: the zones of the nodes in the slice of mates, the caps in cells, and a former row for each of the partitions.
 pub record Ground (P N R Z : ℕ) (zone cap : ℕ → ℕ) (former mates caps : List ℕ) : Type 0 where
   pub partitions : (1 ≤ P) × (P ≤ bufferRows)
   pub copied : 1 ≤ R
@@ -74,7 +74,7 @@ module _ {P N R Z : ℕ} {zone cap : ℕ → ℕ} {former mates caps : List ℕ}
           let m = meetOf (getD rows p 0) (getD former p 0) in
           let meet = bit-meet (getD rows p 0) (getD former p 0) in
           count-sum N m (G .zones .few)
-          (bit-lt 32 N m (meet-lt (getD rows p 0) (getD former p 0)) (λ i h k. meet i k ∙ omega (arith, bit-high N (getD rows p 0) i (g .small p l) h)))
+          (bit-lt maskBits N m (meet-lt (getD rows p 0) (getD former p 0)) (λ i h k. meet i k ∙ omega (arith, bit-high N (getD rows p 0) i (g .small p l) h)))
           ∙ sum-cong N (λ b. bit m b) (λ b. bitsAt rows p b * bitsAt former p b)
           (λ b k. meet b (omega (arith, G .zones .few)) ∙ times (bitsAt rows p b) (bitsAt former p b) (bit-le (getD rows p 0) b) (light p b))
 
@@ -92,24 +92,24 @@ module _ {P N R Z : ℕ} {zone cap : ℕ → ℕ} {former mates caps : List ℕ}
     abbrev pub graph : Graph
     graph = graphOf arcs N
 
-    blank : 96 ≤ length {A = ℕ} (replicate 96 0)
-    blank = omega (arith, length-replicate {A = ℕ} 96 0)
+    blank : arcCells ≤ length {A = ℕ} (replicate arcCells 0)
+    blank = omega (arith, length-replicate {A = ℕ} arcCells 0)
 
-    arcs-long : 96 ≤ length arcs
+    arcs-long : arcCells ≤ length arcs
     unfolding arcsIn arcsOf
     arcs-long =
         let f = cellOf rows former P mates caps (belowOf N) Z in
-        omega (arith, length-append (tab f 96) (drop 96 (replicate 96 0)), length-tab f 96)
+        omega (arith, length-append (tab f arcCells) (drop arcCells (replicate arcCells 0)), length-tab f arcCells)
 
     exchanges : (p a b : ℕ) → p < P → Exchange N R Z zone any (bitsAt rows) p a b
         → (arcOf arcs a b ≡ 1) × (weightOf arcs a b + bitsAt former p b ≤ 1 + bitsAt former p a)
     unfolding arcsIn
-    exchanges = graph-exchange P N R Z zone rows former mates caps (replicate 96 0) (G .zones) (g .small) (g .within .rows) blank
+    exchanges = graph-exchange P N R Z zone rows former mates caps (replicate arcCells 0) (G .zones) (g .small) (g .within .rows) blank
 
     room : (u v : ℕ) → u < N → v < N → copies P (bitsAt rows) u < cap u → (arcOf arcs u v ≡ 1) × (weightOf arcs u v ≤ 1)
     unfolding arcsIn
     room u v lu lv h =
-        graph-room P N R Z zone rows former mates caps (replicate 96 0) (G .zones) (g .small) (g .within .rows) blank u v lu lv
+        graph-room P N R Z zone rows former mates caps (replicate arcCells 0) (G .zones) (g .small) (g .within .rows) blank u v lu lv
         (omega (arith, G .capped u lu))
 
     there : (u v : ℕ) → u < N → v < N → arcOf arcs u v ≡ 1
@@ -124,7 +124,7 @@ module _ {P N R Z : ℕ} {zone cap : ℕ → ℕ} {former mates caps : List ℕ}
             omega (arith, w .0, cost-store P 1 (bitsAt former) light P u v (omega arith)),
           ),
         ))
-        (graph-witness P N R Z zone rows former mates caps (replicate 96 0) (G .zones) (g .small) (g .within .rows) blank u v lu lv e)
+        (graph-witness P N R Z zone rows former mates caps (replicate arcCells 0) (G .zones) (g .small) (g .within .rows) blank u v lu lv e)
 
     abbrev pub witness : ℕ → ℕ → ℕ
     witness = witnessOf rows former P mates arcs (belowOf N) Z
@@ -141,9 +141,9 @@ module _ {P N R Z : ℕ} {zone cap : ℕ → ℕ} {former mates caps : List ℕ}
         none : N ≡ 0 → sumTo N (bitsAt rows 0) ≡ R → ⊥
         none z e = omega (arith, G .copied, ap (λ (n : ℕ). sumTo n (bitsAt rows 0)) z)
 
-    can-search : searchable arcs N (replicate 33 0) ≡ true
+    can-search : searchable arcs N (replicate walkCells 0) ≡ true
     unfolding searchable
-    can-search = rw (le-leb 1 N some, le-leb N 32 (G .zones .few), le-leb 96 (length arcs) arcs-long)
+    can-search = rw (le-leb 1 N some, le-leb N mostNodes (G .zones .few), le-leb arcCells (length arcs) arcs-long)
 
     found : cycleIn former P mates caps N Z rows ≡ endLength graph (outcome graph)
     unfolding cycleIn foundLength
@@ -182,25 +182,25 @@ module _ {P N R Z : ℕ} {zone cap : ℕ → ℕ} {former mates caps : List ℕ}
       m = cycleLength graph k v
 
       abbrev nodes : List ℕ
-      nodes = foundWalk arcs N (replicate 33 0)
+      nodes = foundWalk arcs N (replicate walkCells 0)
 
-      short : m < length {A = ℕ} (replicate 33 0)
-      short = omega (arith, outcome-cycle graph k v some o .cycle .few, G .zones .few, length-replicate {A = ℕ} 33 0)
+      short : m < length {A = ℕ} (replicate walkCells 0)
+      short = omega (arith, outcome-cycle graph k v some o .cycle .few, G .zones .few, length-replicate {A = ℕ} walkCells 0)
 
-      walked : nodes ≡ put 0 (back graph k v) (m + 1) (replicate 33 0)
+      walked : nodes ≡ put 0 (back graph k v) (m + 1) (replicate walkCells 0)
       unfolding foundWalk endWalk
       walked =
-          ap (λ (b : Bool). cond b (endWalk graph (outcome graph) (replicate 33 0)) (replicate 33 0)) can-search
-          ∙ ap (λ (x : Outcome). endWalk graph x (replicate 33 0)) o
+          ap (λ (b : Bool). cond b (endWalk graph (outcome graph) (replicate walkCells 0)) (replicate walkCells 0)) can-search
+          ∙ ap (λ (x : Outcome). endWalk graph x (replicate walkCells 0)) o
 
       held : (i : ℕ) → i ≤ m → getD nodes i 0 ≡ back graph k v i
       held i l =
           ap (λ (x : List ℕ). getD x i 0) walked
-          ∙ (ap (λ (j : ℕ). getD (put 0 (back graph k v) (m + 1) (replicate 33 0)) j 0) (sym (zero-add i))
-          ∙ getD-put-in 0 (back graph k v) (m + 1) (replicate 33 0) i 0 (omega arith) (omega (arith, short)))
+          ∙ (ap (λ (j : ℕ). getD (put 0 (back graph k v) (m + 1) (replicate walkCells 0)) j 0) (sym (zero-add i))
+          ∙ getD-put-in 0 (back graph k v) (m + 1) (replicate walkCells 0) i 0 (omega arith) (omega (arith, short)))
 
       nodes-long : m < length nodes
-      nodes-long = omega (arith, short, ap length walked, length-put 0 (back graph k v) (m + 1) (replicate 33 0))
+      nodes-long = omega (arith, short, ap length walked, length-put 0 (back graph k v) (m + 1) (replicate walkCells 0))
 
       cycle : IsCycle graph m (λ i. getD nodes i 0)
       cycle =
