@@ -26,7 +26,8 @@ use Rattle.layout_record.specs.RecordLayoutClaims.{Words, WasRecord, Rea
 use Rattle.layout_record.proofs.NumberFields.{few-bits, few-copies}
 use Rattle.layout_record.proofs.HeadExact.{head-refused, head-back, head-found}
 use Rattle.layout_record.proofs.RowsExact.{rows-back, rows-found}
-use Rattle.layout_record.proofs.RowFaults.{few-partitions, fits-formed, fits-zero, formed-fits, zero-fits, Writable, no-fault, write-none}
+use Rattle.cluster.proofs.Accepting.{few-partitions}
+use Rattle.layout_record.proofs.RowFaults.{fits-formed, fits-zero, formed-fits, zero-fits, Writable, no-fault, write-none}
 use Rattle.sums.proofs.Tests.{every-at, every-all}
 use Rattle.layout_record.proofs.RowSteps.{read-halted, read-on, read-short, read-long, long-set, write-accepted}
 

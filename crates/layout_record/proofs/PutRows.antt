@@ -22,7 +22,8 @@ use Rattle.layout_record.specs.RecordLayoutFaults.{rowFits, rowsFit}
 use Rattle.fields.proofs.Puts.{put-next, put-body}
 use Rattle.layout_record.proofs.NumberFields.{few-bits, length-head}
 use Rattle.layout_record.proofs.RecordLaws.{length-row, rows-snoc, length-rows, rowsIn-more}
-use Rattle.layout_record.proofs.RowFaults.{fits-formed, few-partitions, Writable}
+use Rattle.cluster.proofs.Accepting.{few-partitions}
+use Rattle.layout_record.proofs.RowFaults.{fits-formed, Writable}
 use Rattle.sums.proofs.Tests.{every-at}
 
 -- A row: the head of its field, its partition, its ids.

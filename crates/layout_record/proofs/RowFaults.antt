@@ -9,10 +9,9 @@ use native.Mathlib.Nat.{mul-le-mul}
 use native.Mathlib.Omega.{arith}
 use lib.Dec.{eqb}
 use lib.ListN.{length}
-use lib.Pow.{pow-mono}
 use borrow.Author.Tests.{le-leb, lt-leb, lt-ltb, le-ltb, eq-eqb, ne-eqb, eqb-true}
 use Rattle.sums.proofs.Sum.{lt-or-ge}
-use Rattle.cluster.specs.Terms.{mostBits, mostCopies, bufferRows, layoutCells, Layout, mem, rising, rowAt, idsIn, blank, formed}
+use Rattle.cluster.specs.Terms.{mostCopies, bufferRows, layoutCells, Layout, mem, rising, rowAt, idsIn, blank, formed}
 use Rattle.cluster.specs.ModelRows.{rowIds, rowIsBlank}
 use Rattle.sums.proofs.Tests.{both, true-or-false}
 use Rattle.cluster.proofs.RowScans.{formed-row-ids, ill-row-ids, row-of-buffer}
@@ -60,10 +59,7 @@ module _ (s : List ℕ) (at : ℕ) (n : Numbers) (L : Layout) where
 
 -- ---- the size of a record
 
--- There are at most 256 partitions, and so many rows of at most 37 bytes.
-pub few-partitions : (bits : ℕ) → bits ≤ mostBits → 2 ^ bits ≤ bufferRows
-few-partitions bits h = pow-mono h
-
+-- The rows of a record, of at most 37 bytes each.
 pub few-bytes : (p w : ℕ) → p ≤ bufferRows → w ≤ 37 → p * w ≤ 9472
 few-bytes p w h k = mul-le-mul h k
 

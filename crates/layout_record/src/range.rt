@@ -1,6 +1,6 @@
 // The faults of what is to be written, and the record's length.
 ghost use mathlib.Core.Path.{_≡_};
-ghost use Prim.Native.Nat.{_^_, _≤_, _<_};
+ghost use Prim.Native.Nat.{_≤_, _<_};
 ghost use lib.ListN.{length};
 ghost use Rattle.cluster.specs.Terms.{mostBits, mostCopies, bufferRows, layoutCells};
 ghost use Rattle.layout_record.specs.RecordLayout.{inRange, recordLength};
@@ -17,20 +17,12 @@ pub const HEAD_BYTES: usize = 29;
 // The bytes of a row's field before its ids.
 pub const ROW: usize = 5;
 
-// The number of partitions.
-pub(crate) fn partitions(bits: u32) -> usize
-    requires { ⌜ bits ≤ mostBits ⌝ }
-    ensures { λ r. ⌜ r ≡ 2 ^ bits ⌝ }
-{
-    1 << bits
-}
-
 // The length of a record.
 pub(crate) fn record_length(bits: u32, replication: u32) -> usize
     requires { ⌜ (bits ≤ mostBits) × (replication ≤ mostCopies) ⌝ }
     ensures { λ r. ⌜ r ≡ recordLength bits replication ⌝ }
 {
-    HEAD_BYTES + partitions(bits) * (ROW + 4 * (replication as usize))
+    HEAD_BYTES + cluster::partitions(bits) * (ROW + 4 * (replication as usize))
 }
 
 // Whether each number is in its range.
@@ -85,7 +77,11 @@ pub fn write_fault(numbers: Numbers, cells: &[u32], room: usize) -> u32
     if !in_range(numbers) {
         return refusal::RANGE;
     }
-    if !rows_fit(cells, partitions(numbers.bits), numbers.replication) {
+    if !rows_fit(
+        cells,
+        cluster::partitions(numbers.bits),
+        numbers.replication,
+    ) {
         return refusal::ROW;
     }
     if room < record_length(numbers.bits, numbers.replication) {

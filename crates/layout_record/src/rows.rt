@@ -12,7 +12,6 @@ use super::ReadLayout;
 use super::head;
 use super::head::Head;
 use super::ids;
-use super::range;
 use super::refused;
 use cluster::Cluster;
 use cluster::refusal;
@@ -62,7 +61,7 @@ fn read_rows(bytes: &[u8], from: usize, numbers: Numbers, cells: &mut [u32]) -> 
     ensures { λ r. ⌜ (r ≡ layoutAnswer (rowsFrom (2 ^ (numbers .bits)) (now (bytes .entry)) from numbers []))
         × (r .refusal ≡ 0 → now (cells .exit) ≡ cellsOf (rowsFrom (2 ^ (numbers .bits)) (now (bytes .entry)) from numbers [] .layout)) ⌝ }
 {
-    let partitions = range::partitions(numbers.bits);
+    let partitions = cluster::partitions(numbers.bits);
     let count = numbers.replication as usize;
     let mut at = from;
     let mut next = 0;

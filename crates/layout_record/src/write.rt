@@ -103,7 +103,7 @@ pub(crate) fn put_record(numbers: Numbers, cells: &[u32], out: &mut [u8])
     put_rows(
         out,
         cells,
-        range::partitions(numbers.bits),
+        cluster::partitions(numbers.bits),
         numbers.replication as usize,
     );
 }

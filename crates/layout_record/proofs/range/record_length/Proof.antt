@@ -3,9 +3,10 @@
 use borrow.Author.Needs.{needs}
 use native.Mathlib.Omega.{arith}
 use Prim.Native.Nat.{ℕ, _+_, _-_, _*_, _≤_}
-use mathlib.Core.Path.{ap}
+use mathlib.Core.Path.{ap, _∙_}
 use Rattle.layout_record.specs.RecordLayout.{recordLength}
-use Rattle.layout_record.proofs.RowFaults.{few-partitions, few-bytes}
+use Rattle.layout_record.proofs.RowFaults.{few-bytes}
+use Rattle.cluster.proofs.Accepting.{partitions-in-range}
 use Rattle.layout_record.proofs.range.record_length.Statement.{statement}
 use Rattle.layout_record.proofs.range.record_length.Tie as tie
 
@@ -13,7 +14,7 @@ use Rattle.layout_record.proofs.range.record_length.Tie as tie
 bytes : (c : tie.After-partitions) → c .partitions .result * (5 + 4 * c .before .args .replication) ≤ 9472
 bytes c =
     let a = c .before .args in
-    few-bytes (c .partitions .result) (5 + 4 * a .replication) (omega (arith, c .partitions .ensures, few-partitions (a .bits) (omega arith))) (omega arith)
+    few-bytes (c .partitions .result) (5 + 4 * a .replication) (c .partitions .ensures .1) (omega arith)
 
 partitions-requires : tie.Need-partitions-requires
 partitions-requires c κs = search needs
@@ -32,7 +33,7 @@ add-result-2 c = omega (arith, bytes c)
 
 returns : tie.Need-returns
 unfolding recordLength
-returns c = let a = c .before .args in ap (λ (k : ℕ). 29 + k * (5 + 4 * a .replication)) (c .partitions .ensures)
+returns c = let a = c .before .args in ap (λ (k : ℕ). 29 + k * (5 + 4 * a .replication)) (c .partitions .ensures .0 ∙ partitions-in-range (a .bits) (omega arith))
 
 pub record-length-spec : {M : Type 1} → statement M
 record-length-spec =

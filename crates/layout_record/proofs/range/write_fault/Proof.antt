@@ -11,6 +11,7 @@ use Rattle.layout_record.specs.RecordLayout.{inRange}
 use Rattle.layout_record.specs.RecordLayoutFaults.{rowsFit}
 use Rattle.layout_record.proofs.RowFaults.{write-cells, write-numbers, write-rows, write-room, write-none}
 use Rattle.layout_record.proofs.NumberFields.{few-bits, few-copies}
+use Rattle.cluster.proofs.Accepting.{partitions-in-range}
 use Rattle.layout_record.proofs.range.write_fault.Statement.{statement}
 use Rattle.layout_record.proofs.range.write_fault.Tie as tie
 
@@ -21,11 +22,16 @@ fit c = let r = c .before .in-range in sym (r .ensures) ∙ not-false (r .result
 copies : (c : tie.Else2) → let n = c .before .before .before .before .args .numbers in (1 ≤ n .replication) × (n .replication ≤ mostCopies)
 copies c = few-copies (c .before .before .before .before .args .numbers) (fit c)
 
+made : (p : tie.After-partitions) → p .partitions .result ≡ 2 ^ (p .before .before .before .before .before .args .numbers .bits)
+made p =
+    let n = p .before .before .before .before .before .args .numbers in
+    p .partitions .ensures .0 ∙ partitions-in-range (n .bits) (few-bits n (fit (p .before)))
+
 right : (c : tie.Else3) → let a = c .before .before .before .before .before .before .before .args in rowsFit (a .cells .now) (2 ^ (a .numbers .bits)) (a .numbers .replication) ≡ true
 right c =
     let a = c .before .before .before .before .before .before .before .args in
     let r = c .before .rows-fit in
-    ap (λ (k : ℕ). rowsFit (a .cells .now) k (a .numbers .replication)) (sym (c .before .before .partitions .ensures)) ∙ (sym (r .ensures) ∙ not-false (r .result) (c .if3 .left))
+    ap (λ (k : ℕ). rowsFit (a .cells .now) k (a .numbers .replication)) (sym (made (c .before .before))) ∙ (sym (r .ensures) ∙ not-false (r .result) (c .if3 .left))
 
 returns : tie.Need-returns
 returns c = let a = c .before .before .args in sym (write-cells (a .numbers) (a .cells .now) (a .room) (c .if1 .taken))
@@ -40,7 +46,7 @@ returns-2 c =
     sym (write-numbers (a .numbers) (a .cells .now) (a .room) (omega arith) (sym (k .in-range .ensures) ∙ not-true (k .in-range .result) (c .if2 .taken)))
 
 partitions-requires : tie.Need-partitions-requires
-partitions-requires c κs = few-bits (c .before .before .before .before .args .numbers) (fit c)
+partitions-requires c κs = search needs
 
 rows-fit-requires : tie.Need-rows-fit-requires
 rows-fit-requires c κs = (omega arith, copies (c .before) .1)
@@ -51,7 +57,7 @@ returns-3 c =
     let a = e .before .before .before .before .args in
     let r = c .before .rows-fit in
     sym (write-rows (a .numbers) (a .cells .now) (a .room) (omega arith) (fit e)
-    (ap (λ (k : ℕ). rowsFit (a .cells .now) k (a .numbers .replication)) (sym (c .before .before .partitions .ensures)) ∙ (sym (r .ensures) ∙ not-true (r .result) (c .if3 .taken))))
+    (ap (λ (k : ℕ). rowsFit (a .cells .now) k (a .numbers .replication)) (sym (made (c .before .before))) ∙ (sym (r .ensures) ∙ not-true (r .result) (c .if3 .taken))))
 
 record-length-requires : tie.Need-record-length-requires
 record-length-requires c κs =

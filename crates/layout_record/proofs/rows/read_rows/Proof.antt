@@ -15,7 +15,7 @@ use Rattle.layout_record.specs.declared.ReadLayout.{ReadLayout}
 use Rattle.layout_record.specs.RecordLayoutFaults.{LayoutRead, layoutRefused, layoutRowFault, rowsFrom}
 use Rattle.layout_record.specs.RecordLayoutAnswer.{layoutAnswer}
 use Rattle.layout_record.proofs.FieldFaults.{next-refused}
-use Rattle.layout_record.proofs.RowFaults.{few-partitions}
+use Rattle.cluster.proofs.Accepting.{partitions-in-range}
 use Rattle.layout_record.proofs.RowSteps.{rows-stop, rows-fault, rows-on, rows-done, end-layout, cells-next}
 use Rattle.layout_record.proofs.rows.read_rows.Statement.{statement}
 use Rattle.layout_record.proofs.rows.read_rows.Tie as tie
@@ -41,7 +41,11 @@ sized : (k : tie.At-loop Inv-loop μ-loop) → length (k .loop .cells) ≡ layou
 sized k = k .loop .inv .1 ∙ (ap length (start k .pre .3) ∙ length-cellsOf [])
 
 few : (k : tie.At-loop Inv-loop μ-loop) → k .before .before .partitions .result ≤ bufferRows
-few k = omega (arith, k .before .before .partitions .ensures, few-partitions (start k .args .numbers .bits) (start k .pre .0))
+few k = k .before .before .partitions .ensures .1
+
+-- So many are there as the bits say.
+made : (p : tie.After-partitions Inv-loop μ-loop) → p .partitions .result ≡ 2 ^ (p .before .before .before .args .numbers .bits)
+made p = let a = p .before .before .before in p .partitions .ensures .0 ∙ partitions-in-range (a .args .numbers .bits) (a .pre .0)
 
 -- What is known of a row's field.
 whole : (c : tie.After-known-told Inv-loop μ-loop) → let k = c .before .before .before .before .before in
@@ -71,7 +75,7 @@ faulted c =
     let g = c .before .before .f .given .0 in
     c .row-fault .ensures
     ∙ ap₂ (λ (x y : ℕ). layoutRowFault x y (numberAt (a .bytes .now) (g .1 .0) 2) (idsAt (a .bytes .now) (g .1 .0 + 2) (a .numbers .replication)))
-    (k .before .before .partitions .ensures) (sym (k .loop .inv .2 .1))
+    (made (k .before .before)) (sym (k .loop .inv .2 .1))
 
 partitions-requires : tie.Need-partitions-requires Inv-loop μ-loop
 partitions-requires c κs = search needs
@@ -89,7 +93,7 @@ loop-holds c =
         [],
         refl,
         a .pre .3,
-        ap (λ (k : ℕ). rowsFrom k (a .args .bytes .now) (a .args .from) (a .args .numbers) []) (sym (p .partitions .ensures) ∙ sym (sub-zero (p .partitions .result))),
+        ap (λ (k : ℕ). rowsFrom k (a .args .bytes .now) (a .args .from) (a .args .numbers) []) (sym (made p) ∙ sym (sub-zero (p .partitions .result))),
       ),
     )
 

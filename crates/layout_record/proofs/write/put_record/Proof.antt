@@ -2,15 +2,16 @@
 -- Assumes nothing.
 use borrow.Author.Needs.{needs}
 use native.Mathlib.Omega.{arith}
-use Prim.Native.Nat.{ℕ, _-_}
-use mathlib.Core.Path.{ap, _∙_}
+use Prim.Native.Nat.{ℕ, _-_, _^_}
+use mathlib.Core.Path.{_≡_, ap, _∙_}
 use lib.ListN.{length}
 use Rattle.cluster.specs.Terms.{rowsIn}
 use Rattle.fields.specs.RecordField.{over}
 use Rattle.fields.proofs.Written.{length-written}
 use Rattle.layout_record.specs.RecordLayout.{headFields, layoutRecord}
 use Rattle.layout_record.specs.RecordLayoutFaults.{rowsFit}
-use Rattle.layout_record.proofs.RowFaults.{few-partitions, Writable, no-fault}
+use Rattle.cluster.proofs.Accepting.{partitions-in-range}
+use Rattle.layout_record.proofs.RowFaults.{Writable, no-fault}
 use Rattle.layout_record.proofs.NumberFields.{few-bits, few-copies}
 use Rattle.layout_record.proofs.PutRows.{head-room, rows-room, whole-room, put-whole}
 use Rattle.layout_record.proofs.write.put_record.Statement.{statement}
@@ -20,11 +21,17 @@ use Rattle.layout_record.proofs.write.put_record.Tie as tie
 can : (c : tie.Start) → Writable (c .args .numbers) (c .args .cells .now) (length (c .args .out .now))
 can c = no-fault (c .args .numbers) (c .args .cells .now) (length (c .args .out .now)) (c .pre)
 
+-- There are as many partitions as the bits say.
+made : (p : tie.After-partitions) → p .partitions .result ≡ 2 ^ (p .before .before .before .before .before .before .before .before .args .numbers .bits)
+made p =
+    let k = p .before .before .before .before .before .before .before .before in
+    p .partitions .ensures .0 ∙ partitions-in-range (k .args .numbers .bits) (few-bits (k .args .numbers) (can k .fit))
+
 put-numbers-requires : tie.Need-put-numbers-requires
 put-numbers-requires c κs = let k = c .before .before .before in omega (arith, head-room (k .args .numbers) (k .args .cells .now) (length (k .args .out .now)) (can k))
 
 partitions-requires : tie.Need-partitions-requires
-partitions-requires c κs = let k = c .before .before .before .before .before .before .before in few-bits (k .args .numbers) (can k .fit)
+partitions-requires c κs = search needs
 
 cast-put-rows : tie.Need-cast-put-rows
 cast-put-rows c = search needs
@@ -34,10 +41,10 @@ put-rows-requires c κs =
     let n = c .before .before .before .before .before in
     let k = n .before .before .before .before in
     let a = k .args in
-    let e = c .before .partitions .ensures in (
+    let e = made (c .before) in (
       omega (arith, rows-room (a .numbers) (a .cells .now) (length (a .out .now)) _ e (can k), ap length (n .put-numbers .ensures) ∙ length-written (a .out .now) 0 (headFields (a .numbers))),
       omega (arith, can k .whole),
-      omega (arith, e, few-partitions (a .numbers .bits) (few-bits (a .numbers) (can k .fit))),
+      c .before .partitions .ensures .1,
       few-copies (a .numbers) (can k .fit) .1,
       ap (λ (p : ℕ). rowsFit (a .cells .now) p (a .numbers .replication)) e ∙ can k .rows,
     )
@@ -48,7 +55,7 @@ same-length c = search needs
 returns : tie.Need-returns
 returns c =
     let r = c .before .before in
-    let e = r .before .before .partitions .ensures in
+    let e = made (r .before .before) in
     let n = r .before .before .before .before .before .before in
     let k = n .before .before .before .before in
     let a = k .args in
