@@ -4,7 +4,7 @@
 use Prim.Native.Nat.{ℕ, _+_, _*_, _^_, _≤_, _<_}
 use mathlib.Core.Path.{_≡_, refl, sym, ap, ap₂, _∙_, subst}
 use mathlib.Core.Bool.{true}
-use mathlib.Core.List.{List, _++_}
+use mathlib.Core.List.{List, [], _++_}
 use native.Mathlib.Omega.{arith}
 use lib.ListN.{length, take, drop, length-append}
 use lib.Seq.{take-at}
@@ -27,7 +27,7 @@ use Rattle.planner.proofs.Refusals.{Usable, usable, lent-former}
 use Rattle.layout_record.specs.declared.Numbers.{Numbers}
 use Rattle.layout_record.specs.declared.ReadLayout.{ReadLayout}
 use Rattle.layout_record.specs.declared.Written.{Written}
-use Rattle.layout_record.specs.RecordLayout.{allHold, inRange, HasLayout, layoutRecord, recordLength}
+use Rattle.layout_record.specs.RecordLayout.{entryAt, allHold, inRange, HasLayout, layoutRecord, recordLength}
 use Rattle.layout_record.specs.RecordLayoutAnswer.{readLayoutOf, assignmentRead, writeAnswer, outAfter}
 use Rattle.layout_record.specs.RecordLayoutClaims.{ReadsLayout, WritesLayout}
 use Rattle.layout_record.proofs.RecordLaws.{length-record}
@@ -131,12 +131,12 @@ module _ (c : Cluster) (former : List ℕ) (allowance : ℕ) (assignment scratch
           let distance : r .distance ≤ mostDistance = omega (arith, ap (λ (x : Planned). x .distance) answer, rules .measured allowance) in
           let improvements : r .improvements ≤ mostImprovements =
           omega (arith, ap (λ (x : Planned). x .improvements) answer, few-improvements t (demand .beginning) F allowance rules) in
-          more-hold _ _ _ _ (omega arith) (acc .bits)
-          (more-hold _ _ _ _ (acc .replication .0) (acc .replication .1)
-          (more-hold _ _ _ _ (omega arith) (omega arith)
-          (more-hold _ _ _ _ (omega arith) distance
-          (more-hold _ _ _ _ (omega arith) (one-if-le (r .finished))
-          (more-hold _ _ _ _ (omega arith) improvements refl)))))
+          more-hold (entryAt 0) _ (n .bits) _ (omega arith) (acc .bits)
+          (more-hold (entryAt 1) _ (n .replication) _ (acc .replication .0) (acc .replication .1)
+          (more-hold (entryAt 2) _ (n .size) _ (omega arith) (omega arith)
+          (more-hold (entryAt 3) _ (n .distance) _ (omega arith) distance
+          (more-hold (entryAt 4) _ (n .verdict) _ (omega arith) (one-if-le (r .finished))
+          (more-hold (entryAt 5) [] (n .improvements) [] (omega arith) improvements refl)))))
 
       has-layout : HasLayout n L
       has-layout = record {
