@@ -4,15 +4,16 @@
 use Prim.Native.Nat.{ℕ, _+_, _*_, _^_, _≤_, _<_}
 use mathlib.Core.Path.{_≡_, refl, sym, ap, ap₂, _∙_, subst}
 use mathlib.Core.Bool.{true}
-use mathlib.Core.List.{List, [], _++_}
+use mathlib.Core.List.{List, _++_}
 use native.Mathlib.Omega.{arith}
 use lib.ListN.{length, take, drop, length-append}
 use lib.Seq.{take-at}
-use Rattle.cluster.specs.Terms.{layoutCells, scratchCells, mostDistance, mostImprovements, Topology, topology, partitions, nodeAt, Layout, ValidAt, IsFormer, distance, cellsOf, rowsIn}
+use Rattle.cluster.specs.Terms.{mostBits, mostCopies, mostSize, mostDistance, mostVerdict, mostImprovements, layoutCells, scratchCells, Topology, topology, partitions, nodeAt, Layout, ValidAt, IsFormer, distance, cellsOf, rowsIn}
 use Rattle.cluster.specs.ModelRows.{FitsCells, HoldsRows}
 use Rattle.cluster.specs.TermsReading.{Accepted}
 use Rattle.cluster.specs.declared.Cluster.{Cluster}
 use Rattle.cluster.proofs.Accepting.{accepted}
+use borrow.Author.Tests.{le-leb}
 use Rattle.sums.proofs.Tests.{one-if-le}
 use Rattle.cluster.proofs.CellLayouts.{length-cellsOf, rowsIn-written, holds-cellsOf, holds-append}
 use Rattle.masks.proofs.Laws.{holds-formed}
@@ -27,11 +28,10 @@ use Rattle.planner.proofs.Refusals.{Usable, usable, lent-former}
 use Rattle.layout_record.specs.declared.Numbers.{Numbers}
 use Rattle.layout_record.specs.declared.ReadLayout.{ReadLayout}
 use Rattle.layout_record.specs.declared.Written.{Written}
-use Rattle.layout_record.specs.RecordLayout.{entryAt, allHold, inRange, HasLayout, layoutRecord, recordLength}
+use Rattle.layout_record.specs.RecordLayout.{allHold, inRange, HasLayout, layoutRecord, recordLength}
 use Rattle.layout_record.specs.RecordLayoutAnswer.{readLayoutOf, assignmentRead, writeAnswer, outAfter}
 use Rattle.layout_record.specs.RecordLayoutClaims.{ReadsLayout, WritesLayout}
 use Rattle.layout_record.proofs.RecordLaws.{length-record}
-use Rattle.layout_record.proofs.NumberFields.{more-hold}
 use Rattle.layout_record.proofs.Exact.{writes-layout, reads-record}
 use Rattle.whole.specs.TermsWhole.{planNumbers, Stays}
 use Rattle.whole.proofs.Alike.{distance-self, distance-none}
@@ -131,12 +131,20 @@ module _ (c : Cluster) (former : List ℕ) (allowance : ℕ) (assignment scratch
           let distance : r .distance ≤ mostDistance = omega (arith, ap (λ (x : Planned). x .distance) answer, rules .measured allowance) in
           let improvements : r .improvements ≤ mostImprovements =
           omega (arith, ap (λ (x : Planned). x .improvements) answer, few-improvements t (demand .beginning) F allowance rules) in
-          more-hold (entryAt 0) _ (n .bits) _ (omega arith) (acc .bits)
-          (more-hold (entryAt 1) _ (n .replication) _ (acc .replication .0) (acc .replication .1)
-          (more-hold (entryAt 2) _ (n .size) _ (omega arith) (omega arith)
-          (more-hold (entryAt 3) _ (n .distance) _ (omega arith) distance
-          (more-hold (entryAt 4) _ (n .verdict) _ (omega arith) (one-if-le (r .finished))
-          (more-hold (entryAt 5) [] (n .improvements) [] (omega arith) improvements refl)))))
+          simp (
+            le-leb 0 (n .bits) (omega arith),
+            le-leb (n .bits) mostBits (acc .bits),
+            le-leb 1 (n .replication) (acc .replication .0),
+            le-leb (n .replication) mostCopies (acc .replication .1),
+            le-leb 1 (n .size) (omega arith),
+            le-leb (n .size) mostSize (omega arith),
+            le-leb 0 (n .distance) (omega arith),
+            le-leb (n .distance) mostDistance distance,
+            le-leb 0 (n .verdict) (omega arith),
+            le-leb (n .verdict) mostVerdict (one-if-le (r .finished)),
+            le-leb 0 (n .improvements) (omega arith),
+            le-leb (n .improvements) mostImprovements improvements,
+          )
 
       has-layout : HasLayout n L
       has-layout = record {
