@@ -1,7 +1,4 @@
--- The terms of document 01: its limits; cluster, layout, row, valid at a size, the size of a cluster, former layout, distance; how layouts stand
--- in lent cells; the faults of a cluster in hand. They speak of the nodes in use and of the first P rows alone, and quantify over all layouts.
--- Every claim of this repository about planning, checking and records rests on these definitions; they have to be right by reading. "Box" in
--- the papers is a node here.
+-- The terms of document 01, on which all claims rest: they have to be right by reading. "Box" in the papers is a node here.
 -- Assumes nothing.
 use Prim.Native.Nat.{ℕ, _+_, _*_, _^_, _/_, _%_, _≤_, _<_}
 use mathlib.Core.Path.{_≡_}
@@ -43,32 +40,7 @@ layoutCells = bufferRows * rowCells
 abbrev pub scratchCells : ℕ
 scratchCells = 16384
 
--- "a lent buffer of 64 cells": two for each node
-abbrev pub figureCells : ℕ
-figureCells = 2 * mostNodes
-
--- ---- the limits of what is said of a layout
-
--- "6 size (4 bytes, at least 1)"
-abbrev pub mostSize : ℕ
-mostSize = 4294967295
-
--- "7 distance (2, at most 4,096)"
-abbrev pub mostDistance : ℕ
-mostDistance = 4096
-
--- "8 verdict (1: 1 finished, 0 stopped)"
-abbrev pub mostVerdict : ℕ
-mostVerdict = 1
-
--- "9 improvements (2, at most 2,048)"
-abbrev pub mostImprovements : ℕ
-mostImprovements = 2048
-
--- ---- the cluster
-
--- "A cluster has partition bits k, replication R, zone redundancy Z and boxes": its numbers and the nodes in use, and nothing of the slots
--- that are not in use.
+-- "A cluster has partition bits k, replication R, zone redundancy Z and boxes": its numbers and the nodes in use.
 pub record Topology : Type 0 where
   pub bits : ℕ
   pub replication : ℕ
@@ -95,7 +67,7 @@ nodeAt t b = getD (t .nodes) b noNode
 unfoldable pub idsOf : List Node → List ℕ
 idsOf l = map (λ (n : Node). n .id) l
 
--- ---- rows and layouts
+-- ---- rows and layouts, the size, the former layout, the distance; layouts in lent cells; the faults of a cluster in hand
 
 -- Whether a number stands in a list.
 unfoldable pub mem : ℕ → List ℕ → Bool
@@ -162,8 +134,6 @@ pub record IsSize (t : Topology) (s : ℕ) : Type 0 where
   pub reached : (L : Layout) × ValidAt t L s
   pub largest : (L : Layout) (s′ : ℕ) → ValidAt t L s′ → s′ ≤ s
 
--- ---- the former layout, and the distance
-
 -- "The former layout gives each partition 0 to 8 ids, which may name boxes now gone."
 pub record IsFormer (t : Topology) (F : Layout) : Type 0 where
   pub partition-rows : length F ≡ partitions t
@@ -178,8 +148,6 @@ onlyIn (x ∷ xs) r = one-if (not (mem x r)) + onlyIn xs r
 -- "The distance is the number of pairs (id, partition) standing in one of the two layouts and not in both, gone boxes included."
 unfoldable pub distance : Topology → Layout → Layout → ℕ
 distance t L F = sumTo (partitions t) (λ p. onlyIn (row L p) (row F p) + onlyIn (row F p) (row L p))
-
--- ---- layouts in lent cells
 
 -- "eight to a partition, rising ids first, then zeros; rows from P on are zero": cell 8 p + j holds id j of row p, and 0 where there is none.
 unfoldable pub cellsOf : Layout → List ℕ
@@ -211,16 +179,12 @@ formed l = formedFrom 0 l
 unfoldable pub rowsIn : ℕ → List ℕ → Layout
 rowsIn n cells = tab (λ p. idsIn (rowAt cells p)) n
 
--- ---- the faults of a cluster in hand
-
 -- "bits, replication, redundancy or an id out of range": k 0 to 8, R 1 to 8, Z 1 to R, an id never 0.
 unfoldable pub outOfRange : Topology → Bool
 outOfRange t =
-    ltb mostBits (t .bits) || eqb (t .replication) 0 || ltb mostCopies (t .replication) || eqb (t .redundancy) 0
-    || ltb (t .replication) (t .redundancy) || mem 0 (idsOf (t .nodes))
+    ltb mostBits (t .bits) || eqb (t .replication) 0 || ltb mostCopies (t .replication) || eqb (t .redundancy) 0 || ltb (t .replication) (t .redundancy)
+    || mem 0 (idsOf (t .nodes))
 
 -- "6: more than 32 boxes. 4: bits, replication, redundancy or an id out of range. 5: ids not rising"; 0 where there is no fault.
 unfoldable pub faultOf : Cluster → ℕ
-faultOf c =
-    cond (ltb mostNodes (c .count)) 6
-    (cond (outOfRange (topology c)) 4 (cond (rising (idsOf (topology c .nodes))) 0 5))
+faultOf c = cond (ltb mostNodes (c .count)) 6 (cond (outOfRange (topology c)) 4 (cond (rising (idsOf (topology c .nodes))) 0 5))

@@ -1,12 +1,37 @@
--- What a reading or a change of a cluster yields: the cluster with no nodes, a cluster in its slots, and what holds of a cluster without fault.
+-- What records and figures need beside the terms of planning and check: their limits, the cluster with no nodes, a cluster in its slots, and
+-- what holds of a cluster without fault.
 -- Assumes nothing.
-use Prim.Native.Nat.{_-_, _≤_}
+use Prim.Native.Nat.{ℕ, _-_, _*_, _≤_}
 use mathlib.Core.Path.{_≡_}
 use mathlib.Core.Bool.{true}
 use mathlib.Core.List.{_++_}
 use lib.ListN.{length, replicate}
 use Rattle.cluster.specs.Terms.{Topology, noNode, idsOf, rising, mostBits, mostCopies, mostNodes}
 use Rattle.cluster.specs.declared.Cluster.{Cluster}
+
+-- ---- the limits of figures and of a layout record
+
+-- "a lent buffer of 64 cells": two for each node
+abbrev pub figureCells : ℕ
+figureCells = 2 * mostNodes
+
+-- "6 size (4 bytes, at least 1)"
+abbrev pub mostSize : ℕ
+mostSize = 4294967295
+
+-- "7 distance (2, at most 4,096)"
+abbrev pub mostDistance : ℕ
+mostDistance = 4096
+
+-- "8 verdict (1: 1 finished, 0 stopped)"
+abbrev pub mostVerdict : ℕ
+mostVerdict = 1
+
+-- "9 improvements (2, at most 2,048)"
+abbrev pub mostImprovements : ℕ
+mostImprovements = 2048
+
+-- ---- clusters that are read
 
 -- "the cluster with no boxes has k 0, R 1 and Z 1"; "Box slots not in use are zero"
 abbrev pub noNodes : Cluster

@@ -6,7 +6,8 @@ use mathlib.Core.Bool.{Bool, true, false, _&&_}
 use mathlib.Core.List.{List, [], _∷_, _++_}
 use lib.Dec.{leb}
 use lib.ListN.{length, getD}
-use Rattle.cluster.specs.Terms.{mostBits, mostCopies, mostSize, mostDistance, mostVerdict, mostImprovements, Layout, row, rising}
+use Rattle.cluster.specs.Terms.{mostBits, mostCopies, Layout, row, rising}
+use Rattle.cluster.specs.TermsReading.{mostSize, mostDistance, mostVerdict, mostImprovements}
 use Rattle.fields.specs.RecordField.{bytesOf, field, idBytes}
 use Rattle.layout_record.specs.declared.Numbers.{Numbers}
 use Rattle.layout_record.specs.declared.table.Entry.{Entry}

@@ -16,7 +16,8 @@ use Rattle.sums.specs.ModelSums.{is}
 use Rattle.sums.proofs.Sum.{is-times, not-times, lt-or-ge, sum-cong}
 use Rattle.cells.specs.ModelCells.{put}
 use Rattle.cells.proofs.Cells.{length-tab, put-cong}
-use Rattle.cluster.specs.Terms.{mostNodes, figureCells, Topology, topology, partitions, noNode, nodeAt, copiesIn, rowAt, rowsIn}
+use Rattle.cluster.specs.Terms.{mostNodes, Topology, topology, partitions, noNode, nodeAt, copiesIn, rowAt, rowsIn}
+use Rattle.cluster.specs.TermsReading.{figureCells}
 use Rattle.cluster.specs.declared.Cluster.{Cluster}
 use Rattle.cluster.specs.declared.Node.{Node}
 use Rattle.cluster.proofs.Slots.{node-slot}

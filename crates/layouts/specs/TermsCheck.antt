@@ -53,10 +53,8 @@ nodesFault t L size = firstFault (length (t .nodes)) 0 (λ b. fault (nodeFault t
 -- "8, 6, 4 (size 0 included) and 5 for the boxes, as in planning. Then rows in order .. Then boxes in order"
 unfoldable pub checkOf : Cluster → List ℕ → ℕ → Checked
 checkOf c cells size =
-    cond (ltb (length cells) layoutCells) (fault 8 0)
-    (orElse (fault (clusterFault c size) 0)
-    (orElse (rowsFault (topology c) cells)
-    (nodesFault (topology c) (rowsIn (partitions (topology c)) cells) size)))
+    cond (ltb (length cells) layoutCells) (fault 8 0) (orElse (fault (clusterFault c size) 0)
+    (orElse (rowsFault (topology c) cells) (nodesFault (topology c) (rowsIn (partitions (topology c)) cells) size)))
 
 -- "a check passes just the layouts valid at the size named": the cluster has no fault, and the 2,048 cells are those of such a layout.
 pub record Passes (c : Cluster) (cells : List ℕ) (size : ℕ) : Type 0 where

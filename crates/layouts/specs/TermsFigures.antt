@@ -6,7 +6,8 @@ use lib.Dec.{ltb, eqb}
 use lib.ListN.{length, drop}
 use Rattle.sums.specs.TermsSums.{sumTo, one-if, tab}
 use mathlib.Core.Bool.{cond}
-use Rattle.cluster.specs.Terms.{mostNodes, figureCells, Topology, topology, partitions, nodeAt, Layout, copiesIn, rowsIn}
+use Rattle.cluster.specs.Terms.{mostNodes, Topology, topology, partitions, nodeAt, Layout, copiesIn, rowsIn}
+use Rattle.cluster.specs.TermsReading.{figureCells}
 use Rattle.cluster.specs.declared.Cluster.{Cluster}
 use Rattle.layouts.specs.declared.check.Checked.{Checked}
 use Rattle.layouts.specs.declared.figures.Figured.{Figured}

@@ -1,11 +1,12 @@
 -- Demand 3, in the terms of document 01 alone: what is claimed of the answers of planning at all allowances together.
 -- Assumes nothing.
-use mathlib.Core.List.{[]}
 use Prim.Native.Nat.{ℕ, suc, _+_, _*_, _≤_, _<_, min}
 use mathlib.Core.Path.{_≡_}
 use mathlib.Core.Bool.{Bool, true, false}
+use mathlib.Core.List.{[]}
 use lib.ListN.{length}
-use Rattle.cluster.specs.Terms.{mostImprovements, Topology, partitions, Layout, row, ValidAt, IsSize, IsFormer, distance}
+use Rattle.cluster.specs.TermsReading.{mostImprovements}
+use Rattle.cluster.specs.Terms.{Topology, partitions, Layout, row, ValidAt, IsSize, IsFormer, distance}
 
 -- "The answer is layout, size, distance, verdict and improvements".
 pub record Answer : Type 0 where
@@ -49,8 +50,7 @@ pub record Rules (t : Topology) (beginning F : Layout) (plan : ℕ → Answer) :
   -- "With no former copies, allowance 0 finishes at distance R times P."
   pub nothing-former : ((p : ℕ) → p < partitions t → row F p ≡ []) → (plan 0 .finished ≡ true) × (plan 0 .distance ≡ t .replication * partitions t)
 
--- Demand 3 of a planner: for a cluster that has a layout valid at size 1 there is one beginning, valid at the cluster's size and the same for
--- every former layout, and the rules hold for each former layout.
+-- Demand 3 of a planner: one beginning, valid at the cluster's size and the same for every former layout, and the rules for each of these.
 pub record Demand3 (t : Topology) (plan : Layout → ℕ → Answer) : Type 0 where
   pub beginning : Layout
   pub beginning-valid : (s : ℕ) → IsSize t s → ValidAt t beginning s

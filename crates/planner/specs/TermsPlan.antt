@@ -1,5 +1,4 @@
--- What planning refuses, answers and leaves in the lent buffers, and what it owes of the answer. The values of contracts are those of a model
--- (`sizeOf`, `planOf`), which nobody has to read: `Owed` says in the paper's terms what it achieves.
+-- What planning refuses, answers, leaves in lent buffers and owes. `sizeOf` and `planOf` are a model's: `Owed` says what they achieve.
 -- Assumes nothing.
 use Prim.Native.Nat.{ℕ}
 use mathlib.Core.Path.{_≡_}

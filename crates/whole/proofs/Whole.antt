@@ -8,9 +8,9 @@ use mathlib.Core.List.{List, _++_}
 use native.Mathlib.Omega.{arith}
 use lib.ListN.{length, take, drop, length-append}
 use lib.Seq.{take-at}
-use Rattle.cluster.specs.Terms.{mostBits, mostCopies, mostSize, mostDistance, mostVerdict, mostImprovements, layoutCells, scratchCells, Topology, topology, partitions, nodeAt, Layout, ValidAt, IsFormer, distance, cellsOf, rowsIn}
+use Rattle.cluster.specs.Terms.{mostBits, mostCopies, layoutCells, scratchCells, Topology, topology, partitions, nodeAt, Layout, ValidAt, IsFormer, distance, cellsOf, rowsIn}
+use Rattle.cluster.specs.TermsReading.{mostSize, mostDistance, mostVerdict, mostImprovements, Accepted}
 use Rattle.cluster.specs.ModelRows.{FitsCells, HoldsRows}
-use Rattle.cluster.specs.TermsReading.{Accepted}
 use Rattle.cluster.specs.declared.Cluster.{Cluster}
 use Rattle.cluster.proofs.Accepting.{accepted}
 use borrow.Author.Tests.{le-leb}
