@@ -19,6 +19,10 @@ Plans where the copies of a cluster of storage boxes lie.
   dezghuri show FILE LAYOUT [PARTITION]
       shows what the boxes hold, or which boxes hold one partition; a layout of
       other boxes is shown too, with the boxes that are not there any more
+  dezghuri report FILE [LAYOUT] [--former LAST] --out PAGE
+      writes a page that shows LAYOUT, and what moves from the layout LAST: bars,
+      a map and tables, for a browser or a printer; without LAYOUT it shows what
+      a plan of FILE comes to
   dezghuri record FILE [--former LAST] [--out RECORD]
       writes the cluster record that the program `plan` reads
   dezghuri plan --record RECORD
@@ -68,6 +72,12 @@ pub enum Command {
         layout: PathBuf,
         partition: Option<u8>,
     },
+    Report {
+        file: PathBuf,
+        layout: Option<PathBuf>,
+        former: Option<PathBuf>,
+        out: PathBuf,
+    },
     Record {
         file: PathBuf,
         former: Option<PathBuf>,
@@ -82,19 +92,20 @@ const PLAN_OPTIONS: [&str; 4] = ["--former", "--out", "--allowance", "--record"]
 pub fn parse(words: impl IntoIterator<Item = OsString>) -> Result<Command, String> {
     let mut words = words.into_iter();
     let Some(first) = words.next() else {
-        return Err("say what to do: plan, check, show, record or help".into());
+        return Err("say what to do: plan, check, show, report, record or help".into());
     };
     let words: Vec<OsString> = words.collect();
     let is_help = |word: &OsString| word == "--help" || word == "-h";
     match first.to_str() {
         Some("help" | "--help" | "-h") => Ok(Command::Help),
         Some("--version" | "-V" | "version") => Ok(Command::Version),
-        Some("plan" | "check" | "show" | "record") if words.iter().any(is_help) => {
+        Some("plan" | "check" | "show" | "report" | "record") if words.iter().any(is_help) => {
             Ok(Command::Help)
         }
         Some("plan") => plan(Words::sort(words, &PLAN_OPTIONS, &["--replace"])?),
         Some("check") => check(Words::sort(words, &[], &[])?),
         Some("show") => show(Words::sort(words, &[], &[])?),
+        Some("report") => report(Words::sort(words, &["--former", "--out"], &[])?),
         Some("record") => record(Words::sort(words, &["--former", "--out"], &[])?),
         _ => Err(format!("there is no command {first:?}")),
     }
@@ -148,6 +159,22 @@ fn show(mut words: Words) -> Result<Command, String> {
         file: file.into(),
         layout: layout.into(),
         partition,
+    })
+}
+
+fn report(mut words: Words) -> Result<Command, String> {
+    let former = words.path("--former");
+    let out = words.path("--out").ok_or("a page is written to a file: --out PAGE")?;
+    let layout = match words.places.len() {
+        2 => words.places.pop().map(PathBuf::from),
+        _ => None,
+    };
+    let [file] = words.places("a FILE, and perhaps a LAYOUT")?;
+    Ok(Command::Report {
+        file: file.into(),
+        layout,
+        former,
+        out,
     })
 }
 
@@ -306,6 +333,7 @@ mod tests {
             "plan home.txt --help",
             "check --help",
             "show --speed 7 -h",
+            "report home.txt -h",
             "record home.txt --out --help",
         ] {
             assert_eq!(called(line), Ok(Command::Help), "{line}");
@@ -336,9 +364,27 @@ mod tests {
     }
 
     #[test]
+    fn a_page_needs_no_layout_but_a_place() {
+        let report = |layout: Option<&str>| {
+            Ok(Command::Report {
+                file: "home.txt".into(),
+                layout: layout.map(PathBuf::from),
+                former: None,
+                out: "page".into(),
+            })
+        };
+        assert_eq!(called("report home.txt --out page"), report(None));
+        let shown = called("report home.txt last --out page");
+        assert_eq!(shown, report(Some("last")));
+        assert!(called("report home.txt last next --out page").is_err());
+        let told = "a page is written to a file: --out PAGE";
+        assert_eq!(called("report home.txt last"), Err(told.into()));
+    }
+
+    #[test]
     fn faulty_calls_are_told() {
         let faults = [
-            ("", "say what to do: plan, check, show, record or help"),
+            ("", "say what to do: plan, check, show, report, record or help"),
             ("plam home.txt", "there is no command \"plam\""),
             ("plan", "a FILE is wanted, not 0 words"),
             (

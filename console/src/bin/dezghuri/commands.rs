@@ -9,6 +9,7 @@ use crate::losses;
 use crate::output::{Kind, Output};
 use crate::overview::{first_transfers_in_words, transfers_in_words, Overview};
 use crate::record_lines;
+use crate::report;
 use crate::table::{self, Column, Side};
 use crate::transfers::Transfers;
 use crate::units::{count, thousands};
@@ -72,6 +73,21 @@ pub fn run(command: &Command, warnings: &mut Vec<String>) -> Result<Answer, Fail
             layout,
             partition: Some(partition),
         } => show_row(file, layout, *partition, warnings),
+        Command::Report {
+            file,
+            layout,
+            former,
+            out,
+        } => {
+            let (layout, former) = (layout.as_deref(), former.as_deref());
+            let call = report::Call {
+                file,
+                layout,
+                former,
+                out,
+            };
+            report::run(&call, warnings)
+        }
         Command::Record { file, former, out } => {
             record(file, former.as_deref(), out.as_deref(), warnings)
         }
@@ -225,7 +241,7 @@ fn record(
 }
 
 /// The place for a record; never that of the description.
-fn output(kind: Kind, record: Vec<u8>, file: &Path, out: &Path) -> Result<Output, Failure> {
+pub fn output(kind: Kind, record: Vec<u8>, file: &Path, out: &Path) -> Result<Output, Failure> {
     if files::are_one(file, out) {
         return Err(Failure::Usage(format!(
             "--out {} would replace the description of the cluster",
@@ -236,7 +252,7 @@ fn output(kind: Kind, record: Vec<u8>, file: &Path, out: &Path) -> Result<Output
 }
 
 /// The cluster of the file, with the layout of the former plan.
-fn describe(
+pub fn describe(
     file: &Path,
     former: Option<&Path>,
     warnings: &mut Vec<String>,

@@ -12,6 +12,7 @@ mod losses;
 mod output;
 mod overview;
 mod record_lines;
+mod report;
 mod table;
 mod transfers;
 mod units;

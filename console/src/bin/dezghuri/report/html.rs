@@ -1,0 +1,140 @@
+//! The page as a whole, and the writing of text into it.
+
+use super::facts::{Facts, Laid};
+use super::{bars, map, tables, words};
+
+/// How each page begins; by this and its end a page is known, whatever its version.
+const BEGINNING: &str = "<!DOCTYPE html>\n<html lang=\"en\">\n<head>\n<meta charset=\"utf-8\"/>\n\
+                         <meta name=\"generator\" content=\"dezghuri report\"/>\n";
+const END: &str = "</main>\n</body>\n</html>\n";
+
+const STYLE: &str = include_str!("style.css");
+const PATTERNS: &str = include_str!("patterns.svg");
+
+/// Longer names are cut, so that one of them cannot take the page.
+const LONGEST_NAME: usize = 60;
+
+/// Whether the bytes are a page that this command has written.
+pub fn is_page(bytes: &[u8]) -> bool {
+    bytes.starts_with(BEGINNING.as_bytes()) && bytes.ends_with(END.as_bytes())
+}
+
+/// The whole page, well-formed as XML too.
+pub fn page(facts: &Facts) -> String {
+    let title = escaped(&facts.names.file);
+    let figures = match &facts.laid {
+        Ok(laid) => of_layout(facts, laid),
+        Err(_) => [bars::of_disks(facts), section("tables", "", &tables::disks(facts))].concat(),
+    };
+    [
+        BEGINNING,
+        "<meta name=\"viewport\" content=\"width=device-width, initial-scale=1\"/>\n",
+        &format!("<title>Layout of {title}</title>\n<style>\n{STYLE}</style>\n</head>\n<body>\n"),
+        PATTERNS,
+        &format!("<main>\n<h1>Layout of {title}</h1>\n"),
+        &first_words(facts),
+        &figures,
+        END,
+    ]
+    .concat()
+}
+
+/// What is lost comes first, then the sentence.
+fn first_words(facts: &Facts) -> String {
+    let mut text = String::new();
+    for line in facts.losses.iter().flat_map(|told| told.lines()) {
+        text += &format!("<p class=\"danger\">{}</p>\n", escaped(line));
+    }
+    let class = if facts.laid.is_ok() { "lead" } else { "lead refused" };
+    text += &format!("<p class=\"{class}\">{}</p>\n", escaped(&words::sentence(facts)));
+    text += &format!("<p class=\"small\">{}</p>\n", escaped(&words::source(facts)));
+    text
+}
+
+/// The parts of a page with a layout, in the order in which an owner asks.
+fn of_layout(facts: &Facts, laid: &Laid) -> String {
+    let why = format!("<p>{}</p>\n", escaped(&words::why_not_more(laid)));
+    [
+        bars::of_layout(facts, laid),
+        map::of_layout(facts, laid),
+        section("why", "Why not more", &why),
+        section("tables", "", &tables::boxes_and_zones(facts, laid)),
+        tables::partitions(facts, laid),
+    ]
+    .concat()
+}
+
+/// A part of the page that can be linked to; one without a heading is told by its tables.
+pub fn section(id: &str, heading: &str, body: &str) -> String {
+    let heading = match heading {
+        "" => String::new(),
+        heading => format!("<h2>{heading}</h2>\n"),
+    };
+    format!("<section id=\"{id}\">\n{heading}{body}</section>\n")
+}
+
+/// Text that can stand between tags and in attributes. What no page may hold becomes a mark.
+pub fn escaped(text: &str) -> String {
+    let mut escaped = String::with_capacity(text.len());
+    for c in text.chars() {
+        match c {
+            '&' => escaped += "&amp;",
+            '<' => escaped += "&lt;",
+            '>' => escaped += "&gt;",
+            '"' => escaped += "&quot;",
+            '\'' => escaped += "&#39;",
+            c if c.is_control() || ('\u{fffe}'..='\u{ffff}').contains(&c) => escaped.push('\u{fffd}'),
+            c => escaped.push(c),
+        }
+    }
+    escaped
+}
+
+/// A name that its owner gave, cut where it is very long, and escaped.
+pub fn name(text: &str) -> String {
+    match text.chars().count() {
+        0..=LONGEST_NAME => escaped(text),
+        _ => {
+            let cut: String = text.chars().take(LONGEST_NAME - 1).collect();
+            escaped(&cut) + "\u{2026}"
+        }
+    }
+}
+
+/// A name by itself: one that is written from right to left leaves its neighbours in place.
+pub fn isolated(text: &str) -> String {
+    match text {
+        "" => String::new(),
+        text => format!("<bdi>{}</bdi>", name(text)),
+    }
+}
+
+#[cfg(test)]
+mod tests {
+    use super::*;
+
+    #[test]
+    fn text_is_escaped() {
+        assert_eq!(escaped("<b>&\"'"), "&lt;b&gt;&amp;&quot;&#39;");
+        assert_eq!(escaped("a\u{1}b\nc\u{ffff}"), "a\u{fffd}b\u{fffd}c\u{fffd}");
+        assert_eq!(escaped("B\u{fc}ro"), "B\u{fc}ro");
+    }
+
+    #[test]
+    fn long_names_are_cut_between_letters() {
+        let long = "&\u{fc}".repeat(31);
+        assert_eq!(name(&long[..long.len() - 3]), name(&long[..long.len() - 3]));
+        assert_eq!(name(&"x".repeat(60)), "x".repeat(60));
+        assert_eq!(name(&"x".repeat(61)), "x".repeat(59) + "\u{2026}");
+        assert!(name(&long).ends_with("&amp;\u{2026}"), "{}", name(&long));
+    }
+
+    #[test]
+    fn a_page_is_known_by_its_beginning_and_its_end() {
+        let page = [BEGINNING, "anything", END].concat();
+        assert!(is_page(page.as_bytes()));
+        assert!(!is_page(&page.as_bytes()[1..]));
+        assert!(!is_page(&page.as_bytes()[..page.len() - 1]));
+        assert!(!is_page(b"<!DOCTYPE html>\n"));
+    }
+}
