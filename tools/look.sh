@@ -1,10 +1,12 @@
 #!/bin/sh
 # Makes report pages of seven clusters and takes pictures of each in headless Chromium: 390, 1024 and 1600 pixels wide, light and dark, and
-# printed. They stand in build/look/ afterwards, to be looked at: nothing here judges them. CHROMIUM names another browser of that kind.
+# printed. They stand in build/look/ afterwards, to be looked at: nothing here judges them. CHROMIUM names another browser of that kind, and
+# words after the script's name choose some of the clusters.
 set -u
 cd "$(dirname "$0")/.." || exit 2
 command=console/target/release/dezghuri
 look=build/look
+wanted=$*
 
 fail() { printf 'look: %s\n' "$*" >&2; exit 1; }
 
@@ -15,9 +17,9 @@ done
 [ -n "$browser" ] || fail "Chromium is missing: install it (on Debian: apt-get install chromium), or name it in CHROMIUM"
 [ -x "$command" ] || fail "$command is missing: make look builds it"
 mkdir -p $look || exit 2
-rm -f $look/*.txt $look/*.layout $look/*.html $look/*.png $look/*.pdf
+rm -f $look/*.txt $look/*.layout $look/*.html
 
-# head COPIES ZONES [BITS]: the first lines of a description.
+# head_lines COPIES ZONES [BITS]: the first lines of a description.
 head_lines() { printf 'copies %s\nzones %s\nbits %s\n' "$1" "$2" "${3-8}"; }
 
 # nineteen EVERY: nineteen boxes in six zones; of each EVERY one the id, or all as they are with 0.
@@ -43,8 +45,9 @@ thirty_two() {
     done
 }
 
-# shown NAME [STATUS]: the page of NAME.txt; from NAME-before.txt, where that is there.
+# shown NAME STATUS HEIGHT HEIGHT HEIGHT: the page of NAME.txt, from NAME-before.txt where that is there; the heights of its pictures.
 shown() {
+    case " $wanted " in '  ' | *" $1 "*) ;; *) return ;; esac
     former=
     if [ -f $look/"$1"-before.txt ]; then
         $command plan $look/"$1"-before.txt --out $look/"$1"-before.layout >/dev/null || fail "$1 was not planned"
@@ -52,7 +55,7 @@ shown() {
     fi
     # shellcheck disable=SC2086
     $command report $look/"$1".txt $former --out $look/"$1".html >/dev/null
-    [ $? -eq "${2-0}" ] || fail "$1 has no page"
+    [ $? -eq "$2" ] || fail "$1 has no page"
     picture "$1" 390 "$3"; picture "$1" 1024 "$4"; picture "$1" 1600 "$5"
     run --no-pdf-header-footer --print-to-pdf="$PWD/$look/$1.pdf" "file://$PWD/$look/$1.html"
 }
@@ -80,13 +83,11 @@ nineteen 9 >$look/nineteen.txt
 thirty_two 0 >$look/thirty-two-before.txt
 thirty_two 2 >$look/thirty-two.txt
 { head_lines 1 1; printf 'box 1 home 2T\n'; } >$look/one.txt
-{ head_lines 3 2 0; printf 'box 1 home 9\nbox 2 home 9\nbox 3 home 9\n'; } >$look/nothing.txt
 { head_lines 2 1 0; printf 'box 1 home 9G\nbox 2 home 8G\nbox 3 shop 7G\n'; } >$look/k0-before.txt
 { head_lines 2 2 0; printf 'box 1 home 9G\nbox 3 shop 7G\nbox 4 shop 9G\n'; } >$look/k0.txt
 { head_lines 2 1; printf 'box 1 shop 1.7T\nbox 2 shop 1.7T\nbox 3 home 1.7T study\n'; } >$look/lost-before.txt
 { head_lines 2 1; printf 'box 3 home 1.7T study\nbox 4 shop 1.71T\nbox 5 shop 1.71T\n'; } >$look/lost.txt
 sed 's/^zones 2/zones 4/; s/^copies 3/copies 4/' samples/home.txt >$look/refused.txt
-rm $look/nothing.txt
 
 shown home 0 9000 2600 2200
 shown nineteen 0 11000 3200 2800

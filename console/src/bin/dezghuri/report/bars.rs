@@ -169,7 +169,7 @@ fn gone(laid: &Laid, scale: &Scale) -> String {
     }
     match lines.is_empty() {
         true => lines,
-        false => band("not there any more", " away", &lines),
+        false => band("gone", " away", &lines),
     }
 }
 

@@ -21,7 +21,7 @@ pub fn is_page(bytes: &[u8]) -> bool {
 
 /// The whole page, well-formed as XML too.
 pub fn page(facts: &Facts) -> String {
-    let title = escaped(&facts.names.file);
+    let title = name(last_part(&facts.names.file));
     let figures = match &facts.laid {
         Ok(laid) => of_layout(facts, laid),
         Err(_) => [bars::of_disks(facts), section("tables", "", &tables::disks(facts))].concat(),
@@ -37,6 +37,11 @@ pub fn page(facts: &Facts) -> String {
         END,
     ]
     .concat()
+}
+
+/// The name of a file without its folders.
+fn last_part(path: &str) -> &str {
+    path.rsplit('/').next().unwrap_or(path)
 }
 
 /// What is lost comes first, then the sentence.

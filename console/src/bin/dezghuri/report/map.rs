@@ -7,27 +7,32 @@ use crate::units::count;
 
 /// The widest that a cell gets, in pixels.
 const WIDEST_CELL: usize = 24;
+/// So many marks at most along the map: more could not be told apart.
+const MOST_MARKS: usize = 64;
 
 /// The map of a layout, boxes that are gone below.
 pub fn of_layout(facts: &Facts, laid: &Laid) -> String {
     let groups = laid.groups();
     let order: Vec<u8> = groups.concat();
-    let line = |label: &str, row: &Row, title: &str| {
-        format!("<div class=\"row\">{label}{}</div>\n", cells(row, &order, title))
+    let line = |label: &str, row: &Row, kinds: &[Kind], title: &str| {
+        let cells = cells(row, &order, kinds, title);
+        format!("<div class=\"row\">{label}{cells}</div>\n")
     };
     let mut body = strip(&groups);
     body += &zones(facts, |b| {
         let row = &laid.rows.here[b];
-        line(&label(facts, b), row, &title(facts, row))
+        let kinds = [KEPT, RECEIVED, DROPPED];
+        line(&label(facts, b), row, &kinds, &title(facts, row))
     });
     let gone = laid.rows.gone.iter().map(|row| {
         let label = format!("<span class=\"label\"><span class=\"id\">{}</span></span>", row.id);
         let held = count(row.count(Cell::Dropped), "copy", "copies");
-        line(&label, row, &format!("Box {}, not there any more: {held}", row.id))
+        let title = format!("Box {}, not there any more: {held}", row.id);
+        line(&label, row, &[GONE], &title)
     });
     let gone: String = gone.collect();
     if !gone.is_empty() {
-        body += &band("not there any more", " away", &gone);
+        body += &band("gone", " away", &gone);
     }
     let body = format!(
         "<figure>\n<figcaption>{}</figcaption>\n{}<div class=\"map\" style=\"--most:{}px\">\n{body}\
@@ -47,8 +52,8 @@ fn caption(facts: &Facts, partitions: usize) -> String {
     match partitions {
         1 => "The one partition is the column, a box is a line.".into(),
         _ => format!(
-            "A column is a partition, a line is a box; {alike}, in the groups of the strip above, \
-             and the table at the end has their numbers."
+            "A column is a partition, a line is a box; {alike}, in the groups of the strip \
+             on top, and the table at the end has their numbers."
         ),
     }
 }
@@ -67,27 +72,97 @@ fn title(facts: &Facts, row: &Row) -> String {
     }
 }
 
+/// How the cells of a kind are drawn.
+struct Kind {
+    cell: Cell,
+    /// The class of the rectangles.
+    class: &'static str,
+    /// The class of the marks in them.
+    mark: &'static str,
+    /// A mark in a square from -1 to 1 along and from 0 to 1 down.
+    shape: &'static [(char, f64, f64)],
+}
+
+const KEPT: Kind = Kind {
+    cell: Cell::Kept,
+    class: "kept",
+    mark: "",
+    shape: &[],
+};
+const RECEIVED: Kind = Kind {
+    cell: Cell::Received,
+    class: "orange",
+    mark: "rise",
+    shape: &[('M', 0.0, 0.22), ('L', 1.0, 0.78), ('H', -1.0, 0.0)],
+};
+const DROPPED: Kind = Kind {
+    cell: Cell::Dropped,
+    class: "hollow",
+    mark: "fall",
+    shape: &[('M', 0.0, 0.78), ('L', 1.0, 0.22), ('H', -1.0, 0.0)],
+};
+const GONE: Kind = Kind {
+    cell: Cell::Dropped,
+    class: "hollow",
+    mark: "cross",
+    shape: &[('M', -1.0, 0.25), ('L', 1.0, 0.75), ('M', 1.0, 0.25), ('L', -1.0, 0.75)],
+};
+
 /// The cells of a box: one path for each kind, with one rectangle for a run of equal cells.
-fn cells(row: &Row, order: &[u8], title: &str) -> String {
+fn cells(row: &Row, order: &[u8], kinds: &[Kind], title: &str) -> String {
     let width = order.len();
     let mut paths = String::new();
-    for (cell, class) in [
-        (Cell::Kept, "kept"),
-        (Cell::Received, "up"),
-        (Cell::Dropped, "down"),
-    ] {
-        let (top, height) = if cell == Cell::Dropped { (".06", ".88") } else { ("0", "1") };
-        let rectangle =
-            |(from, long): (usize, usize)| format!("M{from} {top}h{long}v{height}h-{long}z");
-        let runs: String = runs(row, order, cell).into_iter().map(rectangle).collect();
+    for kind in kinds {
+        let runs = runs(row, order, kind.cell);
         if !runs.is_empty() {
-            paths += &format!("<path class=\"{class}\" d=\"{runs}\"/>");
+            paths += &drawn(kind, &runs, width);
         }
     }
     format!(
         "<svg class=\"cells\" role=\"img\" viewBox=\"0 0 {width} 1\" preserveAspectRatio=\"none\">\
          <title>{title}</title><rect class=\"empty\" width=\"{width}\" height=\"1\"/>{paths}</svg>"
     )
+}
+
+/// The runs as rectangles, and marks in them: one in a short run, several in a long one.
+fn drawn(kind: &Kind, runs: &[(usize, usize)], width: usize) -> String {
+    // An outline would be cut at the edge of the picture.
+    let (top, height) = if kind.class == "hollow" { (".05", ".9") } else { ("0", "1") };
+    let rectangle =
+        |(from, long): &(usize, usize)| format!("M{from} {top}h{long}v{height}h-{long}z");
+    let rectangles: String = runs.iter().map(rectangle).collect();
+    let mut text = format!("<path class=\"{}\" d=\"{rectangles}\"/>", kind.class);
+    if !kind.shape.is_empty() {
+        let marks: String = runs.iter().map(|run| marks(kind, *run, width)).collect();
+        text += &format!("<path class=\"{}\" d=\"{marks}\"/>", kind.mark);
+    }
+    text
+}
+
+/// The marks of a run, at equal distances.
+fn marks(kind: &Kind, (from, long): (usize, usize), width: usize) -> String {
+    let each = (width / MOST_MARKS).max(1);
+    let number = long.div_ceil(each);
+    let step = long as f64 / number as f64;
+    let half = step.min(each as f64) * 0.36;
+    let mut path = String::new();
+    for mark in 0..number {
+        let middle = from as f64 + (mark as f64 + 0.5) * step;
+        for (letter, along, down) in kind.shape {
+            path += &format!("{letter}{}", short(middle + along * half));
+            if *letter != 'H' {
+                path += &format!(" {}", short(*down));
+            }
+        }
+    }
+    path
+}
+
+/// A number to a hundredth, without zeros that say nothing.
+fn short(number: f64) -> String {
+    let text = format!("{number:.2}");
+    let text = text.trim_end_matches('0').trim_end_matches('.');
+    text.strip_prefix('0').filter(|rest| !rest.is_empty()).unwrap_or(text).into()
 }
 
 /// Where runs of such cells begin, and how long they are.
@@ -130,19 +205,20 @@ fn strip(groups: &[Vec<u8>]) -> String {
 
 /// What the cells mean.
 fn legend(facts: &Facts, laid: &Laid) -> String {
-    let item = |class: &str, word: &str| {
+    let item = |kind: &Kind, word: &str| {
         format!(
-            "<span><svg width=\"24\" height=\"14\" viewBox=\"0 0 2 1\" preserveAspectRatio=\"none\" \
-             aria-hidden=\"true\"><path class=\"{class}\" d=\"M0 .06h2v.88h-2z\"/></svg> {word}</span>"
+            "<span><svg width=\"26\" height=\"14\" viewBox=\"-.08 0 2.16 1\" \
+             preserveAspectRatio=\"none\" aria-hidden=\"true\">{}</svg> {word}</span>",
+            drawn(kind, &[(0, 2)], 2)
         )
     };
-    let mut items = vec![item("kept", if facts.has_former() { "kept" } else { "held" })];
+    let mut items = vec![item(&KEPT, if facts.has_former() { "kept" } else { "held" })];
     if facts.has_former() {
-        items.push(item("up", "received"));
-        items.push(item("down", "dropped"));
+        items.push(item(&RECEIVED, "received"));
+        items.push(item(&DROPPED, "dropped"));
     }
     if !laid.rows.gone.is_empty() {
-        items.push(item("down lost", "gone with its box"));
+        items.push(format!("<span class=\"away\">{}</span>", item(&GONE, "gone with its box")));
     }
     format!("<p class=\"legend\">{}</p>\n", items.concat())
 }
