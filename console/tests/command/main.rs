@@ -2,9 +2,11 @@
 
 mod folder;
 mod lost;
+mod page;
 mod printed;
 mod record_lines;
 mod replaced;
+mod report;
 mod shown;
 mod told;
 

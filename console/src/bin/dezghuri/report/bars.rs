@@ -1,7 +1,7 @@
 //! The boxes: a bar for each disk, all on one scale.
 
 use super::facts::{Cell, Facts, Laid, Row};
-use super::html::{isolated, name, section};
+use super::html::{self, name, section};
 use crate::units::{count, percent, thousands, Unit};
 
 /// So many grid lines at most, beside that at 0.
@@ -65,7 +65,7 @@ pub fn zones(facts: &Facts, line: impl Fn(usize) -> String) -> String {
     let zones = facts.zones().into_iter();
     let bands = zones.map(|(zone, boxes)| {
         let lines: String = boxes.into_iter().map(&line).collect();
-        band(&isolated(zone), "", &lines)
+        band(&html::isolated(zone), "", &lines)
     });
     bands.collect()
 }
@@ -82,7 +82,7 @@ pub fn label(facts: &Facts, b: usize) -> String {
     let (id, label) = (facts.cluster().nodes[b].id, &facts.described.labels[b]);
     format!(
         "<a class=\"label\" href=\"#box-{id}\"><span class=\"id\">{id}</span> {}</a>",
-        isolated(&label.name)
+        html::label(&label.name)
     )
 }
 

@@ -13,6 +13,8 @@ const PATTERNS: &str = include_str!("patterns.svg");
 
 /// Longer names are cut, so that one of them cannot take the page.
 const LONGEST_NAME: usize = 60;
+/// Longer names are cut where little room is: beside bars and in bands.
+const LONGEST_LABEL: usize = 22;
 
 /// Whether the bytes are a page that this command has written.
 pub fn is_page(bytes: &[u8]) -> bool {
@@ -95,22 +97,36 @@ pub fn escaped(text: &str) -> String {
     escaped
 }
 
-/// A name that its owner gave, cut where it is very long, and escaped.
+/// A name that its owner gave, cut in the middle where it is very long, and escaped.
 pub fn name(text: &str) -> String {
-    match text.chars().count() {
-        0..=LONGEST_NAME => escaped(text),
-        _ => {
-            let cut: String = text.chars().take(LONGEST_NAME - 1).collect();
-            escaped(&cut) + "\u{2026}"
-        }
-    }
+    cut(text, LONGEST_NAME)
 }
 
-/// A name by itself: one that is written from right to left leaves its neighbours in place.
+fn cut(text: &str, longest: usize) -> String {
+    let letters: Vec<char> = text.chars().collect();
+    if letters.len() <= longest {
+        return escaped(text);
+    }
+    // Names that begin alike often differ at their ends, as in shelf-1 and shelf-2.
+    let tail = (longest - 1) / 2;
+    let head: String = letters[..longest - 1 - tail].iter().collect();
+    let tail: String = letters[letters.len() - tail..].iter().collect();
+    format!("{}\u{2026}{}", escaped(head.trim_end()), escaped(tail.trim_start()))
+}
+
+/// A name in a table. One that is written from right to left leaves its neighbours in place.
 pub fn isolated(text: &str) -> String {
     match text {
         "" => String::new(),
         text => format!("<bdi>{}</bdi>", name(text)),
+    }
+}
+
+/// A name where little room is; the tables have all of it.
+pub fn label(text: &str) -> String {
+    match text {
+        "" => String::new(),
+        text => format!("<bdi>{}</bdi>", cut(text, LONGEST_LABEL)),
     }
 }
 
@@ -126,12 +142,13 @@ mod tests {
     }
 
     #[test]
-    fn long_names_are_cut_between_letters() {
-        let long = "&\u{fc}".repeat(31);
-        assert_eq!(name(&long[..long.len() - 3]), name(&long[..long.len() - 3]));
+    fn long_names_are_cut_in_the_middle() {
         assert_eq!(name(&"x".repeat(60)), "x".repeat(60));
-        assert_eq!(name(&"x".repeat(61)), "x".repeat(59) + "\u{2026}");
-        assert!(name(&long).ends_with("&amp;\u{2026}"), "{}", name(&long));
+        let long = "\u{fc}".repeat(30) + &"&".repeat(31);
+        let cut = "\u{fc}".repeat(30) + "\u{2026}" + &"&amp;".repeat(29);
+        assert_eq!(name(&long), cut);
+        let label = label("a long name of a box, number 7");
+        assert_eq!(label, "<bdi>a long name\u{2026}, number 7</bdi>");
     }
 
     #[test]
