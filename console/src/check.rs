@@ -6,7 +6,7 @@ use crate::layout::Layout;
 use crate::refusal::{judge, wide, Refused};
 
 /// The copies of a valid layout, counted.
-#[derive(Clone, Debug, PartialEq, Eq)]
+#[derive(Clone, Debug, PartialEq, Eq, Hash)]
 pub struct Figures {
     /// Copies held by each node, in the order of the nodes.
     pub copies: Vec<u32>,
@@ -21,8 +21,7 @@ impl Cluster {
     ///
     /// # Errors
     ///
-    /// A fault of the cluster with the byte of its record, or of the layout with its partition or
-    /// node.
+    /// A fault of the cluster with the value at fault, or of the layout with its partition or node.
     pub fn check(&self, layout: &Layout, size: u32) -> Result<(), Refused> {
         let mut answer = [0; ffi::CHECK_ANSWER];
         let record = self.to_record();
@@ -54,6 +53,7 @@ impl Cluster {
         let byte = wide(answer[0], answer[1]);
         let of_size = size == 0 && byte == 0 && self.bits <= 8;
         judge(refusal, (!of_size).then_some(byte), Some(answer[2]))
+            .map_err(|refused| self.in_own_terms(refused))
     }
 }
 
@@ -103,11 +103,11 @@ mod tests {
     }
 
     #[test]
-    fn a_fault_of_the_cluster_keeps_its_byte() {
+    fn a_fault_of_the_cluster_comes_before_a_size_of_0() {
         let mut bad = cluster();
         bad.bits = 9;
         let refused = bad.check(&row(&[1, 2, 4]), 0).unwrap_err();
-        assert_eq!(refused.place, Some(Place::Byte(0)));
+        assert_eq!(refused.place, Some(Place::Bits));
     }
 
     #[test]

@@ -2,10 +2,10 @@
 
 use crate::ffi;
 use crate::layout::Layout;
-use crate::refusal::{judge, wide, Refused};
+use crate::refusal::{judge, wide, Place, Refused};
 
 /// A storage box.
-#[derive(Clone, Copy, Debug, PartialEq, Eq)]
+#[derive(Clone, Copy, Debug, PartialEq, Eq, Hash)]
 pub struct Node {
     /// Never 0, and different for each node.
     pub id: u32,
@@ -18,7 +18,7 @@ pub struct Node {
 /// A cluster with its former layout.
 ///
 /// Any values may stand here; a call refuses what it can't use.
-#[derive(Clone, Debug, PartialEq, Eq)]
+#[derive(Clone, Debug, PartialEq, Eq, Hash)]
 pub struct Cluster {
     /// There are 2 to the power of `bits` partitions: 0 to 8.
     pub bits: u8,
@@ -70,31 +70,93 @@ impl Cluster {
     /// The cluster's record. It is written whatever the values are; reading it says what is wrong.
     pub fn to_record(&self) -> Vec<u8> {
         let mut record = Vec::with_capacity(ffi::CLUSTER_RECORD_BYTES);
-        field(&mut record, tag::BITS, &[&[self.bits]]);
-        field(&mut record, tag::REPLICATION, &[&[self.replication]]);
-        field(&mut record, tag::REDUNDANCY, &[&[self.redundancy]]);
-        for node in &self.nodes {
-            let id = node.id.to_be_bytes();
-            let zone = node.zone.to_be_bytes();
-            let capacity = node.capacity.to_be_bytes();
-            field(&mut record, tag::NODE, &[&id, &zone, &capacity]);
-        }
-        for (partition, ids) in self.former.rows() {
-            let partition = u16::from(partition).to_be_bytes();
-            let ids: Vec<u8> = ids.iter().flat_map(|id| id.to_be_bytes()).collect();
-            field(&mut record, tag::FORMER_ROW, &[&partition, &ids]);
+        for (_, bytes) in self.fields() {
+            record.extend(bytes);
         }
         record
     }
+
+    /// The fields of the record in order, each with what it holds.
+    fn fields(&self) -> Vec<(Place, Vec<u8>)> {
+        let mut fields = vec![
+            (Place::Bits, field(tag::BITS, &[&[self.bits]])),
+            (
+                Place::Replication,
+                field(tag::REPLICATION, &[&[self.replication]]),
+            ),
+            (
+                Place::Redundancy,
+                field(tag::REDUNDANCY, &[&[self.redundancy]]),
+            ),
+        ];
+        for (index, node) in self.nodes.iter().enumerate() {
+            fields.push((Place::NodeAt { index, id: node.id }, node.field()));
+        }
+        for (partition, ids) in self.former.rows() {
+            let number = u16::from(partition).to_be_bytes();
+            let ids: Vec<u8> = ids.iter().flat_map(|id| id.to_be_bytes()).collect();
+            let row = field(tag::FORMER_ROW, &[&number, &ids]);
+            fields.push((Place::FormerRow(partition), row));
+        }
+        fields
+    }
+
+    /// The refusal of a call that was handed this cluster's record: its caller has never seen the
+    /// record, so a byte becomes the node, number or former row that the field at fault holds.
+    pub(crate) fn in_own_terms(&self, refused: Refused) -> Refused {
+        let Some(Place::Byte(byte)) = refused.place else {
+            return refused;
+        };
+        let mut begins = 0;
+        for (place, bytes) in self.fields() {
+            if begins == byte {
+                let place = Some(place);
+                return Refused { place, ..refused };
+            }
+            begins += bytes.len() as u64;
+        }
+        refused
+    }
 }
 
-/// Appends a field: its tag, the length of its body in two bytes, its body.
-fn field(record: &mut Vec<u8>, tag: u8, body: &[&[u8]]) {
+impl Default for Cluster {
+    /// The cluster with no nodes: one partition, one copy, one zone, and no former layout.
+    fn default() -> Cluster {
+        Cluster {
+            bits: 0,
+            replication: 1,
+            redundancy: 1,
+            nodes: Vec::new(),
+            former: Layout::default(),
+        }
+    }
+}
+
+impl TryFrom<&[u8]> for Cluster {
+    type Error = Refused;
+
+    fn try_from(record: &[u8]) -> Result<Cluster, Refused> {
+        Cluster::from_record(record)
+    }
+}
+
+impl Node {
+    fn field(&self) -> Vec<u8> {
+        let id = self.id.to_be_bytes();
+        let zone = self.zone.to_be_bytes();
+        let capacity = self.capacity.to_be_bytes();
+        field(tag::NODE, &[&id, &zone, &capacity])
+    }
+}
+
+/// A field: its tag, the length of its body in two bytes, its body.
+fn field(tag: u8, body: &[&[u8]]) -> Vec<u8> {
     let body = body.concat();
     let length = u16::try_from(body.len()).expect("the longest body, a former row, has 34 bytes");
-    record.push(tag);
-    record.extend(length.to_be_bytes());
-    record.extend(body);
+    let mut bytes = vec![tag];
+    bytes.extend(length.to_be_bytes());
+    bytes.extend(body);
+    bytes
 }
 
 /// A number that the proved function has found in the range of the narrower type.
@@ -107,7 +169,7 @@ pub(crate) fn narrow<T: TryFrom<u32>>(number: u32) -> T {
 #[cfg(test)]
 mod tests {
     use super::*;
-    use crate::{Place, Refusal};
+    use crate::{Refusal, ENOUGH};
 
     fn sample() -> Cluster {
         let node = |id, zone, capacity| Node { id, zone, capacity };
@@ -138,7 +200,8 @@ mod tests {
     #[test]
     fn a_record_reads_back_as_the_cluster() {
         let cluster = sample();
-        assert_eq!(Cluster::from_record(&cluster.to_record()), Ok(cluster));
+        let record = cluster.to_record();
+        assert_eq!(Cluster::try_from(&record[..]), Ok(cluster));
     }
 
     #[test]
@@ -165,5 +228,52 @@ mod tests {
         (0..=255).for_each(|partition| cluster.former.set_row(partition, &ids));
         cluster.nodes = vec![cluster.nodes[0]; 32];
         assert_eq!(cluster.to_record().len(), ffi::CLUSTER_RECORD_BYTES);
+    }
+
+    /// Whoever made the cluster is told of its own values, whatever the call.
+    #[test]
+    fn a_fault_is_told_in_the_clusters_own_terms() {
+        let fault = |change: fn(&mut Cluster)| {
+            let mut cluster = sample();
+            change(&mut cluster);
+            let planned = cluster.plan(ENOUGH).unwrap_err();
+            assert_eq!(cluster.check(&Layout::default(), 1), Err(planned));
+            assert_eq!(cluster.figures(&Layout::default(), 1), Err(planned));
+            (planned.refusal, planned.place.expect("it has a place"))
+        };
+        let second = |id| Place::NodeAt { index: 1, id };
+        assert_eq!(fault(|c| c.bits = 9), (Refusal::Range, Place::Bits));
+        assert_eq!(
+            fault(|c| c.replication = 9),
+            (Refusal::Range, Place::Replication)
+        );
+        assert_eq!(
+            fault(|c| c.redundancy = 3),
+            (Refusal::Range, Place::Redundancy)
+        );
+        assert_eq!(fault(|c| c.nodes[1].id = 0), (Refusal::Range, second(0)));
+        assert_eq!(fault(|c| c.nodes[1].id = 1), (Refusal::Order, second(1)));
+        assert_eq!(
+            fault(|c| c.former.set_row(1, &[5, 5])),
+            (Refusal::Order, Place::FormerRow(1))
+        );
+        assert_eq!(
+            fault(|c| c.former.set_row(4, &[1])),
+            (Refusal::Range, Place::FormerRow(4))
+        );
+        let many = |c: &mut Cluster| {
+            let node = |id| Node { id, ..c.nodes[0] };
+            c.nodes = (1..=33).map(node).collect();
+        };
+        let last = Place::NodeAt { index: 32, id: 33 };
+        assert_eq!(fault(many), (Refusal::Nodes, last));
+    }
+
+    #[test]
+    fn the_cluster_with_no_nodes_is_the_papers() {
+        let none = Cluster::default();
+        assert_eq!(none.to_record(), [1, 0, 1, 0, 2, 0, 1, 1, 3, 0, 1, 1]);
+        assert_eq!(Cluster::from_record(&none.to_record()), Ok(none.clone()));
+        assert_eq!(none.plan(ENOUGH).unwrap_err().refusal, Refusal::NoLayout);
     }
 }

@@ -8,7 +8,7 @@ use std::fmt;
 ///
 /// There are always 256 rows, of at most eight ids each; a cluster with fewer partitions leaves the
 /// later ones empty.
-#[derive(Clone, PartialEq, Eq)]
+#[derive(Clone, PartialEq, Eq, Hash)]
 pub struct Layout {
     cells: Box<[u32; ffi::LAYOUT_CELLS]>,
 }
@@ -76,6 +76,24 @@ impl Default for Layout {
     }
 }
 
+impl<R: AsRef<[u32]>> Extend<(u8, R)> for Layout {
+    /// Sets the row of each partition that comes; panics as [`Layout::set_row`] does.
+    fn extend<T: IntoIterator<Item = (u8, R)>>(&mut self, rows: T) {
+        for (partition, ids) in rows {
+            self.set_row(partition, ids.as_ref());
+        }
+    }
+}
+
+impl<R: AsRef<[u32]>> FromIterator<(u8, R)> for Layout {
+    /// The layout of these rows, all others empty; panics as [`Layout::set_row`] does.
+    fn from_iter<T: IntoIterator<Item = (u8, R)>>(rows: T) -> Layout {
+        let mut layout = Layout::default();
+        layout.extend(rows);
+        layout
+    }
+}
+
 impl fmt::Debug for Layout {
     fn fmt(&self, f: &mut fmt::Formatter<'_>) -> fmt::Result {
         f.debug_map().entries(self.rows()).finish()
@@ -98,6 +116,15 @@ mod tests {
         let rows: Vec<_> = layout.rows().collect();
         assert_eq!(rows, [(3, &[9][..]), (255, &[5, 7][..])]);
         assert_eq!(format!("{layout:?}"), "{3: [9], 255: [5, 7]}");
+    }
+
+    #[test]
+    fn a_layout_is_collected_from_its_rows() {
+        let mut layout: Layout = [(3, vec![9]), (255, vec![5, 7])].into_iter().collect();
+        let again: Layout = layout.rows().collect();
+        assert_eq!(again, layout);
+        layout.extend([(3, []), (255, [])]);
+        assert_eq!(layout, Layout::default());
     }
 
     #[test]

@@ -6,11 +6,14 @@
 //! partition that the disks allow, then, among all layouts of that size, one that lies nearest to
 //! the former layout.
 //!
-//! [`Cluster::losses`] names the partitions of which the nodes that are gone had the last copies.
+//! Plans, checks, figures and records are the work of the C functions of `include/dezghuri.h`,
+//! whose contracts are proved; this library lends them their buffers and names their answers.
+//! [`ffi`] has them one for one.
 //!
-//! What is computed is computed by the C functions of `include/dezghuri.h`, whose contracts are
-//! proved; this library lends them their buffers and names their answers. [`ffi`] has them one for
-//! one.
+//! The rest is plain Rust around them. [`Description`] reads the text file in which an owner
+//! describes a cluster. [`Layout::diff`] and [`Cluster::transfers`] tell what changes place between
+//! two layouts, [`Cluster::losses`] which partitions had their last copies on nodes that are gone,
+//! and [`Cluster::counts`] why the size is no larger.
 //!
 //! ```
 //! use dezghuri::{Cluster, Layout, Node, Verdict};
@@ -38,16 +41,23 @@
 
 mod check;
 mod cluster;
+mod counts;
+mod description;
+mod diff;
 #[allow(unsafe_code)]
 pub mod ffi;
 mod layout;
 mod losses;
 mod plan;
 mod refusal;
+pub mod units;
 
 pub use check::Figures;
 pub use cluster::{Cluster, Node};
+pub use counts::{Counts, Unused};
+pub use description::{Description, Faults, Label, Note};
+pub use diff::{Diff, NodeDiff, Transfers};
 pub use layout::Layout;
 pub use losses::Losses;
 pub use plan::{Plan, Verdict, ENOUGH};
-pub use refusal::{Place, Refusal, Refused};
+pub use refusal::{NoRefusal, Place, Refusal, Refused};

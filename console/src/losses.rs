@@ -3,7 +3,7 @@
 use crate::cluster::Cluster;
 
 /// Partitions whose former copies lay on nodes that are gone.
-#[derive(Clone, Debug, Default, PartialEq, Eq)]
+#[derive(Clone, Debug, Default, PartialEq, Eq, Hash)]
 pub struct Losses {
     /// Partitions that had copies, and none of them is left: no node can send them.
     pub none_left: Vec<u8>,

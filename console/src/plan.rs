@@ -9,7 +9,7 @@ use crate::refusal::{judge, wide, Refused};
 pub const ENOUGH: u16 = 2048;
 
 /// Whether a nearer layout can be had.
-#[derive(Clone, Copy, Debug, PartialEq, Eq)]
+#[derive(Clone, Copy, Debug, PartialEq, Eq, Hash)]
 pub enum Verdict {
     /// The allowance was used up, and some valid layout of the size lies nearer to the former one.
     Stopped,
@@ -34,7 +34,7 @@ impl Verdict {
 }
 
 /// What planning answers, and what a layout record holds.
-#[derive(Clone, Debug, PartialEq, Eq)]
+#[derive(Clone, Debug, PartialEq, Eq, Hash)]
 pub struct Plan {
     /// There are 2 to the power of `bits` partitions.
     pub bits: u8,
@@ -57,7 +57,7 @@ impl Cluster {
     ///
     /// # Errors
     ///
-    /// A fault of the cluster, with the byte of its record, or
+    /// A fault of the cluster, with the value at fault, or
     /// [`Refusal::NoLayout`](crate::Refusal::NoLayout).
     pub fn plan(&self, allowance: u16) -> Result<Plan, Refused> {
         let mut layout = Layout::default();
@@ -70,7 +70,8 @@ impl Cluster {
             &mut scratch,
             &mut answer,
         );
-        judge(refusal, Some(wide(answer[0], answer[1])), None)?;
+        judge(refusal, Some(wide(answer[0], answer[1])), None)
+            .map_err(|refused| self.in_own_terms(refused))?;
         Ok(Plan {
             bits: self.bits,
             replication: self.replication,
@@ -131,6 +132,14 @@ impl Plan {
     }
 }
 
+impl TryFrom<&[u8]> for Plan {
+    type Error = Refused;
+
+    fn try_from(record: &[u8]) -> Result<Plan, Refused> {
+        Plan::from_record(record)
+    }
+}
+
 #[cfg(test)]
 mod tests {
     use super::*;
@@ -169,7 +178,7 @@ mod tests {
         let plan = moving().plan(ENOUGH).unwrap();
         let record = plan.to_record().unwrap();
         assert_eq!(record.len(), 29 + 2 * (5 + 4));
-        assert_eq!(Plan::from_record(&record), Ok(plan));
+        assert_eq!(Plan::try_from(&record[..]), Ok(plan));
     }
 
     #[test]
@@ -200,6 +209,6 @@ mod tests {
         cluster.redundancy = 4;
         let refused = cluster.plan(ENOUGH).unwrap_err();
         assert_eq!(refused.refusal, Refusal::Range);
-        assert_eq!(refused.place, Some(Place::Byte(8)));
+        assert_eq!(refused.place, Some(Place::Redundancy));
     }
 }

@@ -78,6 +78,35 @@ impl Refusal {
     }
 }
 
+impl From<Refusal> for u32 {
+    fn from(refusal: Refusal) -> u32 {
+        refusal.number()
+    }
+}
+
+/// A number that no call answers as a refusal.
+#[derive(Clone, Copy, Debug, PartialEq, Eq, Hash)]
+pub struct NoRefusal(
+    /// The number.
+    pub u32,
+);
+
+impl fmt::Display for NoRefusal {
+    fn fmt(&self, f: &mut fmt::Formatter<'_>) -> fmt::Result {
+        write!(f, "{} is not the number of a refusal", self.0)
+    }
+}
+
+impl Error for NoRefusal {}
+
+impl TryFrom<u32> for Refusal {
+    type Error = NoRefusal;
+
+    fn try_from(number: u32) -> Result<Refusal, NoRefusal> {
+        Refusal::from_number(number).ok_or(NoRefusal(number))
+    }
+}
+
 impl fmt::Display for Refusal {
     fn fmt(&self, f: &mut fmt::Formatter<'_>) -> fmt::Result {
         let (_, meaning) = MEANINGS[*self as usize - 1];
@@ -85,11 +114,28 @@ impl fmt::Display for Refusal {
     }
 }
 
-/// What a refusal points at.
-#[derive(Clone, Copy, Debug, PartialEq, Eq)]
+/// What a refusal points at: a byte where a record was handed in, and otherwise what stands in the
+/// caller's own values.
+#[derive(Clone, Copy, Debug, PartialEq, Eq, Hash)]
+#[non_exhaustive]
 pub enum Place {
     /// The byte of the record at which the faulty field begins, or the record's length.
     Byte(u64),
+    /// The partition bits of a cluster.
+    Bits,
+    /// The replication of a cluster.
+    Replication,
+    /// The zone redundancy of a cluster.
+    Redundancy,
+    /// A node of a cluster, whose own values are at fault.
+    NodeAt {
+        /// Its place among the nodes, from 0 on.
+        index: usize,
+        /// Its id, which may be what is at fault.
+        id: u32,
+    },
+    /// The partition of a faulty row of a cluster's former layout.
+    FormerRow(u8),
     /// The partition of a faulty row.
     Partition(u32),
     /// The id of a node with too many copies.
@@ -100,6 +146,11 @@ impl fmt::Display for Place {
     fn fmt(&self, f: &mut fmt::Formatter<'_>) -> fmt::Result {
         match self {
             Place::Byte(byte) => write!(f, "byte {byte}"),
+            Place::Bits => f.write_str("the partition bits"),
+            Place::Replication => f.write_str("the replication"),
+            Place::Redundancy => f.write_str("the zone redundancy"),
+            Place::NodeAt { index, id } => write!(f, "nodes[{index}], id {id}"),
+            Place::FormerRow(partition) => write!(f, "the former row of partition {partition}"),
             Place::Partition(partition) => write!(f, "partition {partition}"),
             Place::Node(id) => write!(f, "node {id}"),
         }
@@ -107,7 +158,7 @@ impl fmt::Display for Place {
 }
 
 /// A refused call.
-#[derive(Clone, Copy, Debug, PartialEq, Eq)]
+#[derive(Clone, Copy, Debug, PartialEq, Eq, Hash)]
 pub struct Refused {
     /// Why.
     pub refusal: Refusal,
@@ -157,9 +208,11 @@ mod tests {
         for number in 1..=12 {
             let refusal = Refusal::from_number(number).unwrap();
             assert_eq!(refusal.number(), number);
+            assert_eq!(Refusal::try_from(u32::from(refusal)), Ok(refusal));
         }
         for number in [0, 13, 19, u32::MAX] {
             assert_eq!(Refusal::from_number(number), None);
+            assert_eq!(Refusal::try_from(number), Err(NoRefusal(number)));
         }
     }
 

@@ -51,8 +51,13 @@ impl Folder {
 
     /// Calls the command with these words, in this folder.
     pub fn call(&self, words: &str) -> Done {
+        self.call_words(&words.split_whitespace().collect::<Vec<_>>())
+    }
+
+    /// Calls it with words that may have spaces in them.
+    pub fn call_words(&self, words: &[&str]) -> Done {
         let mut command = self.command();
-        command.args(words.split_whitespace());
+        command.args(words);
         finish(&mut command)
     }
 

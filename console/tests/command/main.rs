@@ -1,14 +1,19 @@
 //! The command as its owner calls it: whole outputs, exit status, and what is in the folder after.
 
+mod compared;
 mod folder;
 mod lost;
+mod objects;
 mod page;
 mod printed;
+mod read_json;
 mod record_lines;
 mod replaced;
 mod report;
 mod shown;
 mod told;
+mod tried;
+mod why;
 
 use folder::Folder;
 
@@ -54,6 +59,19 @@ fn a_plan_after_a_box_was_replaced() {
     let shown = folder.call("show next.txt next");
     assert_eq!((shown.status, shown.err.as_str()), (0, ""));
     assert_eq!(shown.out, include_str!("show.txt"));
+}
+
+/// The README's sample is that plan, under other names.
+#[test]
+fn the_readme_shows_what_is_printed() {
+    let printed = include_str!("next.txt").replace("next.txt", "shop.txt");
+    let printed = printed.replace("Written to next.", "Written to shop-next.layout.");
+    let indented = |line: &str| match line {
+        "" => "\n".into(),
+        line => format!("    {line}\n"),
+    };
+    let sample: String = printed.lines().map(indented).collect();
+    assert!(include_str!("../../../README.md").contains(&sample));
 }
 
 #[test]
@@ -361,6 +379,8 @@ fn help_and_version_are_printed() {
         "check -h",
         "show home.txt last --help",
         "record -h",
+        "diff --help",
+        "what-if -h",
     ] {
         let help = folder.call(line);
         assert_eq!((help.status, help.err.as_str()), (0, ""), "{line}");

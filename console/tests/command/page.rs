@@ -32,14 +32,22 @@ fn element(rest: &mut &str) -> Element {
     let mut element = start(head.trim_end_matches('/'));
     // Browsers take `<p/>` for a beginning; only these are empty for them.
     let in_svg = ["rect", "line", "path", "use"].contains(&element.name.as_str());
-    assert_eq!(is_empty, in_svg && is_empty || element.name == "meta", "{head}");
+    assert_eq!(
+        is_empty,
+        in_svg && is_empty || element.name == "meta",
+        "{head}"
+    );
     if is_empty {
         return element;
     }
     loop {
         let (text, _) = rest.split_at(rest.find('<').expect("each element ends"));
         if !text.is_empty() {
-            let text = if element.name == "style" { text.into() } else { unescaped(text) };
+            let text = if element.name == "style" {
+                text.into()
+            } else {
+                unescaped(text)
+            };
             element.parts.push(Part::Text(text));
         }
         *rest = &rest[text.len()..];

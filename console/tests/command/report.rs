@@ -39,7 +39,10 @@ fn the_page_of_a_small_cluster() {
     assert_eq!((done.status, done.err.as_str()), (0, ""));
     assert_eq!(done.out, include_str!("report.txt"));
     let page = String::from_utf8(folder.read("page.html")).expect("text");
-    assert!(page == include_str!("report.html"), "the page differs from report.html:\n{page}");
+    assert!(
+        page == include_str!("report.html"),
+        "the page differs from report.html:\n{page}"
+    );
     let names = ["last", "next", "page.html", "small.txt"];
     assert_eq!(folder.names(), names);
 }
@@ -48,7 +51,11 @@ fn the_page_of_a_small_cluster() {
 fn names_are_shown_as_they_are_written() {
     let page = page_of(&small("report-names"), "small.txt next --former last");
     assert_eq!(page.with_id("box-1").named("td")[0].text(), "<b>&\"");
-    let labels: Vec<String> = page.of_class("label").iter().map(|label| label.text()).collect();
+    let labels: Vec<String> = page
+        .of_class("label")
+        .iter()
+        .map(|label| label.text())
+        .collect();
     let shown = labels.iter().filter(|label| *label == "1 <b>&\"");
     assert_eq!(shown.count(), 2, "at its bar and in the map: {labels:?}");
 }
@@ -72,7 +79,11 @@ fn stands_alone(text: &str) {
         let (id, _) = part.split_once(')').expect("it ends");
         assert!(different.contains(id.trim_start_matches('#')), "{id}");
     }
-    for figure in page.named("svg").iter().filter(|svg| svg.get("aria-hidden") != "true") {
+    for figure in page
+        .named("svg")
+        .iter()
+        .filter(|svg| svg.get("aria-hidden") != "true")
+    {
         assert!(!figure.named("title").is_empty(), "{figure:?}");
     }
 }
@@ -85,7 +96,10 @@ fn number(text: &str) -> u64 {
 
 /// Thousandths of a percent.
 fn thousandths(text: &str) -> u64 {
-    let (whole, rest) = text.trim_end_matches('%').split_once('.').unwrap_or((text.trim_end_matches('%'), ""));
+    let (whole, rest) = text
+        .trim_end_matches('%')
+        .split_once('.')
+        .unwrap_or((text.trim_end_matches('%'), ""));
     number(whole) * 1000 + number(&format!("{rest:0<3}"))
 }
 
@@ -144,34 +158,56 @@ fn columns(row: &Element, class: &str) -> BTreeSet<usize> {
     columns
 }
 
-/// Each cell of the map is what the table of the partitions says.
-fn map_agrees_with_table(page: &Element) {
-    let map = page.with_id("map");
+/// The rows before and after of each partition, as the table has them.
+fn table(page: &Element) -> BTreeMap<u64, [BTreeMap<u32, String>; 2]> {
+    let rows = page.with_id("partitions").named("tr").into_iter();
+    let rows = rows.filter(|row| !row.get("id").is_empty());
+    let row = |row: &Element| {
+        let cells = row.named("td");
+        (number(row.get("id")), [ids(cells[0]), ids(cells[1])])
+    };
+    rows.map(row).collect()
+}
+
+/// The partitions in the order of the map's columns.
+fn order(map: &Element) -> Vec<u64> {
     let strip = map.of_class("strip")[0].named("rect");
     let groups = strip.iter().map(|group| group.named("title")[0].text());
     let numbers = |group: String| -> Vec<u64> { group.split(',').map(number).collect() };
-    let order: Vec<u64> = groups.flat_map(numbers).collect();
-    let mut rows = 0;
-    for row in map.of_class("row").into_iter().filter(|row| !row.of_class("id").is_empty()) {
+    groups.flat_map(numbers).collect()
+}
+
+/// Each cell of the map is what the table of the partitions says.
+fn map_agrees_with_table(page: &Element) {
+    let (map, table) = (page.with_id("map"), table(page));
+    let order = order(map);
+    assert!(order
+        .iter()
+        .collect::<BTreeSet<_>>()
+        .into_iter()
+        .eq(table.keys()));
+    let rows = map.of_class("row").into_iter();
+    let rows: Vec<&Element> = rows.filter(|row| !row.of_class("id").is_empty()).collect();
+    assert!(!rows.is_empty());
+    for row in rows {
         let id: u32 = row.of_class("id")[0].text().parse().expect("an id");
-        let [kept, received, hollow] = ["kept", "orange", "hollow"].map(|class| columns(row, class));
+        let drawn = ["kept", "orange", "hollow"].map(|class| columns(row, class));
         for (column, partition) in order.iter().enumerate() {
-            let cells = page.with_id(&format!("partition-{partition}")).named("td");
-            let (before, after) = (ids(cells[0]), ids(cells[1]));
-            let is = |set: &BTreeSet<usize>| set.contains(&column);
-            let drawn = (is(&kept), is(&received), is(&hollow));
-            let (was, will) = (before.contains_key(&id), after.contains_key(&id));
-            assert_eq!(drawn, (was && will, !was && will, was && !will), "{id} {partition}");
-            let marked = before.get(&id).is_some_and(|tag| !tag.is_empty());
-            assert_eq!(marked, was && !will, "{id} {partition}");
-            assert_eq!(after.get(&id).is_some_and(|tag| tag == "b"), !was && will);
+            let [before, after] = &table[partition];
+            let (was, will) = (before.get(&id), after.get(&id));
+            let cell = drawn.each_ref().map(|columns| columns.contains(&column));
+            let (had, has) = (was.is_some(), will.is_some());
+            let expected = [had && has, !had && has, had && !has];
+            assert_eq!(cell, expected, "box {id}, partition {partition}");
+            let struck = was.is_some_and(|tag| ["s", "del"].contains(&tag.as_str()));
+            let bold = will.is_some_and(|tag| tag == "b");
+            assert_eq!(
+                [bold, struck],
+                expected[1..],
+                "box {id}, partition {partition}"
+            );
         }
-        rows += 1;
     }
-    assert!(rows > 0);
-    let mut sorted = order.clone();
-    sorted.sort_unstable();
-    assert!(sorted.iter().copied().eq(0..order.len() as u64), "each partition has a column");
 }
 
 #[test]
@@ -182,7 +218,10 @@ fn bars_and_map_agree_with_the_tables() {
     map_agrees_with_table(&page);
 
     let folder = planned_home("report-home");
-    assert_eq!(folder.call("plan next.txt --former last --out next").status, 0);
+    assert_eq!(
+        folder.call("plan next.txt --former last --out next").status,
+        0
+    );
     let page = page_of(&folder, "next.txt next --former last");
     let tb = |n: u64| n * 1_000_000;
     let capacities = [(1, tb(4)), (2, tb(2)), (3, tb(4)), (4, tb(2)), (6, tb(4))];
@@ -194,31 +233,43 @@ fn bars_and_map_agree_with_the_tables() {
     assert_eq!(lead(&page), told);
 }
 
-/// The most boxes with the longest ids, names and zones, all but one new; eight copies each.
-fn largest(name: &str) -> Folder {
-    let folder = Folder::new(name);
-    let described = |first: u32, step: u32| {
-        let boxes = (0..32u32).map(|b| {
-            let (quotes, zone) = ("\"".repeat(200), format!("{b}-{}", "\"".repeat(100)));
-            format!("box {} {zone} {}T {quotes}\n", first + b, 2 + (b * step) % 7)
-        });
-        format!("copies 8\nzones 4\n{}", boxes.collect::<String>())
+/// Eight of the 32 ids from this one on for each partition, in no order that makes groups.
+fn scattered(first: u32, seed: u32) -> Vec<u8> {
+    let mut state = seed;
+    let mut below = |most: usize| {
+        state = state.wrapping_mul(1_664_525).wrapping_add(1_013_904_223);
+        (state >> 8) as usize % most
     };
-    folder.write("before.txt", described(4_294_967_200, 3));
-    folder.write("after.txt", described(4_294_967_231, 5));
-    assert_eq!(folder.call("plan before.txt --out before").status, 0);
-    folder
+    let mut rows = Vec::new();
+    for _ in 0..256 {
+        let mut ids: Vec<u32> = (first..=first + 31).collect();
+        while ids.len() > 8 {
+            ids.remove(below(ids.len()));
+        }
+        rows.push(ids);
+    }
+    let rows: Vec<&[u32]> = rows.iter().map(Vec::as_slice).collect();
+    layout_record(8, 1, &rows)
 }
 
+/// The most boxes with the longest ids, names and zones, all but one new; eight copies each.
 #[test]
 fn the_largest_page_is_not_long() {
-    let folder = largest("report-largest");
-    let page = page_of(&folder, "after.txt --former before");
+    let folder = Folder::new("report-largest");
+    let boxes = (0..32u32).map(|b| {
+        let (quotes, zone) = ("\"".repeat(200), format!("{b}-{}", "\"".repeat(100)));
+        format!("box {} {zone} {}T {quotes}\n", 4_294_967_231 + b, 2 + b % 7)
+    });
+    let text = format!("copies 8\nzones 1\n{}", boxes.collect::<String>());
+    folder.write("home.txt", text);
+    folder.write("last", scattered(4_294_967_200, 1));
+    folder.write("next", scattered(4_294_967_231, 2));
+    let page = page_of(&folder, "home.txt next --former last");
     map_agrees_with_table(&page);
     let bytes = folder.read("page.html");
     assert!(bytes.len() < 400_000, "{}", bytes.len());
     stands_alone(std::str::from_utf8(&bytes).expect("text"));
-    let again = folder.call("report after.txt --former before --out page.html");
+    let again = folder.call("report home.txt next --former last --out page.html");
     assert_eq!(again.status, 0, "it is known as a page: {}", again.err);
 }
 
@@ -249,9 +300,15 @@ fn losses_come_first() {
     assert_eq!(told, expected);
     let marked = |partition: u32| {
         let row = page.with_id(&format!("partition-{partition}"));
-        row.named("em").iter().map(|em| em.text()).collect::<String>()
+        row.named("em")
+            .iter()
+            .map(|em| em.text())
+            .collect::<String>()
     };
-    assert_eq!([0, 1, 2, 3].map(marked), ["one left", "", "one left", "none left"]);
+    assert_eq!(
+        [0, 1, 2, 3].map(marked),
+        ["one left", "", "one left", "none left"]
+    );
 }
 
 /// What the layout's own record says was true of the layout that it was planned from.
@@ -267,25 +324,43 @@ fn only_what_holds_from_the_former_layout_is_told() {
     let swapped: [&[u32]; 4] = [&[1, 3], &[1, 3], &[1, 4], &[1, 4]];
     let start = "2 copies of everything, in at least 2 zones. Each partition may grow to ";
     let sent = |number: u32, size: u32, dropped: &str| {
-        format!("{number} copies (up to {} MB) have to be sent, {dropped} dropped.", number * size)
+        format!(
+            "{number} copies (up to {} MB) have to be sent, {dropped} dropped.",
+            number * size
+        )
     };
     let (with, without) = of(27, best);
-    let fewest = format!("{start}27 MB: 108 MB in all. {} No layout of this size needs fewer.", sent(4, 27, "none"));
+    let fewest = format!(
+        "{start}27 MB: 108 MB in all. {} No layout of this size needs fewer.",
+        sent(4, 27, "none")
+    );
     assert_eq!(with, fewest);
     assert_eq!(without, format!("{start}27 MB: 108 MB in all."));
     let (with, _) = of(27, swapped);
-    let more = format!("{start}27 MB: 108 MB in all. {} Another layout of this size needs 1 fewer.", sent(5, 27, "1"));
+    let more = format!(
+        "{start}27 MB: 108 MB in all. {} Another layout of this size needs 1 fewer.",
+        sent(5, 27, "1")
+    );
     assert_eq!(with, more);
     let larger = "The disks allow 27 MB a partition: a new plan has more.";
     let (with, without) = of(26, best);
-    assert_eq!(with, format!("{start}26 MB: 104 MB in all. {} {larger}", sent(4, 26, "none")));
+    assert_eq!(
+        with,
+        format!(
+            "{start}26 MB: 104 MB in all. {} {larger}",
+            sent(4, 26, "none")
+        )
+    );
     assert_eq!(without, format!("{start}26 MB: 104 MB in all. {larger}"));
 }
 
 #[test]
 fn without_a_layout_the_plan_is_shown() {
     let folder = planned_home("report-planned");
-    assert_eq!(folder.call("plan next.txt --former last --out next").status, 0);
+    assert_eq!(
+        folder.call("plan next.txt --former last --out next").status,
+        0
+    );
     let given = page_of(&folder, "next.txt next --former last");
     let planned = page_of(&folder, "next.txt --former last");
     assert_eq!(lead(&planned), lead(&given));
@@ -307,10 +382,17 @@ fn without_a_former_layout_nothing_moves() {
     let page = page_of(&small("report-still"), "small.txt next");
     assert!(page.of_class("danger").is_empty());
     for class in ["received", "orange", "hollow", "gone"] {
-        let drawn = page.with_id("boxes").of_class(class).len() + page.with_id("map").of_class(class).len();
+        let drawn =
+            page.with_id("boxes").of_class(class).len() + page.with_id("map").of_class(class).len();
         assert_eq!(drawn, 0, "{class}");
     }
-    let row: Vec<String> = page.with_id("partition-2").all().iter().skip(1).map(|cell| cell.text()).collect();
+    let row: Vec<String> = page
+        .with_id("partition-2")
+        .all()
+        .iter()
+        .skip(1)
+        .map(|cell| cell.text())
+        .collect();
     assert_eq!(row, ["2", "1 3"]);
 }
 
@@ -318,9 +400,16 @@ fn without_a_former_layout_nothing_moves() {
 #[test]
 fn a_refusal_has_its_page_too() {
     let folder = small("report-refused");
-    folder.write("four.txt", SMALL.replace("zones 2", "zones 4").replace("copies 2", "copies 4"));
-    let why = "There is no layout: 4 copies need 4 boxes with disk space, and 3 have any (refused 9).";
-    let other = "last is not valid for small.txt as it is now: partition 0 lies on box 2, which is \
+    folder.write(
+        "four.txt",
+        SMALL
+            .replace("zones 2", "zones 4")
+            .replace("copies 2", "copies 4"),
+    );
+    let why =
+        "There is no layout: 4 copies need 4 boxes with disk space, and 3 have any (refused 9).";
+    let other =
+        "last is not valid for small.txt as it is now: partition 0 lies on box 2, which is \
                  not there (refused 10).";
     for (call, why) in [("four.txt", why), ("small.txt last", other)] {
         let done = folder.call(&format!("report {call} --out page.html"));
@@ -351,8 +440,15 @@ fn only_a_page_is_replaced_by_a_page_and_it_is_kept() {
         assert!(folder.read(file) == before);
     }
     let done = folder.call(&format!("{call} small.txt"));
-    assert!(done.err.contains("would replace the description"), "{}", done.err);
-    assert_eq!(folder.call("report small.txt next --out page.html").status, 0);
+    assert!(
+        done.err.contains("would replace the description"),
+        "{}",
+        done.err
+    );
+    assert_eq!(
+        folder.call("report small.txt next --out page.html").status,
+        0
+    );
     let first = folder.read("page.html");
     let done = folder.call(&format!("{call} page.html"));
     let told = "Written to page.html.\nThe report page before it is kept as page.html.old.\n";
@@ -380,7 +476,11 @@ fn faults_of_the_files_are_told_and_nothing_is_written() {
         ),
     ] {
         let done = folder.call(&format!("report {call} --out page.html"));
-        assert_eq!((done.status, done.err.as_str(), done.out.as_str()), (2, told, ""), "{call}");
+        assert_eq!(
+            (done.status, done.err.as_str(), done.out.as_str()),
+            (2, told, ""),
+            "{call}"
+        );
     }
     let names = ["home.txt", "last", "next.txt", "three.txt"];
     assert_eq!(folder.names(), names);

@@ -33,6 +33,51 @@ fn one_partition_of_an_old_layout_is_shown() {
     assert_eq!((done.status, done.out.as_str()), (0, row));
 }
 
+#[test]
+fn the_partitions_of_one_box_are_shown() {
+    let folder = edited("one-box");
+    let shown = |id: u32| {
+        let done = folder.call(&format!("show home.txt last --box {id}"));
+        (done.status, done.out + &done.err)
+    };
+    let gone = "Box 1 (not there any more) holds 3 of 4 partitions:\n\n    0    1    2\n";
+    assert_eq!(shown(1), (0, gone.into()));
+    let tower = "Box 2 (tower, shop) holds 3 of 4 partitions:\n\n    0    1    3\n";
+    assert_eq!(shown(2), (0, tower.into()));
+    let unused = "Box 4 (home) holds none of 4 partitions.\n";
+    assert_eq!(shown(4), (0, unused.into()));
+    let other = "there is no box 9 in home.txt, and last has no copy on one\n";
+    assert_eq!(shown(9), (2, other.into()));
+}
+
+/// At the sample's size box 1 has 205 of 256 partitions: twelve lines of sixteen and one of
+/// thirteen, all of them different and rising.
+#[test]
+fn many_partitions_are_shown_in_lines() {
+    let done = planned_home("many").call("show home.txt last --box 1");
+    let (head, list) = done.out.split_once("\n\n").unwrap();
+    let expected = "Box 1 (big tower, workshop) holds 205 of 256 partitions:";
+    assert_eq!((done.status, head), (0, expected));
+    let lines: Vec<Vec<u8>> = list
+        .lines()
+        .map(|line| {
+            line.split_whitespace()
+                .map(|n| n.parse().unwrap())
+                .collect()
+        })
+        .collect();
+    let lengths: Vec<usize> = lines.iter().map(Vec::len).collect();
+    assert_eq!(lengths, [[16; 12].as_slice(), &[13]].concat());
+    assert!(lines.concat().windows(2).all(|pair| pair[0] < pair[1]));
+}
+
+#[test]
+fn every_partition_is_shown() {
+    let done = edited("all").call("show home.txt last --all");
+    assert_eq!((done.status, done.err.as_str()), (0, ""));
+    assert_eq!(done.out, include_str!("show-all.txt"));
+}
+
 /// All boxes are there, and the layout does not fit them for another reason.
 #[test]
 fn a_layout_that_fits_no_more_is_shown() {

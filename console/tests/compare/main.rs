@@ -5,6 +5,7 @@
 
 mod cells;
 mod clusters;
+mod counts;
 mod cycles;
 mod demands;
 mod lent;

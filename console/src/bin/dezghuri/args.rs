@@ -1,54 +1,18 @@
 //! The words that the command is called with.
 
+use crate::units;
 use std::ffi::OsString;
 use std::path::PathBuf;
 
-/// What `dezghuri --version` prints.
-pub const VERSION: &str = concat!("dezghuri ", env!("CARGO_PKG_VERSION"), "\n");
-
-/// What `dezghuri help` prints.
-pub const HELP: &str = "\
-Plans where the copies of a cluster of storage boxes lie.
-
-  dezghuri plan FILE [--former LAST] [--out NEXT] [--allowance N] [--replace]
-      plans the cluster that FILE describes, starting from the layout LAST, and
-      writes the layout to NEXT; N improvements at most (0 to 65535; without it
-      as many as it takes)
-  dezghuri check FILE LAYOUT
-      says whether LAYOUT is valid for the cluster that FILE describes
-  dezghuri show FILE LAYOUT [PARTITION]
-      shows what the boxes hold, or which boxes hold one partition; a layout of
-      other boxes is shown too, with the boxes that are not there any more
-  dezghuri report FILE [LAYOUT] [--former LAST] --out PAGE
-      writes a page that shows LAYOUT, and what moves from the layout LAST: bars,
-      a map and tables, for a browser or a printer; without LAYOUT it shows what
-      a plan of FILE comes to
-  dezghuri record FILE [--former LAST] [--out RECORD]
-      writes the cluster record that the program `plan` reads
-  dezghuri plan --record RECORD
-      plans a cluster record and prints what the program `plan` prints, for
-      scripts; - is standard input
-  dezghuri help, dezghuri --version
-
-FILE is a text file:
-
-  copies 3                    # of each partition, 1 to 8
-  zones 2                     # that these lie in at least
-  bits 8                      # 2^8 = 256 partitions; may be left out
-  box 1 workshop 4T tower     # id, zone, capacity, and a name if you like
-
-A capacity is in megabytes, or ends in G or T. A zone is a name of one word, or
-a number from 0 to 65535. A # begins a remark.
-
-Nothing is written before the report is printed. A layout that is there already
-is replaced only where it is the --former of this plan, or with --replace; it is
-kept as NEXT.old. What is not a layout is never replaced.
-
-Exit status: 0 done; 1 there is no such layout, or it is not valid; 2 the call
-or a file is at fault, or the report could not be printed.
-";
-
 /// One call of the command.
+#[derive(Debug, PartialEq, Eq)]
+pub struct Call {
+    pub command: Command,
+    /// Whether one JSON object is printed in the place of a text.
+    pub json: bool,
+}
+
+/// What is to be done.
 #[derive(Debug, PartialEq, Eq)]
 pub enum Command {
     Help,
@@ -70,7 +34,17 @@ pub enum Command {
     Show {
         file: PathBuf,
         layout: PathBuf,
-        partition: Option<u8>,
+        what: Shown,
+    },
+    Diff {
+        file: PathBuf,
+        old: PathBuf,
+        new: PathBuf,
+    },
+    WhatIf {
+        file: PathBuf,
+        former: Option<PathBuf>,
+        changes: Vec<Change>,
     },
     Report {
         file: PathBuf,
@@ -85,30 +59,129 @@ pub enum Command {
     },
 }
 
-/// Options of `plan` that have a word after them.
-const PLAN_OPTIONS: [&str; 4] = ["--former", "--out", "--allowance", "--record"];
+/// What is shown of a layout.
+#[derive(Clone, Copy, Debug, PartialEq, Eq)]
+pub enum Shown {
+    Overview,
+    Partition(u8),
+    Box(u32),
+    All,
+}
+
+/// A change of the boxes that is tried.
+#[derive(Clone, Debug, PartialEq, Eq)]
+pub enum Change {
+    /// The words of a box's line in the file, without its id.
+    Add(String),
+    Remove(u32),
+    /// The capacity in megabytes.
+    Resize(u32, u32),
+}
+
+/// What the words after a command may be.
+#[derive(Clone, Copy)]
+struct Grammar {
+    /// Options with a word after them.
+    options: &'static [&'static str],
+    /// Those that may come several times.
+    repeated: &'static [&'static str],
+    flags: &'static [&'static str],
+}
+
+/// The commands that take words, each with what they may be.
+const GRAMMARS: [(&str, Grammar); 7] = [
+    (
+        "plan",
+        Grammar {
+            options: &["--former", "--out", "--allowance", "--record"],
+            repeated: &[],
+            flags: &["--replace", JSON],
+        },
+    ),
+    ("check", NO_OPTIONS),
+    (
+        "show",
+        Grammar {
+            options: &["--box"],
+            repeated: &[],
+            flags: &["--all", JSON],
+        },
+    ),
+    ("diff", NO_OPTIONS),
+    (
+        "what-if",
+        Grammar {
+            options: &["--former", "--add", "--remove", "--resize"],
+            repeated: &["--add", "--remove", "--resize"],
+            flags: &[JSON],
+        },
+    ),
+    ("report", TO_A_FILE),
+    ("record", TO_A_FILE),
+];
+
+const TO_A_FILE: Grammar = Grammar {
+    options: &["--former", "--out"],
+    repeated: &[],
+    flags: &[],
+};
+
+const NO_OPTIONS: Grammar = Grammar {
+    options: &[],
+    repeated: &[],
+    flags: &[JSON],
+};
+
+/// Asks for an object in the place of a text.
+pub const JSON: &str = "--json";
+
+/// The name of a command that takes words, if the word is one.
+pub fn command_name(word: &OsString) -> Option<&'static str> {
+    let mut names = GRAMMARS.iter().map(|(name, _)| *name);
+    names.find(|name| word == *name)
+}
 
 /// The call that the words make, or what is wrong with them.
-pub fn parse(words: impl IntoIterator<Item = OsString>) -> Result<Command, String> {
+pub fn parse(words: impl IntoIterator<Item = OsString>) -> Result<Call, String> {
     let mut words = words.into_iter();
     let Some(first) = words.next() else {
-        return Err("say what to do: plan, check, show, report, record or help".into());
+        return Err(
+            "say what to do: plan, check, show, diff, what-if, report, record or help".into(),
+        );
     };
     let words: Vec<OsString> = words.collect();
-    let is_help = |word: &OsString| word == "--help" || word == "-h";
+    let plain = |command| {
+        Ok(Call {
+            command,
+            json: false,
+        })
+    };
     match first.to_str() {
-        Some("help" | "--help" | "-h") => Ok(Command::Help),
-        Some("--version" | "-V" | "version") => Ok(Command::Version),
-        Some("plan" | "check" | "show" | "report" | "record") if words.iter().any(is_help) => {
-            Ok(Command::Help)
-        }
-        Some("plan") => plan(Words::sort(words, &PLAN_OPTIONS, &["--replace"])?),
-        Some("check") => check(Words::sort(words, &[], &[])?),
-        Some("show") => show(Words::sort(words, &[], &[])?),
-        Some("report") => report(Words::sort(words, &["--former", "--out"], &[])?),
-        Some("record") => record(Words::sort(words, &["--former", "--out"], &[])?),
-        _ => Err(format!("there is no command {first:?}")),
+        Some("help" | "--help" | "-h") => return plain(Command::Help),
+        Some("--version" | "-V" | "version") => return plain(Command::Version),
+        _ => (),
     }
+    let Some((name, grammar)) = GRAMMARS.iter().find(|(name, _)| first == *name) else {
+        return Err(format!("there is no command {first:?}"));
+    };
+    if words.iter().any(|word| word == "--help" || word == "-h") {
+        return plain(Command::Help);
+    }
+    let words = Words::sort(words, grammar)?;
+    let json = words.flag(JSON);
+    let command = match *name {
+        "plan" => plan(words),
+        "check" => check(words),
+        "show" => show(words),
+        "diff" => diff(words),
+        "what-if" => what_if(words),
+        "report" => report(words),
+        _ => record(words),
+    };
+    Ok(Call {
+        command: command?,
+        json,
+    })
 }
 
 fn plan(mut words: Words) -> Result<Command, String> {
@@ -146,30 +219,85 @@ fn check(words: Words) -> Result<Command, String> {
 }
 
 fn show(mut words: Words) -> Result<Command, String> {
-    let partition = match words.places.len() {
-        3 => words.places.pop(),
-        _ => None,
-    };
-    let partition = match partition {
-        None => None,
-        Some(word) => Some(number(&word).ok_or("PARTITION is a number from 0 to 255")?),
+    let mut asked = Vec::new();
+    if words.places.len() == 3 {
+        let partition = words.places.pop().and_then(|word| number(&word));
+        let partition = partition.ok_or("PARTITION is a number from 0 to 255")?;
+        asked.push(Shown::Partition(partition));
+    }
+    if let Some(word) = words.option("--box") {
+        asked.push(Shown::Box(id("--box", &word)?));
+    }
+    if words.flag("--all") {
+        asked.push(Shown::All);
+    }
+    let what = match asked[..] {
+        [] => Shown::Overview,
+        [what] => what,
+        _ => return Err("one of PARTITION, --box and --all is shown at a time".into()),
     };
     let [file, layout] = words.places("a FILE and a LAYOUT, and perhaps a PARTITION")?;
     Ok(Command::Show {
         file: file.into(),
         layout: layout.into(),
-        partition,
+        what,
     })
+}
+
+fn diff(words: Words) -> Result<Command, String> {
+    let [file, old, new] = words.places("a FILE, an OLD and a NEW layout")?;
+    Ok(Command::Diff {
+        file: file.into(),
+        old: old.into(),
+        new: new.into(),
+    })
+}
+
+fn what_if(mut words: Words) -> Result<Command, String> {
+    let former = words.path("--former");
+    let changes = std::mem::take(&mut words.options);
+    let changes: Vec<Change> = changes
+        .iter()
+        .map(|(name, word)| change(name, word))
+        .collect::<Result<_, _>>()?;
+    if changes.is_empty() {
+        return Err("say what would change: --add, --remove or --resize".into());
+    }
+    let [file] = words.places("a FILE")?;
+    Ok(Command::WhatIf {
+        file: file.into(),
+        former,
+        changes,
+    })
+}
+
+fn change(name: &'static str, word: &OsString) -> Result<Change, String> {
+    match name {
+        "--remove" => Ok(Change::Remove(id(name, word)?)),
+        "--resize" => {
+            let text = word.to_str().unwrap_or("");
+            let Some((box_, capacity)) = text.split_once('=') else {
+                return Err("--resize takes a box and its capacity, as 3=8T".into());
+            };
+            let capacity = units::megabytes(capacity)?;
+            Ok(Change::Resize(id(name, &box_.into())?, capacity))
+        }
+        _ => match word.to_str() {
+            Some(words) => Ok(Change::Add(words.into())),
+            None => Err(format!("{name} takes plain text")),
+        },
+    }
 }
 
 fn report(mut words: Words) -> Result<Command, String> {
     let former = words.path("--former");
-    let out = words.path("--out").ok_or("a page is written to a file: --out PAGE")?;
+    let out = words.path("--out");
+    let out = out.ok_or("a page is written to a file: --out PAGE")?;
     let layout = match words.places.len() {
         2 => words.places.pop().map(PathBuf::from),
         _ => None,
     };
-    let [file] = words.places("a FILE, and perhaps a LAYOUT")?;
+    let [file] = words.places("a FILE, and perhaps a LAYOUT,")?;
     Ok(Command::Report {
         file: file.into(),
         layout,
@@ -192,6 +320,12 @@ fn number<T: std::str::FromStr>(word: &OsString) -> Option<T> {
     word.to_str()?.parse().ok()
 }
 
+/// The id of a box after an option.
+fn id(option: &str, word: &OsString) -> Result<u32, String> {
+    let id = number(word).filter(|id| *id != 0);
+    id.ok_or_else(|| format!("{option} takes the id of a box, and not {word:?}"))
+}
+
 /// The words after the first, options apart from the others.
 struct Words {
     places: Vec<OsString>,
@@ -201,11 +335,7 @@ struct Words {
 
 impl Words {
     /// Tells options, each with its value, and flags from the other words.
-    fn sort(
-        words: Vec<OsString>,
-        options: &[&'static str],
-        flags: &[&'static str],
-    ) -> Result<Words, String> {
+    fn sort(words: Vec<OsString>, grammar: &Grammar) -> Result<Words, String> {
         let mut sorted = Words {
             places: Vec::new(),
             options: Vec::new(),
@@ -221,11 +351,11 @@ impl Words {
                 Some((name, value)) => (name, Some(OsString::from(value))),
                 None => (text, None),
             };
-            if let Some(flag) = flags.iter().find(|flag| **flag == name) {
+            if let Some(flag) = grammar.flags.iter().find(|flag| **flag == name) {
                 sorted.add_flag(flag, value)?;
-            } else if let Some(option) = options.iter().find(|option| **option == name) {
+            } else if let Some(option) = grammar.options.iter().find(|option| **option == name) {
                 let value = value.or_else(|| words.next_if(|next| !is_option(next)));
-                sorted.add_option(option, value)?;
+                sorted.add_option(option, value, grammar.repeated.contains(option))?;
             } else {
                 return Err(format!("{name} is not an option here"));
             }
@@ -241,8 +371,13 @@ impl Words {
         Ok(())
     }
 
-    fn add_option(&mut self, name: &'static str, value: Option<OsString>) -> Result<(), String> {
-        if self.options.iter().any(|(earlier, _)| *earlier == name) {
+    fn add_option(
+        &mut self,
+        name: &'static str,
+        value: Option<OsString>,
+        may_repeat: bool,
+    ) -> Result<(), String> {
+        if !may_repeat && self.options.iter().any(|(earlier, _)| *earlier == name) {
             return Err(format!("{name} is given twice"));
         }
         let Some(value) = value else {
@@ -290,7 +425,9 @@ mod tests {
     use super::*;
 
     fn called(line: &str) -> Result<Command, String> {
-        parse(line.split_whitespace().map(OsString::from))
+        let call = parse(line.split_whitespace().map(OsString::from))?;
+        assert!(!call.json);
+        Ok(call.command)
     }
 
     #[test]
@@ -333,8 +470,10 @@ mod tests {
             "plan home.txt --help",
             "check --help",
             "show --speed 7 -h",
-            "report home.txt -h",
             "record home.txt --out --help",
+            "diff -h",
+            "what-if --help",
+            "report home.txt -h",
         ] {
             assert_eq!(called(line), Ok(Command::Help), "{line}");
         }
@@ -352,15 +491,61 @@ mod tests {
     }
 
     #[test]
-    fn a_partition_may_be_named() {
-        let partition = |line| match called(line) {
-            Ok(Command::Show { partition, .. }) => Ok(partition),
+    fn one_thing_of_a_layout_is_shown() {
+        let shown = |line| match called(line) {
+            Ok(Command::Show { what, .. }) => Ok(what),
             other => Err(other),
         };
-        assert_eq!(partition("show home.txt last"), Ok(None));
-        assert_eq!(partition("show home.txt last 255"), Ok(Some(255)));
-        assert!(partition("show home.txt last 256").is_err());
-        assert!(partition("show home.txt last 1 2").is_err());
+        assert_eq!(shown("show home.txt last"), Ok(Shown::Overview));
+        assert_eq!(shown("show home.txt last 255"), Ok(Shown::Partition(255)));
+        assert_eq!(shown("show home.txt --box 3 last"), Ok(Shown::Box(3)));
+        assert_eq!(shown("show home.txt last --all"), Ok(Shown::All));
+        assert!(shown("show home.txt last 256").is_err());
+        assert!(shown("show home.txt last 1 2").is_err());
+        for two in ["17 --all", "17 --box 3", "--box 3 --all"] {
+            let told = "one of PARTITION, --box and --all is shown at a time";
+            assert_eq!(
+                called(&format!("show home.txt last {two}")),
+                Err(told.into())
+            );
+        }
+    }
+
+    #[test]
+    fn changes_come_in_their_order() {
+        let words = [
+            "what-if", "home.txt", "--resize", "3=1.5T", "--add", "attic 4T",
+        ];
+        let more = ["--remove=2", "--former", "last", "--add=shed 1T new"];
+        let call = parse(words.iter().chain(&more).map(OsString::from)).unwrap();
+        let expected = Command::WhatIf {
+            file: "home.txt".into(),
+            former: Some("last".into()),
+            changes: vec![
+                Change::Resize(3, 1_500_000),
+                Change::Add("attic 4T".into()),
+                Change::Remove(2),
+                Change::Add("shed 1T new".into()),
+            ],
+        };
+        assert_eq!(call.command, expected);
+    }
+
+    #[test]
+    fn an_object_may_be_asked_for() {
+        for line in [
+            "plan home.txt --json",
+            "check --json home.txt last",
+            "show home.txt last 7 --json",
+            "diff home.txt last next --json",
+            "what-if home.txt --remove 2 --json",
+        ] {
+            let call = parse(line.split_whitespace().map(OsString::from));
+            assert!(call.unwrap().json, "{line}");
+        }
+        for line in ["record home.txt --json", "plan --record - --json"] {
+            assert!(called(line).is_err(), "{line}");
+        }
     }
 
     #[test]
@@ -384,7 +569,10 @@ mod tests {
     #[test]
     fn faulty_calls_are_told() {
         let faults = [
-            ("", "say what to do: plan, check, show, report, record or help"),
+            (
+                "",
+                "say what to do: plan, check, show, diff, what-if, report, record or help",
+            ),
             ("plam home.txt", "there is no command \"plam\""),
             ("plan", "a FILE is wanted, not 0 words"),
             (
@@ -410,6 +598,34 @@ mod tests {
             (
                 "plan home.txt --allowance 65536",
                 "--allowance takes a number from 0 to 65535",
+            ),
+            (
+                "show home.txt last --box study",
+                "--box takes the id of a box, and not \"study\"",
+            ),
+            (
+                "diff home.txt last",
+                "a FILE, an OLD and a NEW layout is wanted, not 2 words",
+            ),
+            (
+                "what-if home.txt",
+                "say what would change: --add, --remove or --resize",
+            ),
+            (
+                "what-if home.txt --remove 0",
+                "--remove takes the id of a box, and not \"0\"",
+            ),
+            (
+                "what-if home.txt --resize 3:8T",
+                "--resize takes a box and its capacity, as 3=8T",
+            ),
+            (
+                "what-if home.txt --resize 3=1.5",
+                "1.5 is not a whole number of megabytes",
+            ),
+            (
+                "what-if home.txt --remove 1 --former a --former b",
+                "--former is given twice",
             ),
         ];
         for (line, fault) in faults {

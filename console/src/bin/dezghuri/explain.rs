@@ -1,12 +1,11 @@
 //! Refusals in the words of the owner.
 
-use crate::cluster_file::Described;
 use crate::units::{count, thousands};
-use dezghuri::{Place, Plan, Refusal, Refused};
+use dezghuri::{Description, Place, Plan, Refusal, Refused};
 use std::collections::BTreeSet;
 
 /// Why the cluster has no plan.
-pub fn no_plan(described: &Described, refused: Refused) -> String {
+pub fn no_plan(described: &Description, refused: Refused) -> String {
     if refused.refusal != Refusal::NoLayout {
         return refused.to_string();
     }
@@ -16,7 +15,11 @@ pub fn no_plan(described: &Described, refused: Refused) -> String {
     let (copies, wanted) = (cluster.replication.into(), cluster.redundancy.into());
     let why = if usable.len() < copies {
         format!(
-            "{copies} copies need {copies} boxes with disk space, and {}",
+            "{} with disk space, and {}",
+            match copies {
+                1 => "1 copy needs 1 box".into(),
+                _ => format!("{copies} copies need {copies} boxes"),
+            },
             count(usable.len() as u64, "has any", "have any")
         )
     } else if zones.len() < wanted {
@@ -34,7 +37,7 @@ pub fn no_plan(described: &Described, refused: Refused) -> String {
 }
 
 /// Why the plan's layout is not valid for the cluster.
-pub fn not_valid(described: &Described, plan: &Plan, refused: Refused) -> String {
+pub fn not_valid(described: &Description, plan: &Plan, refused: Refused) -> String {
     let why = match refused.place {
         Some(Place::Partition(partition)) if refused.refusal == Refusal::Zones => {
             too_few_zones(described, plan, partition)
@@ -46,7 +49,7 @@ pub fn not_valid(described: &Described, plan: &Plan, refused: Refused) -> String
     format!("{why} (refused {})", refused.refusal.number())
 }
 
-fn bad_row(described: &Described, plan: &Plan, partition: u32) -> String {
+fn bad_row(described: &Description, plan: &Plan, partition: u32) -> String {
     let cluster = &described.cluster;
     if plan.bits != cluster.bits {
         return format!("it has bits {}, {} are wanted", plan.bits, cluster.bits);
@@ -67,7 +70,7 @@ fn bad_row(described: &Described, plan: &Plan, partition: u32) -> String {
     }
 }
 
-fn too_few_zones(described: &Described, plan: &Plan, partition: u32) -> String {
+fn too_few_zones(described: &Description, plan: &Plan, partition: u32) -> String {
     let nodes = described.cluster.nodes.iter().zip(&described.labels);
     let zones: BTreeSet<&str> = nodes
         .filter(|(node, _)| row(plan, partition).contains(&node.id))
@@ -82,7 +85,7 @@ fn too_few_zones(described: &Described, plan: &Plan, partition: u32) -> String {
     )
 }
 
-fn too_full(described: &Described, plan: &Plan, id: u32) -> String {
+fn too_full(described: &Description, plan: &Plan, id: u32) -> String {
     let copies = plan
         .layout
         .rows()

@@ -1,21 +1,24 @@
 //! Why the command fails, and with which exit status.
 
-use std::process::ExitCode;
+use crate::json::Json;
+use dezghuri::Refused;
 
 /// The status of a call to which the planner says no.
 pub const REFUSED: u8 = 1;
 /// The status of a call that is at fault itself, or whose files are.
-const BAD: u8 = 2;
+pub const BAD: u8 = 2;
 
 /// What went wrong, in lines for the owner.
 #[derive(Debug, PartialEq, Eq)]
 pub enum Failure {
     /// The planner says no: there is no such layout, or the layout is not valid.
-    Refused(String),
+    Refused(String, Refused),
     /// A file can't be used.
     Bad(Vec<String>),
     /// The words of the call make no sense.
     Usage(String),
+    /// Too late for an object: standard output has the report already, or takes nothing.
+    Late(String),
 }
 
 impl Failure {
@@ -24,9 +27,20 @@ impl Failure {
         Failure::Bad(vec![what])
     }
 
+    /// The same failure, after the report was printed.
+    pub fn late(self) -> Failure {
+        Failure::Late(self.lines().join("\n"))
+    }
+
+    /// Whether no object can go to standard output any more.
+    pub fn is_late(&self) -> bool {
+        matches!(self, Failure::Late(_))
+    }
+
     pub fn lines(&self) -> Vec<String> {
         match self {
-            Failure::Refused(what) => vec![what.clone()],
+            Failure::Refused(what, _) => vec![what.clone()],
+            Failure::Late(what) => vec![what.clone()],
             Failure::Bad(faults) => faults.clone(),
             Failure::Usage(what) => vec![
                 format!("dezghuri: {what}"),
@@ -35,10 +49,23 @@ impl Failure {
         }
     }
 
-    pub fn status(&self) -> ExitCode {
-        ExitCode::from(match self {
-            Failure::Refused(_) => REFUSED,
-            Failure::Bad(_) | Failure::Usage(_) => BAD,
-        })
+    pub fn status(&self) -> u8 {
+        match self {
+            Failure::Refused(..) => REFUSED,
+            Failure::Bad(_) | Failure::Usage(_) | Failure::Late(_) => BAD,
+        }
+    }
+
+    /// What `--json` prints in the place of an answer.
+    pub fn json(&self) -> Json {
+        let refusal = match self {
+            Failure::Refused(_, refused) => Some(refused.refusal.number()),
+            _ => None,
+        };
+        Json::Object(vec![
+            ("status", self.status().into()),
+            ("refusal", refusal.into()),
+            ("lines", Json::list(self.lines())),
+        ])
     }
 }

@@ -1,8 +1,7 @@
 //! Files that are read.
 
-use crate::cluster_file::{self, Described};
 use crate::failure::Failure;
-use dezghuri::{ffi, Cluster, Plan};
+use dezghuri::{ffi, Cluster, Description, Plan};
 use std::fs::{self, File};
 use std::io::{self, Read};
 use std::path::Path;
@@ -14,13 +13,23 @@ const LONGEST_TEXT: u64 = 1 << 20;
 const RECORD_READ: u64 = 11_000;
 
 /// The cluster that a text file describes.
-pub fn read_description(path: &Path) -> Result<Described, Failure> {
+pub fn read_description(path: &Path) -> Result<Description, Failure> {
+    described(path, &read_text(path)?)
+}
+
+/// The bytes of a text file; whether they describe a cluster is not asked yet.
+pub fn read_text(path: &Path) -> Result<Vec<u8>, Failure> {
     let text = read_at_most(path, LONGEST_TEXT + 1)?;
-    if let Some(what) = other_than_text(&text) {
-        return Err(Failure::bad(format!("{}: {what}", path.display())));
+    match other_than_text(&text) {
+        Some(what) => Err(Failure::bad(format!("{}: {what}", path.display()))),
+        None => Ok(text),
     }
-    cluster_file::parse(&text).map_err(|faults| {
-        let told = faults.iter().map(|fault| fault.told_of(path));
+}
+
+/// The cluster that the text of a file describes.
+pub fn described(path: &Path, text: &[u8]) -> Result<Description, Failure> {
+    Description::parse(text).map_err(|faults| {
+        let told = faults.notes().iter().map(|fault| fault.told_of(path));
         Failure::Bad(told.collect())
     })
 }

@@ -1,10 +1,8 @@
 //! Lost copies in the words of the owner.
 
+use crate::labels::NAMED;
 use crate::units::count;
 use dezghuri::{Cluster, Losses};
-
-/// So many partitions are named; of more, only the number is told.
-const NAMED: usize = 8;
 
 /// A line for the partitions that have no surviving copy, and one for those that have one only.
 pub fn in_words(cluster: &Cluster) -> Vec<String> {

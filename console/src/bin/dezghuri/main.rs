@@ -3,67 +3,123 @@
 #![forbid(unsafe_code)]
 
 mod args;
-mod cluster_file;
+mod changes;
 mod commands;
 mod explain;
 mod failure;
 mod files;
+mod help;
+mod json;
+mod labels;
 mod losses;
 mod output;
 mod overview;
 mod record_lines;
 mod report;
 mod table;
-mod transfers;
-mod units;
+mod why;
 
-use args::Command;
+use args::{Call, Command};
 use commands::Answer;
-use failure::Failure;
+use dezghuri::units;
+use failure::{Failure, BAD};
+use json::Json;
+use std::ffi::OsString;
 use std::io::{self, IsTerminal, Write};
 use std::process::ExitCode;
 
 fn main() -> ExitCode {
-    match called() {
-        Ok(status) => status,
-        Err(failure) => {
-            failure.lines().iter().for_each(|line| tell(line));
-            failure.status()
+    let words: Vec<OsString> = std::env::args_os().skip(1).collect();
+    let mut warnings = Vec::new();
+    let status = called(&words, &mut warnings).unwrap_or_else(|failure| {
+        failure.lines().iter().for_each(|line| tell(line));
+        let wants_json = words.iter().any(|word| word == args::JSON);
+        match wants_json && !failure.is_late() {
+            true => print_error(&words, &failure, &warnings),
+            false => failure.status(),
         }
-    }
+    });
+    ExitCode::from(status)
 }
 
-fn called() -> Result<ExitCode, Failure> {
-    let command = args::parse(std::env::args_os().skip(1)).map_err(Failure::Usage)?;
+fn called(words: &[OsString], warnings: &mut Vec<String>) -> Result<u8, Failure> {
+    let Call { command, json } = args::parse(words.iter().cloned()).map_err(Failure::Usage)?;
     if matches!(command, Command::Record { out: None, .. }) && io::stdout().is_terminal() {
         let what =
             "a record is not for the screen: use --out RECORD, or `dezghuri record FILE | plan`";
         return Err(Failure::Usage(what.into()));
     }
-    let mut warnings = Vec::new();
-    let answer = commands::run(&command, &mut warnings);
-    for warning in warnings {
+    let answer = commands::run(&command, warnings);
+    for warning in &*warnings {
         tell(&format!("warning: {warning}"));
     }
-    give(&answer?)
+    let mut answer = answer?;
+    answer.told.iter().for_each(|line| tell(line));
+    let object = answer.json.take().filter(|_| json);
+    match object {
+        None => give(&answer),
+        Some(object) => {
+            answer.report = text_of(object.with("warnings", Json::list(warnings.clone())));
+            give_quietly(&answer)
+        }
+    }
 }
 
-/// Prints the report, and only once it is printed writes the file.
-fn give(answer: &Answer) -> Result<ExitCode, Failure> {
-    let Some(output) = &answer.output else {
-        print(&answer.report).map_err(|error| Failure::bad(format!("not printed: {error}")))?;
-        return Ok(ExitCode::from(answer.status));
+/// Prints the report, and only once it is printed writes the file and says so.
+fn give(answer: &Answer) -> Result<u8, Failure> {
+    if let Some(written) = put(answer)? {
+        print(written.as_bytes()).map_err(|error| {
+            Failure::Late(format!("written, but that was not printed: {error}"))
+        })?;
+    }
+    Ok(answer.status)
+}
+
+/// As [`give`], but with nothing after the report: it is one object.
+fn give_quietly(answer: &Answer) -> Result<u8, Failure> {
+    put(answer)?;
+    Ok(answer.status)
+}
+
+/// Prints the report and writes the file; what to say of the file.
+fn put(answer: &Answer) -> Result<Option<String>, Failure> {
+    let unprinted = match answer.output {
+        None => "not printed",
+        Some(_) => "not printed, so nothing was written",
     };
-    print(&answer.report)
-        .map_err(|error| Failure::bad(format!("not printed, so nothing was written: {error}")))?;
-    let written = output.write()?;
-    print(written.as_bytes())
-        .map_err(|error| Failure::bad(format!("written, but that was not printed: {error}")))?;
-    Ok(ExitCode::from(answer.status))
+    print(&answer.report).map_err(|error| Failure::Late(format!("{unprinted}: {error}")))?;
+    match &answer.output {
+        None => Ok(None),
+        Some(output) => output.write().map(Some).map_err(Failure::late),
+    }
+}
+
+/// Prints an object in the place of an answer; the exit status.
+fn print_error(words: &[OsString], failure: &Failure, warnings: &[String]) -> u8 {
+    let command = words.first().and_then(args::command_name);
+    let object = Json::Object(vec![
+        ("command", command.into()),
+        ("error", failure.json()),
+        ("warnings", Json::list(warnings.to_vec())),
+    ]);
+    match print(&text_of(object)) {
+        Ok(()) => failure.status(),
+        Err(error) => {
+            tell(&format!("not printed: {error}"));
+            BAD
+        }
+    }
+}
+
+fn text_of(object: Json) -> Vec<u8> {
+    format!("{object}\n").into_bytes()
 }
 
 /// Prints. A reader that has gone away is an error too: it has not read what was to be told.
 fn print(bytes: &[u8]) -> io::Result<()> {
+    if bytes.is_empty() {
+        return Ok(());
+    }
     if streams::stdout_was_closed() {
         return Err(io::Error::other("standard output is closed"));
     }

@@ -1,10 +1,10 @@
 //! A layout at a glance.
 
-use crate::cluster_file::Described;
+use crate::json::Json;
+use crate::labels;
 use crate::table::{self, Column, Side};
-use crate::transfers::Transfers;
 use crate::units::{count, percent, thousands, Unit};
-use dezghuri::{Plan, Refused, Verdict};
+use dezghuri::{Description, Plan, Refused, Transfers, Verdict};
 use std::collections::BTreeMap;
 
 /// A plan, with its copies counted by boxes and by zones.
@@ -13,7 +13,7 @@ pub struct Overview<'a> {
     boxes: Vec<BoxLine>,
     zones: Vec<ZoneLine>,
     /// The size to hope for, where the layout is valid for the boxes.
-    hope: Option<u64>,
+    pub hope: Option<u64>,
 }
 
 struct BoxLine {
@@ -39,7 +39,7 @@ struct Held {
 
 impl<'a> Overview<'a> {
     /// Counts the copies; refused where the plan is not valid for the cluster.
-    pub fn of_valid(described: &Described, plan: &'a Plan) -> Result<Overview<'a>, Refused> {
+    pub fn of_valid(described: &Description, plan: &'a Plan) -> Result<Overview<'a>, Refused> {
         let figures = described.cluster.figures(&plan.layout, plan.size)?;
         Ok(Overview {
             plan,
@@ -51,7 +51,7 @@ impl<'a> Overview<'a> {
 
     /// Counts the copies of a layout that was made for other boxes; those that are gone have their
     /// lines too.
-    pub fn of_other(described: &Described, plan: &'a Plan) -> Overview<'a> {
+    pub fn of_other(described: &Description, plan: &'a Plan) -> Overview<'a> {
         let nodes = &described.cluster.nodes;
         let mut counts: BTreeMap<u32, u32> = BTreeMap::new();
         for id in plan.layout.rows().flat_map(|(_, ids)| ids) {
@@ -78,7 +78,7 @@ impl<'a> Overview<'a> {
     }
 
     /// Adds the boxes that the cluster has no more, each with its copies.
-    fn add_gone(&mut self, described: &Described, counts: &BTreeMap<u32, u32>) {
+    fn add_gone(&mut self, described: &Description, counts: &BTreeMap<u32, u32>) {
         let held = |copies: u32| Held {
             capacity: None,
             copies: copies.into(),
@@ -86,15 +86,15 @@ impl<'a> Overview<'a> {
         for (id, copies) in counts {
             self.boxes.push(BoxLine {
                 id: *id,
-                name: described.label(*id).name,
-                zone: described.label(*id).zone,
+                name: labels::of(described, *id).name,
+                zone: labels::of(described, *id).zone,
                 held: held(*copies),
             });
         }
         self.boxes.sort_by_key(|line| line.id);
         if let Some(id) = counts.keys().next() {
             self.zones.push(ZoneLine {
-                zone: described.label(*id).zone,
+                zone: labels::of(described, *id).zone,
                 boxes: counts.len(),
                 held: held(counts.values().sum()),
             });
@@ -167,6 +167,24 @@ impl<'a> Overview<'a> {
         }
     }
 
+    /// The numbers of the plan, its boxes with the transfers of a plan that was made just now, and
+    /// its zones.
+    pub fn json(&self, transfers: Option<&Transfers>) -> Vec<(&'static str, Json)> {
+        let size = u64::from(self.plan.size);
+        let moved = |b: usize| transfers.map(|t| (t.received[b], t.dropped[b]));
+        let boxes = self.boxes.iter().enumerate();
+        let boxes = boxes.map(|(b, line)| line.json(size, moved(b)));
+        let zones = self.zones.iter().map(|line| line.json(size));
+        vec![
+            ("size_mb", size.into()),
+            ("hope_mb", self.hope.into()),
+            ("data_mb", (size << self.plan.bits).into()),
+            ("finished", (self.plan.verdict == Verdict::Finished).into()),
+            ("boxes", Json::list(boxes)),
+            ("zones", Json::list(zones)),
+        ]
+    }
+
     /// What the verdict means of a plan that was made just now.
     pub fn verdict(&self) -> String {
         match self.plan.verdict {
@@ -223,8 +241,45 @@ impl<'a> Overview<'a> {
     }
 }
 
+impl BoxLine {
+    fn json(&self, size: u64, moved: Option<(u64, u64)>) -> Json {
+        let is_present = self.held.capacity.is_some();
+        let mut members = vec![
+            ("id", self.id.into()),
+            ("name", self.name.as_str().into()),
+            ("zone", is_present.then_some(self.zone.as_str()).into()),
+            ("present", is_present.into()),
+        ];
+        members.extend(self.held.json(size));
+        if let Some((received, dropped)) = moved {
+            members.push(("received", received.into()));
+            members.push(("dropped", dropped.into()));
+        }
+        Json::Object(members)
+    }
+}
+
+impl ZoneLine {
+    fn json(&self, size: u64) -> Json {
+        let zone = self.held.capacity.map(|_| self.zone.as_str());
+        let mut members = vec![("zone", zone.into()), ("boxes", self.boxes.into())];
+        members.extend(self.held.json(size));
+        Json::Object(members)
+    }
+}
+
+impl Held {
+    fn json(&self, size: u64) -> [(&'static str, Json); 3] {
+        [
+            ("capacity_mb", self.capacity.into()),
+            ("copies", self.copies.into()),
+            ("used_mb", (self.copies * size).into()),
+        ]
+    }
+}
+
 /// A line for each box of the cluster.
-fn box_lines(described: &Described, copies: &[u32]) -> Vec<BoxLine> {
+fn box_lines(described: &Description, copies: &[u32]) -> Vec<BoxLine> {
     let nodes = described.cluster.nodes.iter().zip(&described.labels);
     let lines = nodes.zip(copies).map(|((node, label), copies)| BoxLine {
         id: node.id,
@@ -239,7 +294,7 @@ fn box_lines(described: &Described, copies: &[u32]) -> Vec<BoxLine> {
 }
 
 /// A line for each zone, from the copies in the zone of each box.
-fn zone_lines(described: &Described, zone_copies: &[u32]) -> Vec<ZoneLine> {
+fn zone_lines(described: &Description, zone_copies: &[u32]) -> Vec<ZoneLine> {
     let nodes = &described.cluster.nodes;
     let is_first = |b: &usize| nodes[..*b].iter().all(|node| node.zone != nodes[*b].zone);
     let mates = |b: usize| nodes.iter().filter(move |node| node.zone == nodes[b].zone);
@@ -265,7 +320,7 @@ pub fn first_transfers_in_words(transfers: &Transfers) -> String {
 
 /// What the transfers come to.
 pub fn transfers_in_words(transfers: &Transfers) -> String {
-    let gone: u64 = transfers.gone.values().sum();
+    let gone = transfers.all_gone();
     let mut text = format!(
         "Transfers: {} to be sent, {} to be dropped.\n",
         count(transfers.all_received(), "copy is", "copies are"),

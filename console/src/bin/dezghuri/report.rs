@@ -7,14 +7,13 @@ mod map;
 mod tables;
 mod words;
 
-use crate::cluster_file::Described;
 use crate::commands::{describe, output, Answer};
 use crate::explain;
 use crate::failure::{Failure, REFUSED};
 use crate::files;
 use crate::losses;
 use crate::output::Kind;
-use dezghuri::{Plan, ENOUGH};
+use dezghuri::{Description, Plan, ENOUGH};
 use facts::{Facts, Laid, Names};
 use std::path::Path;
 
@@ -47,16 +46,16 @@ pub fn run(call: &Call, warnings: &mut Vec<String>) -> Result<Answer, Failure> {
     };
     let page = html::page(&facts).into_bytes();
     Ok(Answer {
-        report: words::plain(&facts).into_bytes(),
         output: Some(output(Kind::Page, page, call.file, call.out)?),
         status,
+        ..Answer::report(words::plain(&facts))
     })
 }
 
 /// What is to be drawn, or why there is nothing.
 fn laid(
     call: &Call,
-    described: &Described,
+    described: &Description,
     former: Option<&Plan>,
 ) -> Result<Result<Laid, String>, Failure> {
     let Some(layout) = call.layout else {

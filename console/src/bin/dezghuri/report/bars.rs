@@ -25,15 +25,25 @@ pub fn of_layout(facts: &Facts, laid: &Laid) -> String {
     let longest = laid.rows.gone.iter().map(held).max();
     let scale = Scale::new(facts, longest.unwrap_or(0));
     let mut body = zones(facts, |b| {
-        line(facts, b, &disk(facts, laid, b), &figures(facts, laid, b), &scale)
+        line(
+            facts,
+            b,
+            &disk(facts, laid, b),
+            &figures(facts, laid, b),
+            &scale,
+        )
     });
     body += &gone(laid, &scale);
     body += &axis(&scale);
     let caption = match facts.has_former() {
-        true => "Each bar is a disk: what it keeps, what it receives, what stays unused. \
-                 At its right: copies, share of the disk, + received, \u{2212} dropped.",
-        false => "Each bar is a disk: what it holds, what stays unused. At its right: copies, \
-                  share of the disk.",
+        true => {
+            "Each bar is a disk: what it keeps, what it receives, what stays unused. \
+                 At its right: copies, share of the disk, + received, \u{2212} dropped."
+        }
+        false => {
+            "Each bar is a disk: what it holds, what stays unused. At its right: copies, \
+                  share of the disk."
+        }
     };
     figure(&legend(facts, laid), caption, &body)
 }
@@ -47,7 +57,11 @@ pub fn of_disks(facts: &Facts) -> String {
             parts: vec![("unused", capacity)],
             title: title(facts, b, &[("disk", capacity)]),
         };
-        let figures = format!("<span>{} {}</span>", scale.unit.of(capacity), scale.unit.name);
+        let figures = format!(
+            "<span>{} {}</span>",
+            scale.unit.of(capacity),
+            scale.unit.name
+        );
         line(facts, b, &bar, &figures, &scale)
     });
     figure("", "Each bar is a disk.", &(body + &axis(&scale)))
@@ -101,7 +115,12 @@ fn disk(facts: &Facts, laid: &Laid, b: usize) -> Bar {
     let received = row.count(Cell::Received) * laid.size;
     let unused = capacity - kept - received;
     let told = match facts.has_former() {
-        true => vec![("disk", capacity), ("kept", kept), ("received", received), ("unused", unused)],
+        true => vec![
+            ("disk", capacity),
+            ("kept", kept),
+            ("received", received),
+            ("unused", unused),
+        ],
         false => vec![("disk", capacity), ("held", kept), ("unused", unused)],
     };
     Bar {
@@ -117,14 +136,19 @@ fn capacity(facts: &Facts, b: usize) -> u64 {
 fn title(facts: &Facts, b: usize, told: &[(&str, u64)]) -> String {
     let unit = facts.unit();
     let told = told.iter();
-    let told = told.map(|(what, megabytes)| format!("{what} {} {}", unit.of(*megabytes), unit.name));
+    let told =
+        told.map(|(what, megabytes)| format!("{what} {} {}", unit.of(*megabytes), unit.name));
     let told: Vec<String> = told.collect();
     let label = &facts.described.labels[b];
     let called = match label.name.as_str() {
         "" => String::new(),
         called => format!(" ({})", name(called)),
     };
-    format!("Box {}{called}: {}", facts.cluster().nodes[b].id, told.join(", "))
+    format!(
+        "Box {}{called}: {}",
+        facts.cluster().nodes[b].id,
+        told.join(", ")
+    )
 }
 
 /// The small figures beside a bar; what is 0 is left out.

@@ -1,8 +1,8 @@
 //! What the page tells, gathered before any of it is written.
 
-use crate::cluster_file::Described;
 use crate::units::Unit;
-use dezghuri::{Cluster, Layout, Plan, Refused, ENOUGH};
+use crate::why;
+use dezghuri::{Cluster, Description, Layout, Plan, Refused, ENOUGH};
 use std::collections::BTreeSet;
 
 /// So many boxes that are gone are drawn; a cluster has no more, but a damaged record may name more.
@@ -11,7 +11,7 @@ const MOST_GONE: usize = 32;
 /// All that the page is made of.
 pub struct Facts<'a> {
     pub names: Names,
-    pub described: &'a Described,
+    pub described: &'a Description,
     /// Sentences on copies that are lost or at risk.
     pub losses: Vec<String>,
     /// The layout, or why there is none.
@@ -34,6 +34,8 @@ pub struct Laid {
     /// What a partition was planned for before, where there was a plan.
     pub former_size: Option<u64>,
     pub best: Best,
+    /// Sentences that tell why the size is no larger and which boxes are not used.
+    pub why: String,
     /// The rows of the partitions before and after.
     pub before: Layout,
     pub after: Layout,
@@ -105,7 +107,7 @@ impl<'a> Facts<'a> {
 impl Laid {
     /// Refused where the plan is not valid for the cluster.
     pub fn new(
-        described: &Described,
+        described: &Description,
         plan: &Plan,
         former: Option<&Plan>,
     ) -> Result<Laid, Refused> {
@@ -114,10 +116,15 @@ impl Laid {
         // Without a former layout each copy is drawn as one that stays.
         let before = former.map_or(&plan.layout, |former| &former.layout);
         let rows = Rows::new(cluster, before, &plan.layout);
+        let best = Best::of(cluster, plan, rows.distance())?;
         Ok(Laid {
             size: plan.size.into(),
             hope,
-            best: Best::of(cluster, plan, rows.distance())?,
+            why: match best {
+                Best::Larger(_) => String::new(),
+                _ => why::not_more(described, plan, hope) + &why::unused(described, plan),
+            },
+            best,
             rows,
             former_size: former.map(|former| former.size.into()),
             before: before.clone(),

@@ -12,7 +12,9 @@ const STYLE: &str = include_str!("style.css");
 const PATTERNS: &str = include_str!("patterns.svg");
 
 /// Longer names are cut, so that one of them cannot take the page.
-const LONGEST_NAME: usize = 60;
+const LONGEST_NAME: usize = 48;
+/// Longer sentences are cut: only names, of boxes and files, can make one so long.
+const LONGEST_SENTENCE: usize = 500;
 /// Longer names are cut where little room is: beside bars and in bands.
 const LONGEST_LABEL: usize = 22;
 
@@ -26,7 +28,11 @@ pub fn page(facts: &Facts) -> String {
     let title = name(last_part(&facts.names.file));
     let figures = match &facts.laid {
         Ok(laid) => of_layout(facts, laid),
-        Err(_) => [bars::of_disks(facts), section("tables", "", &tables::disks(facts))].concat(),
+        Err(_) => [
+            bars::of_disks(facts),
+            section("tables", "", &tables::disks(facts)),
+        ]
+        .concat(),
     };
     [
         BEGINNING,
@@ -50,17 +56,22 @@ fn last_part(path: &str) -> &str {
 fn first_words(facts: &Facts) -> String {
     let mut text = String::new();
     for line in facts.losses.iter().flat_map(|told| told.lines()) {
-        text += &format!("<p class=\"danger\">{}</p>\n", escaped(line));
+        text += &paragraph("danger", line);
     }
-    let class = if facts.laid.is_ok() { "lead" } else { "lead refused" };
-    text += &format!("<p class=\"{class}\">{}</p>\n", escaped(&words::sentence(facts)));
-    text += &format!("<p class=\"small\">{}</p>\n", escaped(&words::source(facts)));
+    let class = if facts.laid.is_ok() {
+        "lead"
+    } else {
+        "lead refused"
+    };
+    text += &paragraph(class, &words::sentence(facts));
+    text += &paragraph("small", &words::source(facts));
     text
 }
 
 /// The parts of a page with a layout, in the order in which an owner asks.
 fn of_layout(facts: &Facts, laid: &Laid) -> String {
-    let why = format!("<p>{}</p>\n", escaped(&words::why_not_more(laid)));
+    let why = words::why_not_more(laid);
+    let why: String = why.iter().map(|line| paragraph("why", line)).collect();
     [
         bars::of_layout(facts, laid),
         map::of_layout(facts, laid),
@@ -69,6 +80,11 @@ fn of_layout(facts: &Facts, laid: &Laid) -> String {
         tables::partitions(facts, laid),
     ]
     .concat()
+}
+
+fn paragraph(class: &str, text: &str) -> String {
+    let text = cut(text, LONGEST_SENTENCE);
+    format!("<p class=\"{class}\">{text}</p>\n")
 }
 
 /// A part of the page that can be linked to; one without a heading is told by its tables.
@@ -90,7 +106,9 @@ pub fn escaped(text: &str) -> String {
             '>' => escaped += "&gt;",
             '"' => escaped += "&quot;",
             '\'' => escaped += "&#39;",
-            c if c.is_control() || ('\u{fffe}'..='\u{ffff}').contains(&c) => escaped.push('\u{fffd}'),
+            c if c.is_control() || ('\u{fffe}'..='\u{ffff}').contains(&c) => {
+                escaped.push('\u{fffd}')
+            }
             c => escaped.push(c),
         }
     }
@@ -111,7 +129,11 @@ fn cut(text: &str, longest: usize) -> String {
     let tail = (longest - 1) / 2;
     let head: String = letters[..longest - 1 - tail].iter().collect();
     let tail: String = letters[letters.len() - tail..].iter().collect();
-    format!("{}\u{2026}{}", escaped(head.trim_end()), escaped(tail.trim_start()))
+    format!(
+        "{}\u{2026}{}",
+        escaped(head.trim_end()),
+        escaped(tail.trim_start())
+    )
 }
 
 /// A name in a table. One that is written from right to left leaves its neighbours in place.
@@ -143,9 +165,9 @@ mod tests {
 
     #[test]
     fn long_names_are_cut_in_the_middle() {
-        assert_eq!(name(&"x".repeat(60)), "x".repeat(60));
-        let long = "\u{fc}".repeat(30) + &"&".repeat(31);
-        let cut = "\u{fc}".repeat(30) + "\u{2026}" + &"&amp;".repeat(29);
+        assert_eq!(name(&"x".repeat(48)), "x".repeat(48));
+        let long = "\u{fc}".repeat(24) + &"&".repeat(25);
+        let cut = "\u{fc}".repeat(24) + "\u{2026}" + &"&amp;".repeat(23);
         assert_eq!(name(&long), cut);
         let label = label("a long name of a box, number 7");
         assert_eq!(label, "<bdi>a long name\u{2026}, number 7</bdi>");

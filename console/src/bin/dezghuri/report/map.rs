@@ -25,7 +25,10 @@ pub fn of_layout(facts: &Facts, laid: &Laid) -> String {
         line(&label(facts, b), row, &kinds, &title(facts, row))
     });
     let gone = laid.rows.gone.iter().map(|row| {
-        let label = format!("<span class=\"label\"><span class=\"id\">{}</span></span>", row.id);
+        let label = format!(
+            "<span class=\"label\"><span class=\"id\">{}</span></span>",
+            row.id
+        );
         let held = count(row.count(Cell::Dropped), "copy", "copies");
         let title = format!("Box {}, not there any more: {held}", row.id);
         line(&label, row, &[GONE], &title)
@@ -77,36 +80,50 @@ struct Kind {
     cell: Cell,
     /// The class of the rectangles.
     class: &'static str,
-    /// The class of the marks in them.
-    mark: &'static str,
-    /// A mark in a square from -1 to 1 along and from 0 to 1 down.
-    shape: &'static [(char, f64, f64)],
+    /// The mark in them, with the class of its path.
+    mark: Option<(&'static str, Mark)>,
+}
+
+#[derive(Clone, Copy)]
+enum Mark {
+    Upward,
+    Downward,
+    Cross,
 }
 
 const KEPT: Kind = Kind {
     cell: Cell::Kept,
     class: "kept",
-    mark: "",
-    shape: &[],
+    mark: None,
 };
 const RECEIVED: Kind = Kind {
     cell: Cell::Received,
     class: "orange",
-    mark: "rise",
-    shape: &[('M', 0.0, 0.22), ('L', 1.0, 0.78), ('H', -1.0, 0.0)],
+    mark: Some(("rise", Mark::Upward)),
 };
 const DROPPED: Kind = Kind {
     cell: Cell::Dropped,
     class: "hollow",
-    mark: "fall",
-    shape: &[('M', 0.0, 0.78), ('L', 1.0, 0.22), ('H', -1.0, 0.0)],
+    mark: Some(("fall", Mark::Downward)),
 };
 const GONE: Kind = Kind {
     cell: Cell::Dropped,
     class: "hollow",
-    mark: "cross",
-    shape: &[('M', -1.0, 0.25), ('L', 1.0, 0.75), ('M', 1.0, 0.25), ('L', -1.0, 0.75)],
+    mark: Some(("cross", Mark::Cross)),
 };
+
+impl Mark {
+    /// The mark around a place, so much to either side.
+    fn path(self, middle: f64, half: f64) -> String {
+        let (place, left, side) = (short(middle), short(middle - half), short(half));
+        let whole = short(2.0 * half);
+        match self {
+            Mark::Upward => format!("M{place} .22l{side} .56h-{whole}"),
+            Mark::Downward => format!("M{place} .78l{side} -.56h-{whole}"),
+            Mark::Cross => format!("M{left} .25l{whole} .5m0 -.5l-{whole} .5"),
+        }
+    }
+}
 
 /// The cells of a box: one path for each kind, with one rectangle for a run of equal cells.
 fn cells(row: &Row, order: &[u8], kinds: &[Kind], title: &str) -> String {
@@ -127,42 +144,41 @@ fn cells(row: &Row, order: &[u8], kinds: &[Kind], title: &str) -> String {
 /// The runs as rectangles, and marks in them: one in a short run, several in a long one.
 fn drawn(kind: &Kind, runs: &[(usize, usize)], width: usize) -> String {
     // An outline would be cut at the edge of the picture.
-    let (top, height) = if kind.class == "hollow" { (".05", ".9") } else { ("0", "1") };
+    let (top, height) = if kind.class == "hollow" {
+        (".05", ".9")
+    } else {
+        ("0", "1")
+    };
     let rectangle =
         |(from, long): &(usize, usize)| format!("M{from} {top}h{long}v{height}h-{long}z");
     let rectangles: String = runs.iter().map(rectangle).collect();
     let mut text = format!("<path class=\"{}\" d=\"{rectangles}\"/>", kind.class);
-    if !kind.shape.is_empty() {
-        let marks: String = runs.iter().map(|run| marks(kind, *run, width)).collect();
-        text += &format!("<path class=\"{}\" d=\"{marks}\"/>", kind.mark);
+    if let Some((class, mark)) = kind.mark {
+        let marks: String = runs.iter().map(|run| marks(mark, *run, width)).collect();
+        text += &format!("<path class=\"{class}\" d=\"{marks}\"/>");
     }
     text
 }
 
 /// The marks of a run, at equal distances.
-fn marks(kind: &Kind, (from, long): (usize, usize), width: usize) -> String {
+fn marks(mark: Mark, (from, long): (usize, usize), width: usize) -> String {
     let each = (width / MOST_MARKS).max(1);
     let number = long.div_ceil(each);
     let step = long as f64 / number as f64;
     let half = step.min(each as f64) * 0.36;
-    let mut path = String::new();
-    for mark in 0..number {
-        let middle = from as f64 + (mark as f64 + 0.5) * step;
-        for (letter, along, down) in kind.shape {
-            path += &format!("{letter}{}", short(middle + along * half));
-            if *letter != 'H' {
-                path += &format!(" {}", short(*down));
-            }
-        }
-    }
-    path
+    let middle = |place: usize| from as f64 + (place as f64 + 0.5) * step;
+    let marks = (0..number).map(|place| mark.path(middle(place), half));
+    marks.collect()
 }
 
 /// A number to a hundredth, without zeros that say nothing.
 fn short(number: f64) -> String {
     let text = format!("{number:.2}");
     let text = text.trim_end_matches('0').trim_end_matches('.');
-    text.strip_prefix('0').filter(|rest| !rest.is_empty()).unwrap_or(text).into()
+    text.strip_prefix('0')
+        .filter(|rest| !rest.is_empty())
+        .unwrap_or(text)
+        .into()
 }
 
 /// Where runs of such cells begin, and how long they are.
@@ -187,7 +203,11 @@ fn strip(groups: &[Vec<u8>]) -> String {
     let mut parts = String::new();
     for group in groups {
         let numbers: Vec<String> = group.iter().map(u8::to_string).collect();
-        let word = if group.len() == 1 { "Partition" } else { "Partitions" };
+        let word = if group.len() == 1 {
+            "Partition"
+        } else {
+            "Partitions"
+        };
         parts += &format!(
             "<rect x=\"{from}\" width=\"{}\" height=\"1\"><title>{word} {}</title></rect>",
             group.len(),
@@ -212,13 +232,19 @@ fn legend(facts: &Facts, laid: &Laid) -> String {
             drawn(kind, &[(0, 2)], 2)
         )
     };
-    let mut items = vec![item(&KEPT, if facts.has_former() { "kept" } else { "held" })];
+    let mut items = vec![item(
+        &KEPT,
+        if facts.has_former() { "kept" } else { "held" },
+    )];
     if facts.has_former() {
         items.push(item(&RECEIVED, "received"));
         items.push(item(&DROPPED, "dropped"));
     }
     if !laid.rows.gone.is_empty() {
-        items.push(format!("<span class=\"away\">{}</span>", item(&GONE, "gone with its box")));
+        items.push(format!(
+            "<span class=\"away\">{}</span>",
+            item(&GONE, "gone with its box")
+        ));
     }
     format!("<p class=\"legend\">{}</p>\n", items.concat())
 }

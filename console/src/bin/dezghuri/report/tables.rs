@@ -40,7 +40,9 @@ impl Held {
         if facts.has_former() {
             cells.extend([thousands(self.received), thousands(self.dropped)]);
         }
-        let cells = cells.iter().map(|cell| format!("<td class=\"n\">{cell}</td>"));
+        let cells = cells
+            .iter()
+            .map(|cell| format!("<td class=\"n\">{cell}</td>"));
         cells.collect()
     }
 }
@@ -61,7 +63,12 @@ pub fn boxes_and_zones(facts: &Facts, laid: &Laid) -> String {
          has grown to its size.",
         facts.unit().name
     );
-    let boxes = table("cards of-boxes", &caption, &[&["box", "name", "zone"][..], &heads].concat(), &lines);
+    let boxes = table(
+        "cards of-boxes",
+        &caption,
+        &[&["box", "name", "zone"][..], &heads].concat(),
+        &lines,
+    );
     [boxes, zone_table(facts, laid)].concat()
 }
 
@@ -76,7 +83,12 @@ fn zone_table(facts: &Facts, laid: &Laid) -> String {
     };
     let lines: String = facts.zones().into_iter().map(line).collect();
     let caption = format!("The zones. Capacity and used are in {}.", facts.unit().name);
-    table("cards of-zones", &caption, &[&["zone", "boxes"][..], &numbers(facts)].concat(), &lines)
+    table(
+        "cards of-zones",
+        &caption,
+        &[&["zone", "boxes"][..], &numbers(facts)].concat(),
+        &lines,
+    )
 }
 
 /// The table of a cluster without a layout.
@@ -84,11 +96,19 @@ pub fn disks(facts: &Facts) -> String {
     let unit = facts.unit();
     let line = |b: usize| {
         let capacity = unit.of(facts.cluster().nodes[b].capacity.into());
-        format!("{}<td class=\"n\">{capacity}</td></tr>\n", box_head(facts, b))
+        format!(
+            "{}<td class=\"n\">{capacity}</td></tr>\n",
+            box_head(facts, b)
+        )
     };
     let lines: String = (0..facts.cluster().nodes.len()).map(line).collect();
     let caption = format!("The boxes. Capacity is in {}.", unit.name);
-    table("cards of-boxes", &caption, &["box", "name", "zone", "capacity"], &lines)
+    table(
+        "cards of-boxes",
+        &caption,
+        &["box", "name", "zone", "capacity"],
+        &lines,
+    )
 }
 
 /// The beginning of a box's line, which can be linked to.
@@ -103,7 +123,14 @@ fn box_head(facts: &Facts, b: usize) -> String {
 
 /// Heads of the columns with numbers.
 fn numbers(facts: &Facts) -> Vec<&'static str> {
-    let heads = ["capacity", "copies", "used", "share", "to receive", "to drop"];
+    let heads = [
+        "capacity",
+        "copies",
+        "used",
+        "share",
+        "to receive",
+        "to drop",
+    ];
     let wanted = if facts.has_former() { 6 } else { 4 };
     heads[..wanted].to_vec()
 }
@@ -137,8 +164,10 @@ pub fn partitions(facts: &Facts, laid: &Laid) -> String {
     });
     let tables: String = tables.collect();
     let words = match facts.has_former() {
-        true => "The ids of the boxes that held each partition, and of those that are to hold it: \
-                 \u{25b2} received, \u{25bd} dropped, \u{2715} gone with its box.",
+        true => {
+            "The ids of the boxes that held each partition, and of those that are to hold it: \
+                 \u{25b2} received, \u{25bd} dropped, \u{2715} gone with its box."
+        }
         false => "The ids of the boxes that hold each partition.",
     };
     let body = format!(
@@ -152,7 +181,11 @@ pub fn partitions(facts: &Facts, laid: &Laid) -> String {
 fn width(laid: &Laid, columns: usize) -> usize {
     let long = |layout: &Layout| {
         let letters = |ids: &[u32]| ids.iter().map(|id| id.to_string().len() + 2).sum::<usize>();
-        layout.rows().map(|(_, ids)| letters(ids)).max().unwrap_or(0)
+        layout
+            .rows()
+            .map(|(_, ids)| letters(ids))
+            .max()
+            .unwrap_or(0)
     };
     let letters = match columns {
         2 => long(&laid.after),
@@ -171,7 +204,11 @@ fn partition(facts: &Facts, laid: &Laid, partition: u8) -> String {
             (false, false) => format!("<del>{id}</del>"),
         };
         let ids: Vec<String> = before.iter().map(id).collect();
-        cells += &format!("<td>{}{}</td>", ids.join(" "), left(facts, partition, before));
+        cells += &format!(
+            "<td>{}{}</td>",
+            ids.join(" "),
+            left(facts, partition, before)
+        );
     }
     let id = |id: &u32| match before.contains(id) {
         true => id.to_string(),

@@ -13,7 +13,8 @@ pub fn plain(facts: &Facts) -> String {
 /// The layout in a few short sentences, or why there is none.
 pub fn sentence(facts: &Facts) -> String {
     match &facts.laid {
-        Err(why) => with_capital(why) + ".",
+        Err(why) if why.starts_with("there is") => with_capital(why) + ".",
+        Err(why) => format!("{why}."),
         Ok(laid) => of_layout(facts, laid),
     }
 }
@@ -92,23 +93,23 @@ pub fn source(facts: &Facts) -> String {
     }
 }
 
-/// What keeps the size from being larger, as far as it is known.
-pub fn why_not_more(laid: &Laid) -> String {
-    match laid.hope == laid.size {
+/// What keeps the size from being larger, in sentences.
+pub fn why_not_more(laid: &Laid) -> Vec<String> {
+    let hope = match laid.hope == laid.size {
         true => "The disks together allow no larger size.".into(),
         false => format!(
             "With nothing lost to rounding and zones it would be {} MB a partition.",
             thousands(laid.hope)
         ),
-    }
+    };
+    let why = laid.why.strip_prefix("Why not more: ").unwrap_or(&laid.why);
+    let mut sentences = vec![hope];
+    sentences.extend(why.lines().map(with_capital));
+    sentences
 }
 
 fn with_capital(text: &str) -> String {
-    let mut chars = text.chars();
-    match chars.next() {
-        Some(first) if text.starts_with("there is") => {
-            first.to_uppercase().chain(chars).collect()
-        }
-        _ => text.into(),
-    }
+    let mut letters = text.chars();
+    let first = letters.next().into_iter().flat_map(char::to_uppercase);
+    first.chain(letters).collect()
 }

@@ -1,7 +1,11 @@
-//! Capacities as people write and read them.
+//! Capacities and numbers as people write and read them.
 
 /// The megabytes of a capacity: a number of megabytes, or one that ends in M, G or T (or MB, GB,
 /// TB), by thousands, as disks are sold.
+///
+/// # Errors
+///
+/// What is wrong with the word, for its writer.
 pub fn megabytes(word: &str) -> Result<u32, String> {
     let end = word.find(|c: char| !c.is_ascii_digit() && c != '.');
     let (number, unit) = word.split_at(end.unwrap_or(word.len()));
@@ -31,13 +35,13 @@ pub fn megabytes(word: &str) -> Result<u32, String> {
 }
 
 /// Whether the word is a unit that stands apart from its number.
-pub fn is_unit(word: &str) -> bool {
+pub(crate) fn is_unit(word: &str) -> bool {
     let units = ["M", "MB", "MIB", "G", "GB", "GIB", "T", "TB", "TIB"];
     units.contains(&word.to_ascii_uppercase().as_str())
 }
 
 /// The letter of a unit that is spelled out.
-pub fn spelled_out(word: &str) -> Option<char> {
+pub(crate) fn spelled_out(word: &str) -> Option<char> {
     let word = word.to_lowercase();
     let word = word.strip_suffix('s').unwrap_or(&word);
     match word.strip_suffix("byte").unwrap_or(word) {
@@ -64,6 +68,7 @@ pub fn thousands(number: u64) -> String {
 /// The unit of a table: the largest in which each of its capacities has two digits or more.
 #[derive(Clone, Copy, Debug, PartialEq, Eq)]
 pub struct Unit {
+    /// MB, GB or TB.
     pub name: &'static str,
     megabytes: u64,
 }

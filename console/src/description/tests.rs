@@ -4,8 +4,8 @@ use super::*;
 use reference::random::Random;
 
 fn faults(text: &str) -> Vec<String> {
-    let faults = parse(text.as_bytes()).expect_err(text);
-    faults.iter().map(Note::to_string).collect()
+    let faults = Description::parse(text.as_bytes()).expect_err(text);
+    faults.notes().iter().map(Note::to_string).collect()
 }
 
 const GOOD: &str = "copies 2\nzones 1\nbox 1 a 5\n";
@@ -14,7 +14,7 @@ const GOOD: &str = "copies 2\nzones 1\nbox 1 a 5\n";
 fn boxes_are_sorted_and_zones_numbered() {
     let text = "\u{feff}# a remark\r\nbox 9 shop 2T  the  big one # remark\r\n\
                 \tbox 3 home 500G\r\nbox 4 0 7\r\nbox 5 shop 8\r\n\r\ncopies 3\r\nzones 2";
-    let described = parse(text.as_bytes()).unwrap();
+    let described = Description::parse(text.as_bytes()).unwrap();
     let cluster = &described.cluster;
     assert_eq!(
         (cluster.bits, cluster.replication, cluster.redundancy),
@@ -48,7 +48,7 @@ fn boxes_are_sorted_and_zones_numbered() {
 #[test]
 fn names_never_take_a_number_that_is_used() {
     let text = "copies 1\nzones 1\nbox 1 b 5\nbox 2 0 5\nbox 3 a 5\nbox 4 2 5\nbox 5 c 5";
-    let cluster = parse(text.as_bytes()).unwrap().cluster;
+    let cluster = Description::parse(text.as_bytes()).unwrap().cluster;
     let zones: Vec<u16> = cluster.nodes.iter().map(|node| node.zone).collect();
     assert_eq!(zones, [1, 0, 3, 2, 4]);
 }
@@ -136,8 +136,8 @@ fn the_thirty_third_box_is_refused() {
 fn what_is_no_text_is_refused_by_line() {
     let mut bytes = GOOD.as_bytes().to_vec();
     bytes.extend(b"box 2 a\x1b[2J 5\nbox 3 \xff 5\n");
-    let faults = parse(&bytes).unwrap_err();
-    let told: Vec<_> = faults.iter().map(Note::to_string).collect();
+    let faults = Description::parse(&bytes).unwrap_err();
+    let told: Vec<_> = faults.notes().iter().map(Note::to_string).collect();
     let expected = [
         "line 4: this has a control character in it",
         "line 5: this is not plain text (UTF-8)",
@@ -180,7 +180,7 @@ fn what_is_described_is_a_cluster() {
     let mut r = Random::new(51);
     let mut described = 0;
     for _ in 0..5000 {
-        if let Ok(found) = parse(some_text(&mut r).as_bytes()) {
+        if let Ok(found) = Description::parse(some_text(&mut r).as_bytes()) {
             let cluster = found.cluster;
             assert_eq!(found.labels.len(), cluster.nodes.len());
             assert_eq!(Cluster::from_record(&cluster.to_record()), Ok(cluster));

@@ -147,7 +147,7 @@ pub fn zone_of_several_words<'a>(
 #[cfg(test)]
 mod tests {
     use super::*;
-    use crate::cluster_file;
+    use crate::Description;
 
     #[test]
     fn names_one_letter_off_are_alike() {
@@ -187,7 +187,7 @@ mod tests {
 
     fn warnings(boxes: &str) -> Vec<String> {
         let text = format!("copies 1\nzones 1\n{boxes}");
-        let described = cluster_file::parse(text.as_bytes()).expect("no fault");
+        let described = Description::parse(text.as_bytes()).expect("no fault");
         described.warnings.iter().map(Note::to_string).collect()
     }
 

@@ -2,21 +2,38 @@
 
 mod slips;
 
+use crate::cluster::{Cluster, Node};
+use crate::layout::Layout;
 use crate::units;
-use dezghuri::{Cluster, Layout, Node};
 use std::collections::BTreeSet;
+use std::error::Error;
 use std::fmt;
 use std::ops::RangeInclusive;
 use std::path::Path;
+use std::str::FromStr;
 
 /// The most boxes of a cluster.
 const MOST_BOXES: usize = 32;
 /// The partition bits of a file that has none: 256 partitions.
 const USUAL_BITS: u8 = 8;
 
-/// A cluster, with the words by which its owner knows it.
-#[derive(Debug)]
-pub struct Described {
+/// A cluster, with the words by which its owner knows it: what a text file describes.
+///
+/// `docs/FORMATS.md` has the lines of such a file.
+///
+/// ```
+/// use dezghuri::Description;
+///
+/// let described: Description = "copies 2\nzones 1\nbox 1 home 2T study\nbox 2 home 500G".parse()?;
+/// assert_eq!(described.cluster.nodes[1].capacity, 500_000);
+/// assert_eq!(described.label(1).unwrap().name, "study");
+///
+/// let faults = "copies 2\nbox one home 2T\n".parse::<Description>().unwrap_err();
+/// assert_eq!(faults.notes()[0].line, Some(2));
+/// # Ok::<(), dezghuri::Faults>(())
+/// ```
+#[derive(Clone, Debug, PartialEq, Eq, Hash)]
+pub struct Description {
     /// The cluster without a former layout.
     pub cluster: Cluster,
     /// One for each node, in the same order.
@@ -25,36 +42,73 @@ pub struct Described {
     pub warnings: Vec<Note>,
 }
 
-impl Described {
-    /// Whether the cluster has a box of this id.
-    pub fn has(&self, id: u32) -> bool {
-        self.cluster.nodes.iter().any(|node| node.id == id)
+impl Description {
+    /// Reads the whole text; every line that is at fault is told.
+    ///
+    /// # Errors
+    ///
+    /// All faults, by line.
+    pub fn parse(bytes: &[u8]) -> Result<Description, Faults> {
+        let text = bytes.strip_prefix(b"\xef\xbb\xbf").unwrap_or(bytes);
+        let mut lines = Lines::default();
+        let mut notes = Vec::new();
+        for (number, line) in (1..).zip(text.split(|byte| *byte == b'\n')) {
+            if let Err(what) = lines.take(number, line) {
+                let line = Some(number);
+                notes.push(Note { line, what });
+            }
+        }
+        notes.extend(lines.faults_of_all());
+        match notes.is_empty() {
+            true => Ok(lines.described()),
+            false => Err(Faults { notes }),
+        }
     }
 
-    /// What the owner calls a box; of one that is gone the file has no words.
-    pub fn label(&self, id: u32) -> Label {
+    /// Whether the cluster has a box of this id.
+    pub fn has(&self, id: u32) -> bool {
+        self.label(id).is_some()
+    }
+
+    /// What the owner calls a box of the cluster.
+    pub fn label(&self, id: u32) -> Option<&Label> {
         let mut labels = self.cluster.nodes.iter().zip(&self.labels);
-        match labels.find(|(node, _)| node.id == id) {
-            Some((_, label)) => label.clone(),
-            None => Label {
-                name: String::new(),
-                zone: "not there any more".into(),
-            },
-        }
+        let found = labels.find(|(node, _)| node.id == id);
+        found.map(|(_, label)| label)
+    }
+}
+
+impl FromStr for Description {
+    type Err = Faults;
+
+    fn from_str(text: &str) -> Result<Description, Faults> {
+        Description::parse(text.as_bytes())
+    }
+}
+
+impl TryFrom<&[u8]> for Description {
+    type Error = Faults;
+
+    fn try_from(bytes: &[u8]) -> Result<Description, Faults> {
+        Description::parse(bytes)
     }
 }
 
 /// What the owner calls a box and the zone that it stands in.
-#[derive(Clone, Debug, PartialEq, Eq)]
+#[derive(Clone, Debug, Default, PartialEq, Eq, Hash)]
 pub struct Label {
+    /// Empty where the box has none.
     pub name: String,
+    /// A name, or the digits of a number.
     pub zone: String,
 }
 
-/// Something to say of the file, and the line that it is on, if it is on one.
-#[derive(Debug, PartialEq, Eq)]
+/// Something to say of a text file, and the line that it is on, if it is on one.
+#[derive(Clone, Debug, PartialEq, Eq, Hash)]
 pub struct Note {
+    /// From 1 on.
     pub line: Option<usize>,
+    /// In plain words, without the line.
     pub what: String,
 }
 
@@ -77,24 +131,27 @@ impl fmt::Display for Note {
     }
 }
 
-/// Reads the whole file; every line that is at fault is told.
-pub fn parse(bytes: &[u8]) -> Result<Described, Vec<Note>> {
-    let text = bytes.strip_prefix(b"\xef\xbb\xbf").unwrap_or(bytes);
-    let mut lines = Lines::default();
-    let mut faults = Vec::new();
-    for (number, line) in (1..).zip(text.split(|byte| *byte == b'\n')) {
-        if let Err(what) = lines.take(number, line) {
-            let line = Some(number);
-            faults.push(Note { line, what });
-        }
-    }
-    faults.extend(lines.faults_of_all());
-    if faults.is_empty() {
-        Ok(lines.described())
-    } else {
-        Err(faults)
+/// Why a text describes no cluster.
+#[derive(Clone, Debug, PartialEq, Eq, Hash)]
+pub struct Faults {
+    notes: Vec<Note>,
+}
+
+impl Faults {
+    /// One at least: first those of single lines, in their order, then those of no line.
+    pub fn notes(&self) -> &[Note] {
+        &self.notes
     }
 }
+
+impl fmt::Display for Faults {
+    fn fmt(&self, f: &mut fmt::Formatter<'_>) -> fmt::Result {
+        let lines: Vec<String> = self.notes.iter().map(Note::to_string).collect();
+        f.write_str(&lines.join("\n"))
+    }
+}
+
+impl Error for Faults {}
 
 /// What the lines have said so far.
 #[derive(Default)]
@@ -254,7 +311,7 @@ impl Lines {
     }
 
     /// The cluster of lines without a fault.
-    fn described(mut self) -> Described {
+    fn described(mut self) -> Description {
         let warnings = slips::of(&self.boxes);
         let numbers = zone_numbers(&self.boxes);
         let value = |setting: &Option<Setting>| setting.as_ref().and_then(|s| s.value);
@@ -284,7 +341,7 @@ impl Lines {
             nodes,
             former: Layout::default(),
         };
-        Described {
+        Description {
             cluster,
             labels,
             warnings,

@@ -1,0 +1,39 @@
+//! `check`: whether a layout is valid for the cluster of a file.
+
+use super::{describe, wanted, Answer};
+use crate::explain;
+use crate::failure::{Failure, REFUSED};
+use crate::files;
+use crate::units::thousands;
+use std::path::Path;
+
+pub fn run(file: &Path, layout: &Path, warnings: &mut Vec<String>) -> Result<Answer, Failure> {
+    let described = describe(file, None, warnings)?;
+    let plan = files::read_plan(layout)?;
+    let refused = described.cluster.check(&plan.layout, plan.size).err();
+    let why = refused.map(|refused| explain::not_valid(&described, &plan, refused));
+    let members = vec![
+        ("command", "check".into()),
+        ("file", file.into()),
+        ("layout", layout.into()),
+        ("wanted", wanted(&described.cluster)),
+        ("size_mb", plan.size.into()),
+        ("valid", refused.is_none().into()),
+        ("refusal", refused.map(|no| no.refusal.number()).into()),
+        ("why", why.clone().into()),
+    ];
+    let Some(why) = why else {
+        let report = format!(
+            "{} is valid for {}, each partition up to {} MB.\n",
+            layout.display(),
+            file.display(),
+            thousands(plan.size.into())
+        );
+        return Ok(Answer::with_json(report, members));
+    };
+    Ok(Answer {
+        told: vec![format!("not valid: {why}")],
+        status: REFUSED,
+        ..Answer::with_json(String::new(), members)
+    })
+}

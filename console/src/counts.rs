@@ -1,0 +1,193 @@
+//! The two counts that decide whether a cluster has a layout at a size, and so why not at a larger
+//! one.
+
+use crate::cluster::{Cluster, Node};
+use crate::layout::Layout;
+use std::collections::BTreeMap;
+
+/// What the disks of a cluster can take at a size, counted in the two ways that matter.
+///
+/// A layout valid at the size exists just when both counts are enough: that is a theorem, and the
+/// proved planner finds the size by it. The counting here is plain Rust.
+#[derive(Clone, Debug, PartialEq, Eq, Hash)]
+pub struct Counts {
+    /// Megabytes of a partition.
+    pub size: u64,
+    /// Copies that the nodes can take, each partition once at most on each node.
+    pub room: u64,
+    /// Copies that are wanted of all partitions together.
+    pub wanted: u64,
+    /// Nodes, by id, that have room for every partition: a larger disk of theirs changes nothing.
+    pub whole_nodes: Vec<u32>,
+    /// Pairs of a partition and a zone that can have a copy of it.
+    pub zone_room: u64,
+    /// Pairs that are wanted of all partitions together.
+    pub zone_wanted: u64,
+    /// Zones that have room for every partition: for the zones that a partition lies in, more disks
+    /// there change nothing.
+    pub whole_zones: Vec<u16>,
+    /// All other zones.
+    pub part_zones: Vec<u16>,
+}
+
+impl Counts {
+    /// Whether the copies find no room, wherever they may lie.
+    pub fn lack_room(&self) -> bool {
+        self.room < self.wanted
+    }
+
+    /// Whether the partitions cannot lie in as many zones as is wanted.
+    pub fn lack_zones(&self) -> bool {
+        self.zone_room < self.zone_wanted
+    }
+}
+
+/// Why a node holds nothing.
+#[derive(Clone, Copy, Debug, PartialEq, Eq, Hash)]
+#[non_exhaustive]
+pub enum Unused {
+    /// It has no room for one partition of the size.
+    Small,
+    /// Its zone holds every partition already, and none may lie there twice, since as many zones
+    /// are wanted as copies.
+    ZoneWhole,
+    /// It could hold copies, but all of them lie on other nodes.
+    Spare,
+}
+
+impl Cluster {
+    /// The two counts at a size in megabytes, for a cluster that planning accepts.
+    ///
+    /// ```
+    /// use dezghuri::{Cluster, Node};
+    ///
+    /// let node = |id, zone, capacity| Node { id, zone, capacity };
+    /// let nodes = vec![node(1, 1, 90), node(2, 2, 30), node(3, 2, 10)];
+    /// let cluster = Cluster { replication: 2, redundancy: 2, nodes, ..Cluster::default() };
+    /// let size = cluster.plan(dezghuri::ENOUGH)?.size;
+    /// assert_eq!(size, 30);
+    /// let counts = cluster.counts(u64::from(size) + 1);
+    /// assert!(counts.lack_zones());
+    /// assert_eq!(counts.part_zones, [2]);
+    /// # Ok::<(), dezghuri::Refused>(())
+    /// ```
+    pub fn counts(&self, size: u64) -> Counts {
+        let partitions = self.partitions();
+        let most = |node: &Node| most_copies(node, partitions, size);
+        let whole = self.nodes.iter().filter(|node| most(node) == partitions);
+        let mut zones: BTreeMap<u16, u64> = BTreeMap::new();
+        for node in &self.nodes {
+            *zones.entry(node.zone).or_default() += most(node);
+        }
+        let zones_where = |is_whole: bool| {
+            let zones = zones.iter();
+            let zones = zones.filter(move |(_, room)| (**room >= partitions) == is_whole);
+            zones.map(|(zone, _)| *zone).collect()
+        };
+        Counts {
+            size,
+            room: zones.values().sum(),
+            wanted: u64::from(self.replication) * partitions,
+            whole_nodes: whole.map(|node| node.id).collect(),
+            zone_room: zones.values().map(|room| partitions.min(*room)).sum(),
+            zone_wanted: u64::from(self.redundancy) * partitions,
+            whole_zones: zones_where(true),
+            part_zones: zones_where(false),
+        }
+    }
+
+    /// The nodes that hold nothing in a layout of the size, by id, each with the reason.
+    pub fn unused(&self, layout: &Layout, size: u32) -> Vec<(u32, Unused)> {
+        let partitions = self.partitions();
+        let mut copies: BTreeMap<u32, u64> = BTreeMap::new();
+        for id in layout.rows().flat_map(|(_, ids)| ids) {
+            *copies.entry(*id).or_default() += 1;
+        }
+        let held = |node: &Node| copies.get(&node.id).copied().unwrap_or(0);
+        let in_zone = |zone: u16| {
+            let mates = self.nodes.iter().filter(|mate| mate.zone == zone);
+            mates.map(held).sum::<u64>()
+        };
+        let reason = |node: &Node| {
+            if most_copies(node, partitions, size.into()) == 0 {
+                Unused::Small
+            } else if self.replication == self.redundancy && in_zone(node.zone) == partitions {
+                Unused::ZoneWhole
+            } else {
+                Unused::Spare
+            }
+        };
+        let unused = self.nodes.iter().filter(|node| held(node) == 0);
+        unused.map(|node| (node.id, reason(node))).collect()
+    }
+
+    /// How many partitions there are; no cluster that planning accepts has more than 256.
+    pub fn partitions(&self) -> u64 {
+        1 << self.bits.min(8)
+    }
+}
+
+/// The most copies that a node can hold at a size: the one place that knows how disks are filled.
+fn most_copies(node: &Node, partitions: u64, size: u64) -> u64 {
+    let whole = u64::from(node.capacity).checked_div(size);
+    whole.map_or(partitions, |copies| copies.min(partitions))
+}
+
+#[cfg(test)]
+mod tests {
+    use super::*;
+
+    fn cluster(numbers: [u8; 3], nodes: &[(u32, u16, u32)]) -> Cluster {
+        let [bits, replication, redundancy] = numbers;
+        let node = |&(id, zone, capacity): &(u32, u16, u32)| Node { id, zone, capacity };
+        Cluster {
+            bits,
+            replication,
+            redundancy,
+            nodes: nodes.iter().map(node).collect(),
+            former: Layout::default(),
+        }
+    }
+
+    /// Example A of the paper, whose size is 25: at 26 MB its disks take 2 + 2 + 1 copies, and both
+    /// zones are touched in 2 + 1 ways.
+    #[test]
+    fn copies_and_zones_are_counted() {
+        let a = cluster([1, 3, 2], &[(1, 1, 100), (2, 1, 70), (3, 2, 50)]);
+        let fit = a.counts(25);
+        assert_eq!((fit.room, fit.wanted), (6, 6));
+        assert_eq!((fit.zone_room, fit.zone_wanted), (4, 4));
+        assert!(!fit.lack_room() && !fit.lack_zones());
+        let more = a.counts(26);
+        assert_eq!((more.room, more.zone_room), (5, 3));
+        assert!(more.lack_room() && more.lack_zones());
+        assert_eq!(more.whole_nodes, [1, 2]);
+        assert_eq!((more.whole_zones, more.part_zones), (vec![1], vec![2]));
+    }
+
+    #[test]
+    fn the_ends_of_the_range_are_counted_too() {
+        let full = cluster([8, 1, 1], &[(1, 1, u32::MAX)]);
+        assert_eq!(full.counts(0).room, 256);
+        assert_eq!(full.counts(1 << 32).room, 0);
+        assert_eq!(Cluster::default().counts(1).room, 0);
+    }
+
+    /// Box 2 is too small; box 4 stands in a zone that holds both partitions; box 5 is not needed.
+    #[test]
+    fn unused_nodes_have_their_reason() {
+        let nodes = [(1, 1, 90), (2, 1, 9), (3, 2, 20), (4, 2, 10), (5, 3, 10)];
+        let layout: Layout = [(0, [1, 3]), (1, [1, 3])].into_iter().collect();
+        let two_zones = cluster([1, 2, 2], &nodes);
+        let reasons = |unused: [Unused; 3]| [2, 4, 5].into_iter().zip(unused).collect::<Vec<_>>();
+        assert_eq!(
+            two_zones.unused(&layout, 10),
+            reasons([Unused::Small, Unused::ZoneWhole, Unused::Spare])
+        );
+        let one_zone = cluster([1, 2, 1], &nodes);
+        assert_eq!(
+            one_zone.unused(&layout, 10),
+            reasons([Unused::Small, Unused::Spare, Unused::Spare])
+        );
+    }
+}

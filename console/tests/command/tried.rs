@@ -1,0 +1,87 @@
+//! Changes of the boxes that are tried, and not made.
+
+use crate::folder::{layout_record, Folder};
+
+/// Two boxes of 8 MB hold two of four partitions each, so the size is 4.
+const FILE: &str = "copies 1\nzones 1\nbits 2\nbox 1 home 8 study\nbox 2 shop 8\n";
+
+pub fn two_boxes(name: &str) -> Folder {
+    let folder = Folder::new(name);
+    folder.write("home.txt", FILE);
+    folder.write("last", layout_record(2, 4, &[&[1], &[1], &[2], &[2]]));
+    folder
+}
+
+/// The changes of the stored table.
+pub const CHANGES: [&str; 8] = [
+    "--add",
+    "attic 8",
+    "--add",
+    "home 16 big",
+    "--remove",
+    "2",
+    "--resize",
+    "1=16",
+];
+
+/// With a third box of 8 MB the disks take three copies of 5 MB, and four are wanted: nothing is
+/// gained. One of 16 MB takes two copies of 8 MB and leaves one to each of the others: two are sent.
+/// Without box 2 box 1 takes all four, two of which were on box 2 alone. With 16 MB box 1 takes three
+/// of 5 MB. All together the disks take 1 + 2 + 2 copies of 8 MB, and at 9 MB only 0 + 1 + 1; box 1
+/// keeps its two, and the two of box 2 are sent.
+#[test]
+fn each_change_is_tried_alone_and_all_together() {
+    let folder = two_boxes("tried");
+    let words = [&["what-if", "home.txt", "--former", "last"], &CHANGES[..]].concat();
+    let done = folder.call_words(&words);
+    assert_eq!((done.status, done.err.as_str()), (0, ""));
+    assert_eq!(done.out, include_str!("what-if.txt"));
+    assert_eq!(folder.names(), ["home.txt", "last"]);
+}
+
+/// Without a former layout there is nothing to send.
+#[test]
+fn one_change_is_tried_without_a_layout() {
+    let done = two_boxes("tried-first").call("what-if home.txt --resize 1=16");
+    assert_eq!((done.status, done.err.as_str()), (0, ""));
+    assert_eq!(done.out, include_str!("what-if-first.txt"));
+}
+
+#[test]
+fn changes_that_leave_no_layout_are_told() {
+    let folder = two_boxes("tried-none");
+    let done = folder.call("what-if home.txt --former last --remove 1 --remove 2");
+    assert_eq!((done.status, done.err.as_str()), (1, ""));
+    assert_eq!(done.out, include_str!("what-if-none.txt"));
+}
+
+#[test]
+fn changes_that_cannot_be_made_are_told() {
+    let folder = two_boxes("tried-bad");
+    let told = |words: &[&str]| {
+        let done = folder.call_words(&[&["what-if", "home.txt"], words].concat());
+        assert_eq!((done.status, done.out.as_str()), (2, ""));
+        done.err
+    };
+    assert_eq!(told(&["--remove", "9"]), "--remove 9: there is no box 9\n");
+    assert_eq!(
+        told(&["--remove", "2", "--resize", "2=9"]),
+        "--resize 2=..: there is no box 2\n"
+    );
+    assert_eq!(
+        told(&["--add", "my attic 4T", "--add", "attic x"]),
+        "--add \"my attic 4T\": a zone is one word: write my-attic, and not 'my attic'\n\
+         --add \"attic x\": 'x' is not a capacity: write megabytes, or a number that ends in G or T, \
+         as 500G\n"
+    );
+}
+
+#[test]
+fn slips_in_a_change_are_warned_of() {
+    let folder = two_boxes("tried-slip");
+    let done = folder.call_words(&["what-if", "home.txt", "--add", "hmoe 8"]);
+    let told =
+        "warning: --add \"hmoe 8\": zone 'hmoe' is nearly 'home' of line 4: if they are one, \
+                write it one way\n";
+    assert_eq!((done.status, done.err.as_str()), (0, told));
+}
