@@ -3,6 +3,7 @@
 mod compared;
 mod folder;
 mod lost;
+mod manual;
 mod objects;
 mod page;
 mod printed;

@@ -136,7 +136,7 @@ fn numbers(facts: &Facts) -> Vec<&'static str> {
 }
 
 fn table(class: &str, caption: &str, heads: &[&str], lines: &str) -> String {
-    let left = ["name", "zone", "before", "after", "boxes that hold it"];
+    let left = ["name", "zone", "before", "after", "held by"];
     let heads = heads.iter().map(|head| match left.contains(head) {
         true => format!("<th class=\"l\">{head}</th>"),
         false => format!("<th>{head}</th>"),
@@ -156,7 +156,7 @@ pub fn partitions(facts: &Facts, laid: &Laid) -> String {
     let partitions: Vec<u8> = (0..=u8::MAX).take(1 << facts.cluster().bits).collect();
     let heads: &[&str] = match facts.has_former() {
         true => &["partition", "before", "after"],
-        false => &["partition", "boxes that hold it"],
+        false => &["partition", "held by"],
     };
     let tables = partitions.chunks(LINES).map(|some| {
         let lines: String = some.iter().map(|p| partition(facts, laid, *p)).collect();
@@ -177,6 +177,9 @@ pub fn partitions(facts: &Facts, laid: &Laid) -> String {
     section("partitions", "The partitions", &body)
 }
 
+/// Letters of the longest head over rows.
+const HEAD: usize = 8;
+
 /// How wide a table of partitions must be for its longest row, in letters' heights.
 fn width(laid: &Laid, columns: usize) -> usize {
     let long = |layout: &Layout| {
@@ -188,10 +191,10 @@ fn width(laid: &Laid, columns: usize) -> usize {
             .unwrap_or(0)
     };
     let letters = match columns {
-        2 => long(&laid.after),
-        _ => long(&laid.before) + long(&laid.after),
+        2 => long(&laid.after).max(HEAD),
+        _ => long(&laid.before).max(HEAD) + long(&laid.after).max(HEAD),
     };
-    6 + letters * 11 / 20
+    8 + letters * 11 / 20
 }
 
 fn partition(facts: &Facts, laid: &Laid, partition: u8) -> String {
