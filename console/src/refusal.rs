@@ -231,4 +231,31 @@ mod tests {
         assert_eq!(full.place, Some(Place::Node(7)));
         assert_eq!(judge(0, Some(0), Some(0)), Ok(()));
     }
+
+    #[test]
+    fn places_in_the_callers_own_values_are_named() {
+        let node = Place::NodeAt { index: 2, id: 7 };
+        let refused = Refused {
+            refusal: Refusal::Order,
+            place: Some(node),
+        };
+        assert_eq!(
+            refused.to_string(),
+            "ids or partitions that do not rise, or a row that is not the next, at nodes[2], id 7 \
+             (refused 5)"
+        );
+        let names = [Place::Bits, Place::Replication, Place::Redundancy];
+        assert_eq!(
+            names.map(|place| place.to_string()),
+            [
+                "the partition bits",
+                "the replication",
+                "the zone redundancy"
+            ]
+        );
+        assert_eq!(
+            Place::FormerRow(9).to_string(),
+            "the former row of partition 9"
+        );
+    }
 }

@@ -54,20 +54,22 @@ fn disks_that_fall_short_together_are_told_by_number() {
     assert!(told.contains(why), "{told}");
 }
 
-/// Both zones hold the partition already, and a copy in box 3 would need a transfer.
+/// Both zones hold the partition already, and a copy in box 3 would need a transfer. Box 4 is meant
+/// to hold nothing.
 #[test]
 fn a_box_in_a_whole_zone_is_told() {
     let folder = Folder::new("why-unused");
     let text =
-        "copies 2\nzones 2\nbits 0\nbox 1 home 9\nbox 2 shop 9\nbox 3 shop 9\nbox 4 attic 9\n";
+        "copies 2\nzones 2\nbits 0\nbox 1 home 9\nbox 2 shop 9\nbox 3 shop 9\nbox 4 attic 0\nbox 5 attic 9\n";
     folder.write("home.txt", text);
     folder.write("last", layout_record(0, 9, &[&[1, 2]]));
     let told = folder.call("plan home.txt --former last").out;
     let why = "Unused: box 3 (shop): shop holds every partition already, and none may lie there \
                twice.\n\
-               Unused: box 4 (attic): all copies lie on other boxes, and with it the size would be \
+               Unused: box 5 (attic): all copies lie on other boxes, and with it the size would be \
                no larger.\n";
     assert!(told.contains(why), "{told}");
+    assert!(!told.contains("Unused: box 4"), "{told}");
 }
 
 /// What rounding takes, less than a hundredth here, is not worth a sentence.

@@ -2,7 +2,7 @@
 -- and each target outside until it comes in.
 -- Assumes nothing.
 use Prim.Native.Nat.{ℕ, zero, suc, _+_, _-_, _*_, _^_, _≤_, _<_}
-use mathlib.Core.Path.{_≡_, refl, sym, ap, _∙_, subst}
+use mathlib.Core.Path.{_≡_, sym, ap, _∙_, subst}
 use mathlib.Core.List.{List}
 use mathlib.Core.Logic.{_⊎_, inl, inr, ⊎-elim}
 use native.Mathlib.Nat.{one-mul, zero-mul}
@@ -14,13 +14,13 @@ use borrow.Author.Tests.{lt-ltb, le-ltb}
 use Rattle.sums.specs.TermsSums.{sumTo}
 use Rattle.sums.specs.ModelSums.{is}
 use Rattle.sums.proofs.Sum.{lt-or-ge, eq-or-ne, is-eq, is-ne, is-le, is-one}
-use Rattle.sets.specs.ModelBits.{bit, withOf, withoutOf}
+use Rattle.sets.specs.ModelBits.{maskBits, bit, withOf, withoutOf, bitsAt}
 use Rattle.sets.proofs.Laws.{bit-le, bit-high, bit-lt, bit-with, bit-without, with-lt}
 use Rattle.exchange.specs.ModelCircuit.{turn}
 use Rattle.exchange.specs.ModelUncross.{Walk, Round}
 use Rattle.exchange.proofs.Picked.{picked, picked-at, out-le, in-le}
 use Rattle.exchange.proofs.Circuit.{ends, exchange, sources-differ}
-use Rattle.circuits.specs.ModelCircuits.{bitsOf, exchanged, walkedOf}
+use Rattle.circuits.specs.ModelCircuits.{exchanged, walkedOf}
 use Rattle.circuits.proofs.Steps.{length-exchanged}
 
 -- ---- any walk
@@ -43,30 +43,24 @@ module _ (P : ℕ) (y q : ℕ → ℕ) (rows : List ℕ) where
       ⊎-elim (λ l. rw (lt-ltb (q i) P l) (getD-set-other (exchanged P y q i rows) (q i) p (made i) 0 (λ e. n l (sym e))))
       (λ g. rw (le-ltb (q i) P g)) (lt-or-ge (q i) P)
 
-  -- The cells from P on are kept.
-  pub exchanged-beyond : (n p : ℕ) → P ≤ p → getD (exchanged P y q n rows) p 0 ≡ getD rows p 0
-  unfolding exchanged
-  exchanged-beyond zero p h = refl
-  exchanged-beyond (suc i) p h = cell-kept i p (λ l e. omega arith) ∙ exchanged-beyond i p h
-
   -- Words stay words.
-  pub exchanged-word : (n p : ℕ) → P ≤ length rows → getD rows p 0 < 2 ^ 32 → getD (exchanged P y q n rows) p 0 < 2 ^ 32
+  pub exchanged-word : (n p : ℕ) → P ≤ length rows → getD rows p 0 < 2 ^ maskBits → getD (exchanged P y q n rows) p 0 < 2 ^ maskBits
   unfolding exchanged
   exchanged-word zero p f h = h
   exchanged-word (suc i) p f h = go (exchanged-word i p f h) (lt-or-ge (q i) P) (eq-or-ne (q i) p)
     where
-      go : getD (exchanged P y q i rows) p 0 < 2 ^ 32 → (q i < P) ⊎ (P ≤ q i) → (q i ≡ p) ⊎ (q i ≡ p → ⊥)
-          → getD (exchanged P y q (suc i) rows) p 0 < 2 ^ 32
+      go : getD (exchanged P y q i rows) p 0 < 2 ^ maskBits → (q i < P) ⊎ (P ≤ q i) → (q i ≡ p) ⊎ (q i ≡ p → ⊥)
+          → getD (exchanged P y q (suc i) rows) p 0 < 2 ^ maskBits
       go w (inl l) (inl e) =
-          subst (λ (t : ℕ). t < 2 ^ 32) (sym (ap (λ (k : ℕ). getD (exchanged P y q (suc i) rows) k 0) (sym e) ∙ cell-made i l (omega arith)))
+          subst (λ (t : ℕ). t < 2 ^ maskBits) (sym (ap (λ (k : ℕ). getD (exchanged P y q (suc i) rows) k 0) (sym e) ∙ cell-made i l (omega arith)))
           (with-lt (withoutOf (getD (exchanged P y q i rows) (q i) 0) (y (suc i))) (y i))
-      go w (inl l) (inr n) = subst (λ (t : ℕ). t < 2 ^ 32) (sym (cell-kept i p (λ k e. n e))) w
-      go w (inr g) s = subst (λ (t : ℕ). t < 2 ^ 32) (sym (cell-kept i p (λ k e. omega arith))) w
+      go w (inl l) (inr n) = subst (λ (t : ℕ). t < 2 ^ maskBits) (sym (cell-kept i p (λ k e. n e))) w
+      go w (inr g) s = subst (λ (t : ℕ). t < 2 ^ maskBits) (sym (cell-kept i p (λ k e. omega arith))) w
 
 -- ---- a circuit
 
 module _ (P N R Z C : ℕ) (zone cap : ℕ → ℕ) (g free : ℕ → ℕ → ℕ) (rows : List ℕ) (w : Walk) (fits : P ≤ length rows)
-    (c : Round P N R Z C zone cap g free (bitsOf rows) w) (p : ℕ) (r : p < P)
+    (c : Round P N R Z C zone cap g free (bitsAt rows) w) (p : ℕ) (r : p < P)
   where
     abbrev y : ℕ → ℕ
     y = w .node
@@ -81,26 +75,26 @@ module _ (P N R Z C : ℕ) (zone cap : ℕ → ℕ) (g free : ℕ → ℕ → �
     abbrev left : ℕ → ℕ → ℕ
     left n b = picked n (λ i. is (q i) p) (λ i. y (suc i)) b
 
-    left-le : (n : ℕ) → n ≤ w .len → (b : ℕ) → left n b ≤ bitsOf rows p b
+    left-le : (n : ℕ) → n ≤ w .len → (b : ℕ) → left n b ≤ bitsAt rows p b
     left-le n l =
-        out-le n (λ i. is (q i) p) (λ i. y (suc i)) (λ i k. is-le (q i) p) (bitsOf rows p)
-        (λ i k e. exchange P N R Z C zone cap g free (bitsOf rows) (w .len) y q c i p (omega arith) r (is-one (q i) p e) .a-in)
-        (λ i j a b d e. sources-differ P N R Z C zone cap g free (bitsOf rows) (w .len) y q c i j a (omega arith))
+        out-le n (λ i. is (q i) p) (λ i. y (suc i)) (λ i k. is-le (q i) p) (bitsAt rows p)
+        (λ i k e. exchange P N R Z C zone cap g free (bitsAt rows) (w .len) y q c i p (omega arith) r (is-one (q i) p e) .a-in)
+        (λ i j a b d e. sources-differ P N R Z C zone cap g free (bitsAt rows) (w .len) y q c i j a (omega arith))
 
-    came-le : (n : ℕ) → n ≤ w .len → (b : ℕ) → bitsOf rows p b + came n b ≤ 1
+    came-le : (n : ℕ) → n ≤ w .len → (b : ℕ) → bitsAt rows p b + came n b ≤ 1
     came-le n l b =
-        in-le n (λ i. is (q i) p) y (λ i k. is-le (q i) p) (bitsOf rows p)
-        (λ i k e. exchange P N R Z C zone cap g free (bitsOf rows) (w .len) y q c i p (omega arith) r (is-one (q i) p e) .b-out)
+        in-le n (λ i. is (q i) p) y (λ i k. is-le (q i) p) (bitsAt rows p)
+        (λ i k e. exchange P N R Z C zone cap g free (bitsAt rows) (w .len) y q c i p (omega arith) r (is-one (q i) p e) .b-out)
         (λ i j a d e f. c .distinct i j a (omega arith)) b (bit-le (getD rows p 0) b)
 
     -- The bits of row p after the first n arcs.
-    exchanged-bit : (n : ℕ) → n ≤ w .len → (b : ℕ) → b < 32 → bitsOf (exchanged P y q n rows) p b ≡ bitsOf rows p b + came n b - left n b
+    exchanged-bit : (n : ℕ) → n ≤ w .len → (b : ℕ) → b < maskBits → bitsAt (exchanged P y q n rows) p b ≡ bitsAt rows p b + came n b - left n b
     unfolding exchanged sumTo
     exchanged-bit zero l b h = omega arith
     exchanged-bit (suc i) l b h = go (exchanged-bit i (omega arith) b h) (eq-or-ne (q i) p)
       where
-        go : bitsOf (exchanged P y q i rows) p b ≡ bitsOf rows p b + came i b - left i b → (q i ≡ p) ⊎ (q i ≡ p → ⊥)
-            → bitsOf (exchanged P y q (suc i) rows) p b ≡ bitsOf rows p b + came (suc i) b - left (suc i) b
+        go : bitsAt (exchanged P y q i rows) p b ≡ bitsAt rows p b + came i b - left i b → (q i ≡ p) ⊎ (q i ≡ p → ⊥)
+            → bitsAt (exchanged P y q (suc i) rows) p b ≡ bitsAt rows p b + came (suc i) b - left (suc i) b
         go e (inr n) =
             ap (λ (t : ℕ). bit t b) (cell-kept P y q rows i p (λ k d. n d))
             ∙ omega (
@@ -128,20 +122,20 @@ module _ (P N R Z C : ℕ) (zone cap : ℕ → ℕ) (g free : ℕ → ℕ → �
             ))
 
     -- The bits of row p after the exchanges of a circuit are those after its turn.
-    pub walked-bit : (b : ℕ) → b < 32 → bitsOf (walkedOf P w rows) p b ≡ turn (w .len) (w .node) (w .partition) (bitsOf rows) p b
+    pub walked-bit : (b : ℕ) → b < maskBits → bitsAt (walkedOf P w rows) p b ≡ turn (w .len) (w .node) (w .partition) (bitsAt rows) p b
     unfolding turn
     walked-bit b h = exchanged-bit (w .len) (omega arith) b h
 
     -- A row of nodes below N stays one.
-    pub walked-small : N ≤ 32 → getD rows p 0 < 2 ^ N → getD (walkedOf P w rows) p 0 < 2 ^ N
+    pub walked-small : N ≤ maskBits → getD rows p 0 < 2 ^ N → getD (walkedOf P w rows) p 0 < 2 ^ N
     walked-small few h =
-        bit-lt 32 N (getD (walkedOf P w rows) p 0)
-        (exchanged-word P y q rows (w .len) p fits (omega (arith, pow-mono {i = N} {j = 32} few)))
+        bit-lt maskBits N (getD (walkedOf P w rows) p 0)
+        (exchanged-word P y q rows (w .len) p fits (omega (arith, pow-mono {i = N} {j = maskBits} few)))
         (λ b a k. omega (arith, exchanged-bit (w .len) (omega arith) b k, bit-high N (getD rows p 0) b h a, none b a))
       where
         none : (b : ℕ) → N ≤ b → came (w .len) b ≡ 0
         none b a =
             ⊎-elim (λ l. omega arith)
             (λ l. let s = picked-at (w .len) (λ i. is (q i) p) y (λ i k. is-le (q i) p) b l in
-            absurd (omega (arith, s .3, ends P N R Z C zone cap g free (bitsOf rows) (w .len) y q c (s .0) (s .1) .1)))
+            absurd (omega (arith, s .3, ends P N R Z C zone cap g free (bitsAt rows) (w .len) y q c (s .0) (s .1) .1)))
             (lt-or-ge (came (w .len) b) 1)

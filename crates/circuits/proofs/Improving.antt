@@ -10,15 +10,17 @@ use native.Mathlib.Omega.{arith}
 use lib.Dec.{eqb, ltb}
 use lib.ListN.{length, getD}
 use borrow.Author.Tests.{eqb-true, eq-eqb, lt-ltb, le-ltb, not-true}
+use Rattle.cluster.specs.Terms.{bufferRows, mostNodes}
 use Rattle.sums.proofs.Sum.{sum-cong}
-use Rattle.sets.specs.ModelBits.{bit, memberOf, belowOf}
+use Rattle.sets.specs.ModelBits.{bit, memberOf, belowOf, bitsAt}
 use Rattle.sets.proofs.Laws.{bit-le, member-true, member-false, bit-true, bit-false}
 use Rattle.exchange.specs.ModelRow.{Within, Exchange, copies}
 use Rattle.exchange.specs.ModelLevels.{Cycle, back, cycleLength, outcome, IsCycle}
 use Rattle.exchange.specs.ModelCircuit.{cost, Allowed, Better}
 use Rattle.exchange.specs.ModelUncross.{Walk, Round, Right, improved}
 use Rattle.exchange.specs.ModelJoin.{ExchangeGraph, cycleWalk, nextLayout}
-use Rattle.exchange.proofs.Search.{First, first-cases, outcome-cycle}
+use Rattle.sums.proofs.First.{First, first-cases}
+use Rattle.exchange.proofs.Search.{outcome-cycle}
 use Rattle.exchange.proofs.Circuit.{cost-row, cost-store}
 use Rattle.exchange.proofs.Uncross.{uncross-circuit, improved-better}
 use Rattle.exchange.proofs.Walk.{improved-same}
@@ -27,10 +29,11 @@ use Rattle.exchange.proofs.Agreeing.{SameLayout, better-cong}
 use Rattle.swaps.specs.ModelSwaps.{targetsOf}
 use Rattle.swaps.specs.ModelMates.{Mates}
 use Rattle.swaps.proofs.Fitting.{target-valid, valid-target}
-use Rattle.cycles.specs.ModelGraph.{graphOf, arcOf, weightOf}
-use Rattle.circuits.specs.ModelCircuits.{bitsOf, okOf, suitsOf, suitsAt, witnessOf, cycleOf, freedOf, walkedOf, turnedOf}
+use Rattle.cycles.specs.ModelGraph.{arcCells, graphOf, arcOf, weightOf}
+use Rattle.walks.specs.ModelWalks.{okOf, suitsOf, suitsAt, witnessOf}
+use Rattle.circuits.specs.ModelCircuits.{cycleOf, freedOf, walkedOf, turnedOf}
 use Rattle.circuits.proofs.Steps.{length-exchanged}
-use Rattle.circuits.proofs.Exchanging.{exchanged-beyond, walked-bit, walked-small}
+use Rattle.circuits.proofs.Exchanging.{walked-bit, walked-small}
 
 -- ---- the test of a partition
 
@@ -63,7 +66,7 @@ module _ (rows former : List ℕ) (P : ℕ) (mates arcs : List ℕ) (all z : ℕ
       → Q (turnedOf rows former P mates arcs all z nodes m)
   unfolding turnedOf
   turned-cases Q a b =
-      go (ltb 32 m) (go (ltb 256 P) (go (ltb (length rows) P) (go (ltb (length former) P) (go (ltb (length arcs) 96) (or (ltb m (length nodes)))))))
+      go (ltb mostNodes m) (go (ltb bufferRows P) (go (ltb (length rows) P) (go (ltb (length former) P) (go (ltb (length arcs) arcCells) (or (ltb m (length nodes)))))))
     where
       go : (t : Bool) {l : List ℕ} → Q l → Q (cond t rows l)
       go true h = a
@@ -79,17 +82,11 @@ module _ (rows former : List ℕ) (P : ℕ) (mates arcs : List ℕ) (all z : ℕ
       let w = freedOf rows former P mates arcs all z nodes m in
       turned-cases (λ l. length l ≡ length rows) refl (length-exchanged P (w .node) (w .partition) rows (w .len))
 
-  -- The rows from P on are kept.
-  pub turned-beyond : (p : ℕ) → P ≤ p → getD (turnedOf rows former P mates arcs all z nodes m) p 0 ≡ getD rows p 0
-  turned-beyond p h =
-      let w = freedOf rows former P mates arcs all z nodes m in
-      turned-cases (λ l. getD l p 0 ≡ getD rows p 0) refl (exchanged-beyond P (w .node) (w .partition) rows (w .len) p h)
-
 -- ---- in planning
 
 -- N nodes in zones, of which mates tells the sets; the first P rows are a layout within the caps, of nodes below N; every pair is free.
 module _ (P N R Z : ℕ) (zone cap : ℕ → ℕ) (free : ℕ → ℕ → ℕ) (loose : (p b : ℕ) → free p b ≡ 1) (rows former mates arcs : List ℕ)
-    (M : Mates N zone mates) (small : (p : ℕ) → p < P → getD rows p 0 < 2 ^ N) (s : Within P N R Z zone cap (bitsOf rows))
+    (M : Mates N zone mates) (small : (p : ℕ) → p < P → getD rows p 0 < 2 ^ N) (s : Within P N R Z zone cap (bitsAt rows))
   where
     -- The test for exchanges.
     abbrev ok : ℕ → ℕ → ℕ → Bool
@@ -100,7 +97,7 @@ module _ (P N R Z : ℕ) (zone cap : ℕ → ℕ) (free : ℕ → ℕ → ℕ) (
     wit = witnessOf rows former P mates arcs (belowOf N) Z
 
     -- The test for exchanges is right.
-    pub ok-right : Right P N R Z zone free (bitsOf rows) ok
+    pub ok-right : Right P N R Z zone free (bitsAt rows) ok
     unfolding okOf
     ok-right =
         record {
@@ -122,64 +119,64 @@ module _ (P N R Z : ℕ) (zone cap : ℕ → ℕ) (free : ℕ → ℕ → ℕ) (
               (valid-target N zone mates M Z (getD rows p 0) a (small p l) (e .a-node) (e .a-in) R (s .rows p l) b (e .b-node) (e .b-out) (e .valid));
         }
 
-    light : (p b : ℕ) → bitsOf former p b ≤ 1
+    light : (p b : ℕ) → bitsAt former p b ≤ 1
     light p b = bit-le (getD former p 0) b
 
     -- The cells of arcs are an exchange graph of the rows: each exchange has an arc that weighs no more, a node with room has one to each node,
     -- and each arc is allowed in some partition, or over the store, at what it weighs.
     module _
         (exchanges :
-        (p a b : ℕ) → p < P → Exchange N R Z zone free (bitsOf rows) p a b
-        → (arcOf arcs a b ≡ 1) × (weightOf arcs a b + bitsOf former p b ≤ 1 + bitsOf former p a))
-        (room : (u v : ℕ) → u < N → v < N → copies P (bitsOf rows) u < cap u → (arcOf arcs u v ≡ 1) × (weightOf arcs u v ≤ 1))
+        (p a b : ℕ) → p < P → Exchange N R Z zone free (bitsAt rows) p a b
+        → (arcOf arcs a b ≡ 1) × (weightOf arcs a b + bitsAt former p b ≤ 1 + bitsAt former p a))
+        (room : (u v : ℕ) → u < N → v < N → copies P (bitsAt rows) u < cap u → (arcOf arcs u v ≡ 1) × (weightOf arcs u v ≤ 1))
         (there :
         (u v : ℕ) → u < N → v < N → arcOf arcs u v ≡ 1
-        → (q : ℕ) × (Allowed P N R Z zone cap free (bitsOf rows) q u v × (cost P 1 (bitsOf former) q u v ≡ weightOf arcs u v)))
+        → (q : ℕ) × (Allowed P N R Z zone cap free (bitsAt rows) q u v × (cost P 1 (bitsAt former) q u v ≡ weightOf arcs u v)))
       where
         -- The first partition that suits an arc, or P, allows it, and the arc costs there what it weighs.
         first-right : (u v r : ℕ) → u < N → v < N → arcOf arcs u v ≡ 1 → First (suitsAt rows former mates (belowOf N) Z (weightOf arcs u v) u v) P 0 r
-            → Allowed P N R Z zone cap free (bitsOf rows) r u v × (cost P 1 (bitsOf former) r u v ≡ weightOf arcs u v)
+            → Allowed P N R Z zone cap free (bitsAt rows) r u v × (cost P 1 (bitsAt former) r u v ≡ weightOf arcs u v)
         unfolding okOf
         first-right u v r l k a (inl f) =
             let h = suits-has mates (belowOf N) Z (getD rows r 0) (getD former r 0) (weightOf arcs u v) u v (f .2) in
             let i : r < P = omega (arith, f .1) in
-            (inl (i, ok-right .sound r u v i l k (h .0) (h .1) (h .3)), omega (arith, h .2, cost-row P 1 (bitsOf former) light r u v i))
+            (inl (i, ok-right .sound r u v i l k (h .0) (h .1) (h .3)), omega (arith, h .2, cost-row P 1 (bitsAt former) light r u v i))
         first-right u v r l k a (inr f) = none (there u v l k a .0) (there u v l k a .1 .0) (there u v l k a .1 .1)
           where
-            none : (q : ℕ) → Allowed P N R Z zone cap free (bitsOf rows) q u v → cost P 1 (bitsOf former) q u v ≡ weightOf arcs u v
-                → Allowed P N R Z zone cap free (bitsOf rows) r u v × (cost P 1 (bitsOf former) r u v ≡ weightOf arcs u v)
+            none : (q : ℕ) → Allowed P N R Z zone cap free (bitsAt rows) q u v → cost P 1 (bitsAt former) q u v ≡ weightOf arcs u v
+                → Allowed P N R Z zone cap free (bitsAt rows) r u v × (cost P 1 (bitsAt former) r u v ≡ weightOf arcs u v)
             none q (inl d) t =
                 absurd
                 (true≢false
                 (sym
                 (has-suits mates (belowOf N) Z (getD rows q 0) (getD former q 0) (weightOf arcs u v) u v (d .1 .a-in) (d .1 .b-out)
-                (omega (arith, cost-row P 1 (bitsOf former) light q u v (d .0))) (ok-right .complete q u v (d .0) (d .1)))
+                (omega (arith, cost-row P 1 (bitsAt former) light q u v (d .0))) (ok-right .complete q u v (d .0) (d .1)))
                 ∙ f .1 q (omega arith) (omega (arith, d .0))))
             none q (inr d) t =
                 let e : r ≡ P = omega (arith, f .0) in (
                   inr (e, d .1, d .2, d .3),
                   omega (
                     arith,
-                    cost-store P 1 (bitsOf former) light q u v (omega (arith, d .0)),
-                    cost-store P 1 (bitsOf former) light r u v (omega arith),
+                    cost-store P 1 (bitsAt former) light q u v (omega (arith, d .0)),
+                    cost-store P 1 (bitsAt former) light r u v (omega arith),
                   ),
                 )
 
         -- The partition that is looked up for an arc allows it, and the arc costs there what it weighs.
         pub witness-right : (u v : ℕ) → u < N → v < N → arcOf arcs u v ≡ 1
-            → Allowed P N R Z zone cap free (bitsOf rows) (wit u v) u v × (cost P 1 (bitsOf former) (wit u v) u v ≡ weightOf arcs u v)
+            → Allowed P N R Z zone cap free (bitsAt rows) (wit u v) u v × (cost P 1 (bitsAt former) (wit u v) u v ≡ weightOf arcs u v)
         unfolding witnessOf
         witness-right u v l k a =
             first-right u v (wit u v) l k a (first-cases (suitsAt rows former mates (belowOf N) Z (weightOf arcs u v) u v) P 0)
 
         -- The graph with the partitions that are looked up.
-        pub witness-graph : ExchangeGraph P N R Z 1 zone cap (bitsOf former) free (bitsOf rows) (graphOf arcs N) wit
+        pub witness-graph : ExchangeGraph P N R Z 1 zone cap (bitsAt former) free (bitsAt rows) (graphOf arcs N) wit
         witness-graph =
             record { nodes = refl; shift = refl; exchanges = exchanges; room = room; witness = λ u v l k a. witness-right u v l k a }
 
         -- The rows after the exchanges of a cycle over the nodes of a list.
-        module _ (nodes : List ℕ) (m : ℕ) (c : IsCycle (graphOf arcs N) m (λ t. getD nodes t 0)) (many : P ≤ 256) (a : P ≤ length rows) (b : P ≤ length former)
-            (d : 96 ≤ length arcs) (e : m < length nodes)
+        module _ (nodes : List ℕ) (m : ℕ) (c : IsCycle (graphOf arcs N) m (λ t. getD nodes t 0)) (many : P ≤ bufferRows) (a : P ≤ length rows) (b : P ≤ length former)
+            (d : arcCells ≤ length arcs) (e : m < length nodes)
           where
             abbrev new : List ℕ
             new = turnedOf rows former P mates arcs (belowOf N) Z nodes m
@@ -191,50 +188,50 @@ module _ (P N R Z : ℕ) (zone cap : ℕ → ℕ) (free : ℕ → ℕ → ℕ) (
             unfolding turnedOf
             new-walked =
                 rw (
-                  le-ltb 32 m (omega (arith, c .few, M .few)),
-                  le-ltb 256 P many,
+                  le-ltb mostNodes m (omega (arith, c .few, M .few)),
+                  le-ltb bufferRows P many,
                   le-ltb (length rows) P a,
                   le-ltb (length former) P b,
-                  le-ltb (length arcs) 96 d,
+                  le-ltb (length arcs) arcCells d,
                   lt-ltb m (length nodes) e,
                 )
 
-            round : Round P N R Z 1 zone cap (bitsOf former) free (bitsOf rows) (cycleOf rows former P mates arcs (belowOf N) Z nodes m)
-            round = graph-circuit P N R Z 1 zone cap (bitsOf former) free (bitsOf rows) (graphOf arcs N) wit witness-graph m (λ t. getD nodes t 0) c
+            round : Round P N R Z 1 zone cap (bitsAt former) free (bitsAt rows) (cycleOf rows former P mates arcs (belowOf N) Z nodes m)
+            round = graph-circuit P N R Z 1 zone cap (bitsAt former) free (bitsAt rows) (graphOf arcs N) wit witness-graph m (λ t. getD nodes t 0) c
 
-            freed : Round P N R Z 1 zone cap (bitsOf former) free (bitsOf rows) walkThere
+            freed : Round P N R Z 1 zone cap (bitsAt former) free (bitsAt rows) walkThere
             freed =
-                uncross-circuit P N R Z 1 zone cap (bitsOf former) free (bitsOf rows) ok ok-right light m (cycleOf rows former P mates arcs (belowOf N) Z nodes m)
+                uncross-circuit P N R Z 1 zone cap (bitsAt former) free (bitsAt rows) ok ok-right light m (cycleOf rows former P mates arcs (belowOf N) Z nodes m)
                 (omega arith) round
                 .0
 
             -- They are the layout that the circuit leads to.
-            pub turned-improved : SameLayout P N (improved P 1 (bitsOf former) ok (cycleOf rows former P mates arcs (belowOf N) Z nodes m) (bitsOf rows)) (bitsOf new)
+            pub turned-improved : SameLayout P N (improved P 1 (bitsAt former) ok (cycleOf rows former P mates arcs (belowOf N) Z nodes m) (bitsAt rows)) (bitsAt new)
             unfolding improved
             turned-improved p l t k =
                 sym
-                (ap (λ (r : List ℕ). bitsOf r p t) new-walked
-                ∙ walked-bit P N R Z 1 zone cap (bitsOf former) free rows walkThere a freed p l t (omega (arith, M .few)))
+                (ap (λ (r : List ℕ). bitsAt r p t) new-walked
+                ∙ walked-bit P N R Z 1 zone cap (bitsAt former) free rows walkThere a freed p l t (omega (arith, M .few)))
 
             -- They are rows of nodes below N.
             pub turned-small : (p : ℕ) → p < P → getD new p 0 < 2 ^ N
             turned-small p l =
                 subst (λ (r : List ℕ). getD r p 0 < 2 ^ N) (sym new-walked)
-                (walked-small P N R Z 1 zone cap (bitsOf former) free rows walkThere a freed p l (M .few) (small p l))
+                (walked-small P N R Z 1 zone cap (bitsAt former) free rows walkThere a freed p l (M .few) (small p l))
 
             -- They are a better layout.
-            pub turned-better : Better P N R Z 1 zone cap (bitsOf former) free (bitsOf rows) (bitsOf new)
+            pub turned-better : Better P N R Z 1 zone cap (bitsAt former) free (bitsAt rows) (bitsAt new)
             turned-better =
-                better-cong P N R Z 1 zone cap (bitsOf former) free (bitsOf rows)
-                (improved P 1 (bitsOf former) ok (cycleOf rows former P mates arcs (belowOf N) Z nodes m) (bitsOf rows)) (bitsOf rows) (bitsOf new)
+                better-cong P N R Z 1 zone cap (bitsAt former) free (bitsAt rows)
+                (improved P 1 (bitsAt former) ok (cycleOf rows former P mates arcs (belowOf N) Z nodes m) (bitsAt rows)) (bitsAt rows) (bitsAt new)
                 (λ p l t k. refl) turned-improved
-                (improved-better P N R Z 1 zone cap (bitsOf former) free (bitsOf rows) ok ok-right (M .inside) light s
+                (improved-better P N R Z 1 zone cap (bitsAt former) free (bitsAt rows) ok ok-right (M .inside) light s
                 (cycleOf rows former P mates arcs (belowOf N) Z nodes m) round)
 
         -- The rows after the exchanges of the cycle that the search ends with, where the list holds its way back.
         module _ (some : 1 ≤ N) (k v : ℕ) (o : outcome (graphOf arcs N) ≡ Cycle k v) (nodes : List ℕ)
-            (held : (t : ℕ) → t ≤ cycleLength (graphOf arcs N) k v → getD nodes t 0 ≡ back (graphOf arcs N) k v t) (many : P ≤ 256) (a : P ≤ length rows)
-            (b : P ≤ length former) (d : 96 ≤ length arcs) (e : cycleLength (graphOf arcs N) k v < length nodes)
+            (held : (t : ℕ) → t ≤ cycleLength (graphOf arcs N) k v → getD nodes t 0 ≡ back (graphOf arcs N) k v t) (many : P ≤ bufferRows) (a : P ≤ length rows)
+            (b : P ≤ length former) (d : arcCells ≤ length arcs) (e : cycleLength (graphOf arcs N) k v < length nodes)
           where
             abbrev m : ℕ
             m = cycleLength (graphOf arcs N) k v
@@ -260,11 +257,11 @@ module _ (P N R Z : ℕ) (zone cap : ℕ → ℕ) (free : ℕ → ℕ → ℕ) (
                 }
 
             -- They are the next layout.
-            pub turned-next : SameLayout P N (nextLayout P 1 (bitsOf former) ok (graphOf arcs N) wit (bitsOf rows) (Cycle k v))
-                (bitsOf (turnedOf rows former P mates arcs (belowOf N) Z nodes m))
+            pub turned-next : SameLayout P N (nextLayout P 1 (bitsAt former) ok (graphOf arcs N) wit (bitsAt rows) (Cycle k v))
+                (bitsAt (turnedOf rows former P mates arcs (belowOf N) Z nodes m))
             unfolding nextLayout cycleWalk
             turned-next p l t h =
-                improved-same P 1 (bitsOf former) ok
+                improved-same P 1 (bitsAt former) ok
                 {w = cycleWalk (graphOf arcs N) wit k v}
                 {u = cycleOf rows former P mates arcs (belowOf N) Z nodes m}
                 record {
@@ -272,5 +269,5 @@ module _ (P N R Z : ℕ) (zone cap : ℕ → ℕ) (free : ℕ → ℕ → ℕ) (
                   nodes = λ i g. sym (held i g);
                   partitions = λ i g. ap₂ wit (sym (held (suc i) g)) (sym (held i (omega arith)));
                 }
-                (bitsOf rows) p t
+                (bitsAt rows) p t
                 ∙ turned-improved nodes m held-cycle many a b d e p l t h

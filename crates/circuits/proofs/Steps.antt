@@ -13,13 +13,14 @@ use lib.ListN.{length, getD, set, length-set}
 use lib.Seq.{getD-set-same, getD-set-other}
 use borrow.Author.Tests.{lt-ltb, le-ltb}
 use Rattle.sums.proofs.Sum.{lt-or-ge}
-use Rattle.sets.specs.ModelBits.{withOf, withoutOf}
+use Rattle.sets.specs.ModelBits.{withOf, withoutOf, bitsAt}
 use Rattle.cells.specs.ModelCells.{put}
 use Rattle.cells.proofs.Cells.{put-more, length-put, getD-put-in, getD-put-out}
 use Rattle.exchange.specs.ModelUncross.{Walk, Same, partner, first, inner, outer, split, uncross}
 use Rattle.exchange.proofs.Uncross.{skip-low, skip-high, wrap-low, wrap-end, first-pair}
 use Rattle.exchange.proofs.Walk.{uncross-stop, uncross-go, uncross-same, same-trans}
-use Rattle.circuits.specs.ModelCircuits.{bitsOf, okOf, witnessOf, witnessIn, walkIn, innerGains, cycleOf, freedOf, exchanged, walkedOf}
+use Rattle.walks.specs.ModelWalks.{okOf, witnessOf, walkIn, innerGains}
+use Rattle.circuits.specs.ModelCircuits.{witnessIn, cycleOf, freedOf, exchanged, walkedOf}
 
 -- ---- cells
 
@@ -182,9 +183,9 @@ module _ (rows former : List ℕ) (P : ℕ) (mates arcs : List ℕ) (all z : ℕ
             ∙ sym (ap (λ (s : List ℕ). getD s t 0) f ∙ getD-first (witnessIn nodes rows former P mates arcs all z) m q₀ t l b);
       }
 
-  pub turned-in : (w u : Walk) → Same (cycleOf rows former P mates arcs all z nodes m) w → Same (uncross m P 1 (bitsOf former) (okOf rows mates all z) w) u
+  pub turned-in : (w u : Walk) → Same (cycleOf rows former P mates arcs all z nodes m) w → Same (uncross m P 1 (bitsAt former) (okOf rows mates all z) w) u
       → walkedOf P u rows ≡ walkedOf P (freedOf rows former P mates arcs all z nodes m) rows
   turned-in w u s t =
-      let r = same-trans (uncross-same P 1 (bitsOf former) (okOf rows mates all z) m s) t in
+      let r = same-trans (uncross-same P 1 (bitsAt former) (okOf rows mates all z) m s) t in
       let v = freedOf rows former P mates arcs all z nodes m in
       sym (exchanged-same P r rows (v .len) (omega arith) ∙ ap (λ (k : ℕ). exchanged P (u .node) (u .partition) k rows) (r .lens))

@@ -5,10 +5,11 @@ use mathlib.Core.List.{List}
 use lib.ListN.{length, getD, set}
 use lib.Dec.{ltb}
 use mathlib.Core.Bool.{cond}
-use Rattle.sets.specs.ModelBits.{withOf, withoutOf}
+use Rattle.cluster.specs.Terms.{bufferRows, mostNodes}
+use Rattle.cycles.specs.ModelGraph.{arcCells}
+use Rattle.sets.specs.ModelBits.{bitsAt, withOf, withoutOf}
 use Rattle.exchange.specs.ModelUncross.{Walk, walk, uncross}
-pub use Rattle.walks.specs.ModelWalks.{bitsOf, suitsAt, walkIn, innerGains}
-unfoldable pub use Rattle.walks.specs.ModelWalks.{okOf, suitsOf, witnessOf}
+unfoldable pub use Rattle.walks.specs.ModelWalks.{okOf, witnessOf}
 
 module _ (rows former : List ℕ) (P : ℕ) (mates arcs : List ℕ) (all z : ℕ) where
   -- The walk over the nodes of a cycle of m arcs, each at its witness.
@@ -17,7 +18,7 @@ module _ (rows former : List ℕ) (P : ℕ) (mates arcs : List ℕ) (all z : ℕ
 
   -- That walk, freed of crossed pairs.
   abbrev pub freedOf : List ℕ → ℕ → Walk
-  freedOf nodes m = uncross m P 1 (bitsOf former) (okOf rows mates all z) (cycleOf nodes m)
+  freedOf nodes m = uncross m P 1 (bitsAt former) (okOf rows mates all z) (cycleOf nodes m)
 
 -- The witness of the arc t over the nodes of a walk.
 abbrev pub witnessIn : List ℕ → List ℕ → List ℕ → ℕ → List ℕ → List ℕ → ℕ → ℕ → ℕ → ℕ
@@ -37,9 +38,9 @@ walkedOf P w rows = exchanged P (w .node) (w .partition) (w .len) rows
 -- The rows after the exchanges of a cycle that is freed of crossed pairs; the rows as they are, where a list is too short or there is too much.
 unfoldable pub turnedOf : List ℕ → List ℕ → ℕ → List ℕ → List ℕ → ℕ → ℕ → List ℕ → ℕ → List ℕ
 turnedOf rows former P mates arcs all z nodes m =
-    cond (ltb 32 m) rows
-    (cond (ltb 256 P) rows
+    cond (ltb mostNodes m) rows
+    (cond (ltb bufferRows P) rows
     (cond (ltb (length rows) P) rows
     (cond (ltb (length former) P) rows
-    (cond (ltb (length arcs) 96) rows
+    (cond (ltb (length arcs) arcCells) rows
     (cond (ltb m (length nodes)) (walkedOf P (freedOf rows former P mates arcs all z nodes m) rows) rows)))))

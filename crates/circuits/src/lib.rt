@@ -1,11 +1,18 @@
 // From a cycle of the exchange graph to the exchanges in the rows: each arc gets a partition in which it is an exchange, the circuit is freed of
-// crossed pairs, and its exchanges are made. A row is a set of nodes below 32.
+// crossed pairs, and its exchanges are made. A row is a set of nodes.
 ghost use mathlib.Core.Path.{_≡_};
 ghost use Prim.Native.Nat.{_+_, _-_, _≤_, _<_};
 ghost use lib.ListN.{length, getD};
 ghost use Rattle.cells.specs.ModelCells.{put};
+ghost use Rattle.cluster.specs.Terms.{mostNodes, bufferRows};
 ghost use Rattle.exchange.specs.ModelUncross.{split, uncross, Same};
-ghost use Rattle.circuits.specs.ModelCircuits.{bitsOf, okOf, witnessIn, walkIn, freedOf, walkedOf, turnedOf};
+ghost use Rattle.sets.specs.ModelBits.{bitsAt};
+ghost use Rattle.walks.specs.ModelWalks.{okOf, walkIn};
+ghost use Rattle.circuits.specs.ModelCircuits.{witnessIn, freedOf, walkedOf, turnedOf};
+use cluster::Cluster;
+
+// The most nodes, as nodes are numbered.
+const NODES: u32 = Cluster::NODES as u32;
 
 // The nodes of a walk into y, and the witnesses of its arcs into q.
 fn load(
@@ -21,7 +28,7 @@ fn load(
     all: u32,
     z: u32,
 )
-    requires { ⌜ (m < length (now y)) × (m ≤ length (now q)) × (m < length (now walk)) × (partitions ≤ 256) ⌝ }
+    requires { ⌜ (m < length (now y)) × (m ≤ length (now q)) × (m < length (now walk)) × (partitions ≤ bufferRows) ⌝ }
     ensures { λ _. ⌜ (now (y .exit) ≡ put 0 (λ t. getD (now (walk .entry)) t 0) (m + 1) (now (y .entry)))
         × (now (q .exit)
         ≡ put 0 (witnessIn (now (walk .entry)) (now (rows .entry)) (now (former .entry)) partitions (now (mates .entry)) (now (arcs .entry)) all z) m
@@ -68,9 +75,9 @@ fn divide(
     former: &[u32],
     partitions: usize,
 ) -> usize
-    requires { ⌜ (i < j) × (j < m) × (m ≤ 32) × (m < length (now y)) × (m ≤ length (now q)) ⌝ }
+    requires { ⌜ (i < j) × (j < m) × (m ≤ mostNodes) × (m < length (now y)) × (m ≤ length (now q)) ⌝ }
     ensures { λ r. ⌜ (r ≤ m) × (length (now (y .exit)) ≡ length (now (y .entry))) × (length (now (q .exit)) ≡ length (now (q .entry)))
-        × Same (split partitions 1 (bitsOf (now (former .entry))) (walkIn m (now (y .entry)) (now (q .entry))) i j) (walkIn r (now (y .exit)) (now (q .exit))) ⌝ }
+        × Same (split partitions 1 (bitsAt (now (former .entry))) (walkIn m (now (y .entry)) (now (q .entry))) i j) (walkIn r (now (y .exit)) (now (q .exit))) ⌝ }
 {
     let k = j - i;
     if walks::gains(y, q, i as u32, j as u32, former, partitions) {
@@ -96,9 +103,9 @@ fn free(
     all: u32,
     z: u32,
 ) -> usize
-    requires { ⌜ (m ≤ 32) × (m < length (now y)) × (m ≤ length (now q)) ⌝ }
+    requires { ⌜ (m ≤ mostNodes) × (m < length (now y)) × (m ≤ length (now q)) ⌝ }
     ensures { λ r. ⌜ (r ≤ m) × (length (now (y .exit)) ≡ length (now (y .entry))) × (length (now (q .exit)) ≡ length (now (q .entry)))
-        × Same (uncross m partitions 1 (bitsOf (now (former .entry))) (okOf (now (rows .entry)) (now (mates .entry)) all z) (walkIn m (now (y .entry)) (now (q .entry))))
+        × Same (uncross m partitions 1 (bitsAt (now (former .entry))) (okOf (now (rows .entry)) (now (mates .entry)) all z) (walkIn m (now (y .entry)) (now (q .entry))))
         (walkIn r (now (y .exit)) (now (q .exit))) ⌝ }
 {
     let mut len = m;
@@ -143,14 +150,14 @@ fn turn_all(
     walk: &[u32],
     m: usize,
 )
-    requires { ⌜ (m ≤ 32) × (partitions ≤ 256) × (partitions ≤ length (now rows)) × (m < length (now walk)) ⌝ }
+    requires { ⌜ (m ≤ mostNodes) × (partitions ≤ bufferRows) × (partitions ≤ length (now rows)) × (m < length (now walk)) ⌝ }
     ensures { λ _. ⌜ now (rows .exit)
         ≡ walkedOf partitions
         (freedOf (now (rows .entry)) (now (former .entry)) partitions (now (mates .entry)) (now (arcs .entry)) all z (now (walk .entry)) m)
         (now (rows .entry)) ⌝ }
 {
-    let mut y = [0u32; 33];
-    let mut q = [0u32; 33];
+    let mut y = [0u32; cycles::WALK];
+    let mut q = [0u32; cycles::WALK];
     load(
         &mut y,
         &mut q,
@@ -169,7 +176,7 @@ fn turn_all(
 }
 
 // The exchanges of a cycle of m arcs over the nodes of `walk` (arc i goes from walk[i + 1] to walk[i]), freed of crossed pairs, are made in the
-// rows. `arcs` holds the exchange graph. Where a slice is too short, or there are more than 32 arcs or 256 partitions, the rows are kept.
+// rows. `arcs` holds the exchange graph. Where a slice is too short, or there are more arcs than nodes or more partitions than a layout has, the rows are kept.
 pub fn turn(
     rows: &mut [u32],
     former: &[u32],
@@ -184,10 +191,10 @@ pub fn turn(
     ensures { λ _. ⌜ now (rows .exit)
         ≡ turnedOf (now (rows .entry)) (now (former .entry)) partitions (now (mates .entry)) (now (arcs .entry)) all z (now (walk .entry)) m ⌝ }
 {
-    if 32 < m {
+    if NODES < m {
         return;
     }
-    if 256 < partitions {
+    if Cluster::PARTITIONS < partitions {
         return;
     }
     if rows.len() < partitions {
@@ -196,7 +203,7 @@ pub fn turn(
     if former.len() < partitions {
         return;
     }
-    if arcs.len() < 96 {
+    if arcs.len() < cycles::ARCS {
         return;
     }
     let n = m as usize;

@@ -6,12 +6,12 @@ use mathlib.Core.List.{List, [], _∷_, _++_}
 use mathlib.Core.Logic.{⊎-elim}
 use native.Mathlib.Omega.{arith}
 use lib.ListN.{length, take, drop, getD, replicate, length-append, length-replicate, length-take, length-drop, List·getD-eq-default}
-use lib.Seq.{take-all, take-at, take-take, take-append-le, length-take-le, getD-take, getD-drop, ext-getD}
+use lib.Seq.{take-at, take-take, take-append-le, length-take-le, getD-take, getD-drop, ext-getD}
 use Rattle.sums.proofs.Sum.{lt-or-ge}
 use Rattle.cells.proofs.Cells.{length-tab, getD-tab, tab-cong, tab-getD}
-use Rattle.cluster.specs.Terms.{rowCells, bufferRows, layoutCells, Layout, row, rising, cellsOf, rowAt, idsIn, blank, formed, rowsIn}
+use Rattle.cluster.specs.Terms.{rowCells, bufferRows, layoutCells, Layout, row, cellsOf, rowAt, idsIn, blank, formed, rowsIn}
 use Rattle.cluster.specs.ModelRows.{FitsCells, HoldsRows}
-use Rattle.cluster.proofs.CellRows.{getD-zeros, zeros-blank, blank-cell, ids-length, formed-rising, formed-cell, rising-ids, rising-formed}
+use Rattle.cluster.proofs.CellRows.{getD-zeros, zeros-blank, blank-cell, ids-length, formed-cell, rising-ids, rising-formed}
 
 -- ---- the rows of cells
 
@@ -106,10 +106,6 @@ rowsIn-written L rest f =
     sym (rowsIn-take (length L) (cellsOf L ++ rest) (f .few-rows))
     ∙ (ap (λ (l : List ℕ). rowsIn (length L) l) (take-at (cellsOf L) rest layoutCells (length-cellsOf L)) ∙ rowsIn-cellsOf L f)
 
--- Two layouts that fit, with as many rows and the same cells, are equal.
-pub cellsOf-same : (L M : Layout) → FitsCells L → FitsCells M → length L ≡ length M → cellsOf L ≡ cellsOf M → L ≡ M
-cellsOf-same L M f g e d = sym (rowsIn-cellsOf L f) ∙ (ap₂ rowsIn e d ∙ rowsIn-cellsOf M g)
-
 -- The cells of a layout that fits hold its rows.
 pub holds-cellsOf : (L : Layout) → FitsCells L → HoldsRows (length L) (cellsOf L)
 holds-cellsOf L f = record {
@@ -136,16 +132,6 @@ holds-append n cells rest h = record {
 
 -- ---- read, then written
 
--- What is read from cells that hold rows fits.
-pub fits-rowsIn : (n : ℕ) (cells : List ℕ) → HoldsRows n cells → FitsCells (rowsIn n cells)
-fits-rowsIn n cells h = record {
-  few-rows = omega (arith, length-rowsIn n cells);
-  ids = λ p l.
-      let m : p < n = omega (arith, length-rowsIn n cells) in
-      ap (λ (r : List ℕ). rising r) (row-rowsIn n cells p m) ∙ formed-rising 0 (rowAt cells p) (h .ids p m);
-  few = λ p l. omega (arith, few-ids cells p, ap length (row-rowsIn n cells p (omega (arith, length-rowsIn n cells))));
-}
-
 -- Id j of a row that is read is cell j of the row, also where it is past what is read.
 pub id-rowsIn : (n : ℕ) (cells : List ℕ) (p j : ℕ) → HoldsRows n cells → p < bufferRows
     → getD (row (rowsIn n cells) p) j 0 ≡ getD (rowAt cells p) j 0
@@ -166,7 +152,3 @@ cellsOf-rowsIn n cells h =
     ∙ (id-rowsIn n cells (c / rowCells) (c % rowCells) h (omega arith)
     ∙ (getD-rowAt cells (c / rowCells) (c % rowCells) (omega arith)
     ∙ (ap (λ (i : ℕ). getD cells i 0) e ∙ sym (getD-take layoutCells cells c 0 k)))))
-
--- A buffer of 2,048 cells that hold rows is written back as it was.
-pub buffer-rowsIn : (n : ℕ) (cells : List ℕ) → HoldsRows n cells → length cells ≡ layoutCells → cellsOf (rowsIn n cells) ≡ cells
-buffer-rowsIn n cells h e = cellsOf-rowsIn n cells h ∙ take-all layoutCells cells (omega arith)

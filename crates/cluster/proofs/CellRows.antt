@@ -64,13 +64,6 @@ blank-formed k [] h = refl
 blank-formed k (zero ∷ xs) h = h
 blank-formed k (suc x ∷ xs) h = absurd (omega (arith, eqb-true (suc x) 0 (both (eqb (suc x) 0) (blank xs) h .0)))
 
--- A row that is formed and has no ids is blank.
-pub no-ids-blank : (k : ℕ) (l : List ℕ) → formedFrom k l ≡ true → idsIn l ≡ [] → blank l ≡ true
-unfolding formedFrom blank
-no-ids-blank k [] h e = refl
-no-ids-blank k (zero ∷ xs) h e = h
-no-ids-blank k (suc x ∷ xs) h e = absurd (omega (arith, ap length (sym (ids-more x xs) ∙ e)))
-
 -- ---- formed rows
 
 -- The first id of a formed row is above the last, and the others follow it.
@@ -111,12 +104,6 @@ formed-cells k (suc x ∷ xs) h =
 pub formed-cell : (k : ℕ) (l : List ℕ) (i : ℕ) → formedFrom k l ≡ true → getD (idsIn l) i 0 ≡ getD l i 0
 formed-cell k l i h =
     sym (ap (λ (r : List ℕ). getD r i 0) (formed-cells k l h) ∙ getD-zeros (idsIn l) (length l - length (idsIn l)) i)
-
--- Formed rows of one length with the same ids are equal.
-pub formed-same : (j k : ℕ) (l m : List ℕ) → formedFrom j l ≡ true → formedFrom k m ≡ true → length l ≡ length m → idsIn l ≡ idsIn m → l ≡ m
-formed-same j k l m hl hm e d =
-    formed-cells j l hl
-    ∙ (ap₂ (λ (n : ℕ) (r : List ℕ). r ++ replicate (n - length r) 0) e d ∙ sym (formed-cells k m hm))
 
 -- ---- rows of ids
 

@@ -5,4 +5,5 @@ pub mod Scans
 pub mod Accepting
 pub mod Lists
 pub mod Slots
+pub mod Taking
 pub mod Examples

@@ -11,8 +11,7 @@ use lib.ListN.{length, take, drop, getD}
 use borrow.Author.Tests.{eq-eqb, ne-eqb, lt-ltb, le-ltb, le-leb, lt-leb}
 use Rattle.cells.proofs.Cells.{rest-cons}
 use Rattle.cluster.specs.Terms.{rowCells, bufferRows, layoutCells, rowAt, idsIn, blank, formedFrom, formed}
-use Rattle.cluster.specs.ModelRows.{HoldsRows, illFormed, hasRow, idCount, rowIds, rowIsBlank}
-use Rattle.sums.proofs.Tests.{both}
+use Rattle.cluster.specs.ModelRows.{HoldsRows, illFormed, hasRow, idCount, rowIds}
 use Rattle.cluster.proofs.CellRows.{blank-ids, blank-formed}
 
 -- What the scan of a row answers that has passed `count` ids, `last` the last of them, and has l before it.
@@ -117,23 +116,6 @@ module _ (cells : List ℕ) (p : ℕ) where
 pub row-of-buffer : (cells : List ℕ) (p : ℕ) → layoutCells ≤ length cells → p < bufferRows → hasRow cells p ≡ true
 row-of-buffer cells p w h = row-whole cells p h (omega arith)
 
-module _ (n : ℕ) (cells : List ℕ) where
-  -- Cells whose rows all pass their tests hold n rows.
-  pub tests-hold : n ≤ bufferRows → layoutCells ≤ length cells → ((p : ℕ) → p < n → rowIds cells p < illFormed)
-      → ((p : ℕ) → n ≤ p → p < bufferRows → rowIsBlank cells p ≡ true) → HoldsRows n cells
-  unfolding rowIsBlank
-  tests-hold few whole ids zeros = record {
-    few-rows = few;
-    whole = whole;
-    ids = λ p l. row-ids-formed cells p (ids p l) .1;
-    zeros = λ p l k. both (hasRow cells p) (blank (rowAt cells p)) (zeros p l k) .1;
-  }
-
-  -- Of cells that hold n rows, each of these is answered by the number of its ids,
-  pub hold-ids : HoldsRows n cells → (p : ℕ) → p < n → rowIds cells p ≡ length (idsIn (rowAt cells p))
-  hold-ids h p l = formed-row-ids cells p (row-of-buffer cells p (h .whole) (omega arith)) (h .ids p l)
-
-  -- and each other row is blank.
-  pub hold-blank : HoldsRows n cells → (p : ℕ) → n ≤ p → p < bufferRows → rowIsBlank cells p ≡ true
-  unfolding rowIsBlank
-  hold-blank h p l k = ap₂ _&&_ (row-of-buffer cells p (h .whole) k) (h .zeros p l k)
+-- Of cells that hold n rows, each of these is answered by the number of its ids.
+pub hold-ids : (n : ℕ) (cells : List ℕ) → HoldsRows n cells → (p : ℕ) → p < n → rowIds cells p ≡ length (idsIn (rowAt cells p))
+hold-ids n cells h p l = formed-row-ids cells p (row-of-buffer cells p (h .whole) (omega arith)) (h .ids p l)

@@ -7,7 +7,7 @@ use Prim.Native.Nat.{ℕ, _+_, _*_, _^_, _/_, _%_, _≤_, _<_}
 use mathlib.Core.Path.{_≡_}
 use mathlib.Core.List.{List, [], _∷_, map}
 use mathlib.Core.Bool.{Bool, true, false, not, cond, _&&_, _||_}
-use lib.Dec.{ltb, eqb}
+use lib.Dec.{ltb, leb, eqb}
 use lib.ListN.{length, take, drop, getD}
 use Rattle.sums.specs.TermsSums.{sumTo, one-if, tab}
 use Rattle.cluster.specs.declared.Cluster.{Cluster}
@@ -46,6 +46,24 @@ scratchCells = 16384
 -- "a lent buffer of 64 cells": two for each node
 abbrev pub figureCells : ℕ
 figureCells = 2 * mostNodes
+
+-- ---- the limits of what is said of a layout
+
+-- "6 size (4 bytes, at least 1)"
+abbrev pub mostSize : ℕ
+mostSize = 4294967295
+
+-- "7 distance (2, at most 4,096)"
+abbrev pub mostDistance : ℕ
+mostDistance = 4096
+
+-- "8 verdict (1: 1 finished, 0 stopped)"
+abbrev pub mostVerdict : ℕ
+mostVerdict = 1
+
+-- "9 improvements (2, at most 2,048)"
+abbrev pub mostImprovements : ℕ
+mostImprovements = 2048
 
 -- ---- the cluster
 
@@ -134,6 +152,10 @@ pub record ValidAt (t : Topology) (L : Layout) (s : ℕ) : Type 0 where
   pub partition-rows : length L ≡ partitions t
   pub rows : (p : ℕ) → p < partitions t → ValidRow t (row L p)
   pub capacities : (b : ℕ) → b < length (t .nodes) → copiesIn L (nodeAt t b .id) * s ≤ nodeAt t b .capacity
+
+-- Whether a node takes so many copies at size s: "copies held times s is at most its capacity", as a test.
+unfoldable pub takes : Node → ℕ → ℕ → Bool
+takes n copies s = leb (copies * s) (n .capacity)
 
 -- "The size of a cluster is the largest whole s with a layout valid at s."
 pub record IsSize (t : Topology) (s : ℕ) : Type 0 where

@@ -1,7 +1,8 @@
 // A cluster in hand: its limits, its nodes, and what makes it acceptable.
 ghost use mathlib.Core.Path.{_≡_};
+ghost use Prim.Native.Nat.{_^_, _≤_, min};
 ghost use Rattle.cluster.specs.TermsReading.{noNodes};
-ghost use Rattle.cluster.specs.Terms.{faultOf};
+ghost use Rattle.cluster.specs.Terms.{mostBits, bufferRows, takes, faultOf};
 
 mod faults;
 pub mod refusal;
@@ -12,6 +13,26 @@ pub struct Node {
     pub id: u32,
     pub zone: u16,
     pub capacity: u32,
+}
+
+impl Node {
+    // Whether the node takes so many copies at a size.
+    pub fn takes(self, copies: u32, size: u32) -> bool
+        ensures { λ r. ⌜ r ≡ takes self copies size ⌝ }
+    {
+        (copies as u64) * (size as u64) <= self.capacity as u64
+    }
+}
+
+// The number of partitions that bits make; more bits than a cluster has count as the most.
+pub fn partitions(bits: u32) -> usize
+    ensures { λ r. ⌜ (r ≡ 2 ^ min bits mostBits) × (r ≤ bufferRows) ⌝ }
+{
+    if bits < Cluster::BITS {
+        1 << bits
+    } else {
+        Cluster::PARTITIONS
+    }
 }
 
 // A cluster by value. Only the first `count` nodes are in use; the other slots are not looked at.
@@ -40,6 +61,14 @@ impl Cluster {
     pub const SCRATCH: usize = 16384;
     // The cells of the lent figures: two for each node.
     pub const FIGURES: usize = 2 * Cluster::NODES;
+    // The largest size of a layout.
+    pub const SIZE: u32 = 4294967295;
+    // The largest distance of a layout.
+    pub const DISTANCE: u32 = 4096;
+    // The larger verdict: 1 finished, 0 stopped.
+    pub const VERDICT: u32 = 1;
+    // The most improvements.
+    pub const IMPROVEMENTS: u32 = 2048;
 
     // The cluster with no nodes, which a refused reading yields.
     pub fn none() -> Cluster

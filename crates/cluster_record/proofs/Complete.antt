@@ -2,31 +2,31 @@
 -- Assumes nothing.
 use Prim.Native.Nat.{ℕ, suc, _+_, _-_, _*_, _/_, _^_, _≤_, _<_}
 use mathlib.Core.Path.{_≡_, refl, sym, ap, ap₂, _∙_, subst}
-use mathlib.Core.Bool.{Bool, true, not, _||_}
+use mathlib.Core.Bool.{true}
 use mathlib.Core.Logic.{⊎-elim}
 use mathlib.Core.List.{List, [], _∷_, _++_, append-assoc, append-nil}
 use native.Mathlib.Omega.{arith}
 use lib.ListN.{length, drop, getD, replicate, length-append, length-drop, replicate-append-replicate, List·getD-eq-default}
 use lib.Seq.{append-snoc}
-use borrow.Author.Tests.{le-ltb, lt-leb, ne-eqb}
+use borrow.Author.Tests.{le-ltb, ne-eqb}
 use Rattle.sums.proofs.Sum.{lt-or-ge}
 use Rattle.cluster.specs.declared.Node.{Node}
 use Rattle.cluster.specs.Terms.{mostBits, mostCopies, mostNodes, Topology, partitions, Layout, noNode, row, idsOf, rising, risingFrom}
 use Rattle.cluster.specs.TermsReading.{Accepted}
-use Rattle.cluster.proofs.Lists.{rising-head, rising-tail, rising-none, rising-fresh}
-use Rattle.fields.specs.RecordField.{bytesOf, field, fieldAt, ruleOf, legal}
+use Rattle.cluster.proofs.Lists.{rising-head, rising-tail, rising-none}
+use Rattle.fields.specs.RecordField.{bytesOf, nodeBytes, FitsNode, field, fieldAt, ruleOf, legal, idBytes, idsAt}
 use Rattle.fields.specs.declared.Field.the-variants.{Body}
-use Rattle.fields.proofs.Numbers.{length-bytes, number-here}
+use Rattle.fields.proofs.Numbers.{length-bytes, number-here, after-number}
+use Rattle.fields.proofs.Nodes.{length-node, node-here}
 use Rattle.fields.proofs.RecordField.{legal-true, legal-any, length-field, body-here, rest-here, field-here}
-use Rattle.cluster_record.specs.RecordCluster.{bitsField, replicationField, redundancyField, nodeField, nodeFields, idBytes, rowField, rowFields, clusterRecord, IsRecord}
-use Rattle.cluster_record.specs.RecordClusterFaults.{Item, BitsOf, ReplicationOf, RedundancyOf, OneNode, FormerRow, idsAt, itemIn, Reading, beginning, allowedAfter, withItem, upTo, formerWith, readingWith, outside, lastOf, unordered, tooMany, faultIn, ended, walk, readCluster}
-use Rattle.fields.proofs.Ids.{length-id-bytes}
-use Rattle.cluster_record.proofs.Items.{item-bits, item-replication, item-redundancy, item-node, item-five, none-faults}
+use Rattle.cluster_record.specs.RecordCluster.{bitsField, replicationField, redundancyField, nodeField, nodeFields, formerField, formerFields, clusterRecord, IsClusterRecord}
+use Rattle.cluster_record.specs.RecordClusterFaults.{Item, BitsOf, ReplicationOf, RedundancyOf, OneNode, FormerRow, itemIn, Reading, nothingRead, allowedAfter, withItem, upTo, formerWith, readingWith, lastOf, faultIn, ended, walk, readCluster}
+use Rattle.fields.proofs.IdBytes.{length-id-bytes, ids-here}
+use Rattle.cluster_record.proofs.Items.{item-bits, item-replication, item-redundancy, item-node, item-five, node-sound, row-sound}
 use Rattle.cluster_record.proofs.FieldFaults.{few-partitions}
 use Rattle.cluster_record.proofs.Rows.{upTo-full, length-next}
 use Rattle.cluster_record.proofs.Walks.{walk-ends, walk-on}
 use Rattle.cluster_record.proofs.Readings.{Kind, number-next, node-next, row-next, kind-allowed}
-use Rattle.cluster_record.proofs.RecordBytes.{ids-here, after-number, node-here}
 
 -- The walk over s has come so far, and the bytes `rest` are left.
 record Reaches (s : List ℕ) (r : Reading) (rest : List ℕ) : Type 0 where
@@ -58,7 +58,7 @@ reach-field s r rest body tag i q k l read none =
     }
 
 -- A record begins so.
-reach-start : (s : List ℕ) → Reaches s beginning s
+reach-start : (s : List ℕ) → Reaches s nothingRead s
 unfolding readCluster
 reach-start s = record { at = 0; fuel = length s; enough = omega arith; left = refl; here = refl }
 
@@ -68,25 +68,24 @@ reach-start s = record { at = 0; fuel = length s; enough = omega arith; left = r
 abbrev withNodes : ℕ → Topology → List Node → Reading
 withNodes last t l = record { last = last; cluster = record { bits = t .bits; replication = t .replication; redundancy = t .redundancy; nodes = l }; former = [] }
 
-reach-numbers : (s rest : List ℕ) (t : Topology) → Accepted t → Reaches s beginning (bitsField t ++ (replicationField t ++ (redundancyField t ++ rest)))
+reach-numbers : (s rest : List ℕ) (t : Topology) → Accepted t → Reaches s nothingRead (bitsField t ++ (replicationField t ++ (redundancyField t ++ rest)))
     → Reaches s (withNodes 3 t []) rest
-unfolding beginning readingWith withItem formerWith bitsField replicationField redundancyField outside unordered tooMany legal ruleOf
+unfolding nothingRead readingWith withItem formerWith bitsField replicationField redundancyField faultIn legal ruleOf
 reach-numbers s rest t a q =
     let k : ℕ = t .bits in
     let m : ℕ = t .replication in
     let z : ℕ = t .redundancy in
-    let c₀ = beginning .cluster in
-    let r₁ = readingWith beginning 1 (BitsOf k) in
+    let r₁ = readingWith nothingRead 1 (BitsOf k) in
     let r₂ = readingWith r₁ 2 (ReplicationOf m) in
-    let q₁ = reach-field s beginning (field 2 (bytesOf 1 m) ++ (field 3 (bytesOf 1 z) ++ rest)) (bytesOf 1 k) 1 (BitsOf k) q (number-next (omega arith) refl) (one-legal 1 k refl)
+    let q₁ = reach-field s nothingRead (field 2 (bytesOf 1 m) ++ (field 3 (bytesOf 1 z) ++ rest)) (bytesOf 1 k) 1 (BitsOf k) q (number-next (omega arith) refl) (one-legal 1 k refl)
     (λ at e. item-bits s at (length (bytesOf 1 k)) 1 refl ∙ ap BitsOf (number-here s (field 2 (bytesOf 1 m) ++ (field 3 (bytesOf 1 z) ++ rest)) at 1 k e (omega (arith, a .bits))))
-    (none-faults c₀ 0 (BitsOf k) (le-ltb mostBits k (a .bits)) refl refl) in
+    (simp (le-ltb mostBits k (a .bits))) in
     let q₂ = reach-field s r₁ (field 3 (bytesOf 1 z) ++ rest) (bytesOf 1 m) 2 (ReplicationOf m) q₁ (number-next (omega arith) refl) (one-legal 2 m refl)
     (λ at e. item-replication s at (length (bytesOf 1 m)) 2 refl ∙ ap ReplicationOf (number-here s (field 3 (bytesOf 1 z) ++ rest) at 1 m e (omega (arith, a .replication))))
-    (none-faults (r₁ .cluster) 0 (ReplicationOf m) (ap₂ _||_ (ne-eqb m 0 (λ e. omega (arith, a .replication))) (le-ltb mostCopies m (a .replication .1))) refl refl) in
+    (simp (ne-eqb m 0 (λ e. omega (arith, a .replication)), le-ltb mostCopies m (a .replication .1))) in
     reach-field s r₂ rest (bytesOf 1 z) 3 (RedundancyOf z) q₂ (number-next (omega arith) refl) (one-legal 3 z refl)
     (λ at e. item-redundancy s at (length (bytesOf 1 z)) 3 refl ∙ ap RedundancyOf (number-here s rest at 1 z e (omega (arith, a .replication, a .redundancy))))
-    (none-faults (r₂ .cluster) 0 (RedundancyOf z) (ap₂ _||_ (ne-eqb z 0 (λ e. omega (arith, a .redundancy))) (le-ltb m z (a .redundancy .1))) refl refl)
+    (simp (ne-eqb z 0 (λ e. omega (arith, a .redundancy)), le-ltb m z (a .redundancy .1)))
   where
     one-legal : (tag n : ℕ) → legal tag 1 ≡ true → legal tag (length (bytesOf 1 n)) ≡ true
     one-legal tag n e = ap (legal tag) (length-bytes 1 n) ∙ e
@@ -99,45 +98,30 @@ unfolding idsOf lastOf
 above k [] n ns h = rising-head k (n .id) (idsOf ns) h
 above k (x ∷ l) n ns h = above (x .id) l n ns (rising-tail k (x .id) (idsOf (l ++ (n ∷ ns))) h)
 
--- The numbers of nodes fit their bytes.
-record Fit (l : List Node) : Type 0 where
-  ids : (b : ℕ) → getD l b noNode .id < 2 ^ 32
-  zones : (b : ℕ) → getD l b noNode .zone < 2 ^ 16
-  capacities : (b : ℕ) → getD l b noNode .capacity < 2 ^ 32
-
 reach-nodes : (s rest : List ℕ) (t : Topology) (ns l : List Node) (last : ℕ) → 3 ≤ last → last < 5 → rising (idsOf (l ++ ns)) ≡ true → length (l ++ ns) ≤ mostNodes
-    → Fit ns → Reaches s (withNodes last t l) (nodeFields ns ++ rest) → (m : ℕ) × (3 ≤ m) × (m < 5) × Reaches s (withNodes m t (l ++ ns)) rest
+    → ((b : ℕ) → FitsNode (getD ns b noNode)) → Reaches s (withNodes last t l) (nodeFields ns ++ rest) → (m : ℕ) × (3 ≤ m) × (m < 5) × Reaches s (withNodes m t (l ++ ns)) rest
 unfolding nodeFields
 reach-nodes s rest t [] l last a b up few fit q = (last, a, b, subst (λ (x : List Node). Reaches s (withNodes last t x) rest) (sym (append-nil l)) q)
 reach-nodes s rest t (n ∷ ns) l last a b up few fit q =
     let e : l ++ (n ∷ []) ++ ns ≡ l ++ (n ∷ ns) = append-snoc l n ns in
     let h = reach-nodes s rest t ns (l ++ (n ∷ [])) 4 (omega arith) (omega arith) (ap (λ (x : List Node). rising (idsOf x)) e ∙ up) (omega (arith, ap (λ (x : List Node). length x) e))
-    (record { ids = λ j. fit .ids (suc j); zones = λ j. fit .zones (suc j); capacities = λ j. fit .capacities (suc j) }) (one (subst (Reaches s (withNodes last t l)) (append-assoc (nodeField n) (nodeFields ns) rest) q)) in
+    (λ j. fit (suc j)) (one (subst (Reaches s (withNodes last t l)) (append-assoc (nodeField n) (nodeFields ns) rest) q)) in
     (h .0, h .1, h .2, subst (λ (x : List Node). Reaches s (withNodes (h .0) t x) rest) e (h .3))
   where
     r : Reading
     r = withNodes last t l
 
     none : faultIn (r .cluster) 0 (OneNode n) ≡ 0
-    none =
-        let up′ : lastOf 0 (idsOf l) < n .id = above 0 l n ns up in
-        none-faults (r .cluster) 0 (OneNode n) (unfold outside in ne-eqb (n .id) 0 (λ z. omega arith)) (unfold unordered in lt-leb (n .id) (lastOf 0 (idsOf l)) up′)
-        (unfold tooMany in lt-leb mostNodes (length l) (omega (arith, length-append l (n ∷ ns))))
+    none = node-sound (r .cluster) 0 n (above 0 l n ns up) (omega (arith, length-append l (n ∷ ns)))
 
-    body : List ℕ
-    body = bytesOf 4 (n .id) ++ (bytesOf 2 (n .zone) ++ bytesOf 4 (n .capacity))
-
-    ten : legal 4 (length body) ≡ true
-    ten =
-        let long : length body ≡ 10 =
-        omega (arith, length-append (bytesOf 4 (n .id)) (bytesOf 2 (n .zone) ++ bytesOf 4 (n .capacity)), length-append (bytesOf 2 (n .zone)) (bytesOf 4 (n .capacity)), length-bytes 4 (n .id), length-bytes 2 (n .zone), length-bytes 4 (n .capacity)) in
-        ap (legal 4) long ∙ (unfold legal ruleOf in refl)
+    lawful : legal 4 (length (nodeBytes n)) ≡ true
+    lawful = ap (legal 4) (length-node n) ∙ (unfold legal ruleOf in refl)
 
     one : Reaches s r (nodeField n ++ (nodeFields ns ++ rest)) → Reaches s (withNodes 4 t (l ++ (n ∷ []))) (nodeFields ns ++ rest)
     one q′ =
         unfold nodeField readingWith withItem formerWith in
-        reach-field s r (nodeFields ns ++ rest) body 4 (OneNode n) q′ (node-next a b refl) ten
-        (λ at d. item-node s at (length body) 4 refl ∙ ap OneNode (node-here s (nodeFields ns ++ rest) n at d (fit .ids 0) (fit .zones 0) (fit .capacities 0))) none
+        reach-field s r (nodeFields ns ++ rest) (nodeBytes n) 4 (OneNode n) q′ (node-next a b refl) lawful
+        (λ at d. item-node s at (length (nodeBytes n)) 4 refl ∙ ap OneNode (node-here s (nodeFields ns ++ rest) n at d (fit 0))) none
 
 -- ---- the rows
 
@@ -167,9 +151,9 @@ record Rows (l : Layout) : Type 0 where
   fits : (q j : ℕ) → getD (row l q) j 0 < 2 ^ 32
 
 reach-rows : (s : List ℕ) (t : Topology) (F : Layout) → t .bits ≤ mostBits → (l G : Layout) (p last : ℕ) → 3 ≤ last → length G ≤ p → p + length l ≡ partitions t
-    → upTo p G ++ l ≡ F → Rows l → Reaches s (record { last = last; cluster = t; former = G }) (rowFields p l)
+    → upTo p G ++ l ≡ F → Rows l → Reaches s (record { last = last; cluster = t; former = G }) (formerFields p l)
     → readCluster s ≡ record { refusal = 0; byte = 0; cluster = t; former = F }
-unfolding rowFields rowField
+unfolding formerFields formerField
 reach-rows s t F k [] G p last a h n e w q =
     let m : partitions t ≡ p = omega arith in
     reach-end s t G last a q
@@ -197,38 +181,34 @@ reach-rows s t F k ((i ∷ x) ∷ l) G p last a h n e w q =
     long = omega (arith, length-append (bytesOf 2 p) (idBytes ids), length-bytes 2 p, length-id-bytes ids)
 
     none : faultIn t (length G) (FormerRow p ids) ≡ 0
-    none =
-        none-faults t (length G) (FormerRow p ids)
-        (unfold outside in ap₂ _||_ (lt-leb (partitions t) p (omega arith)) (rising-fresh 0 0 (i ∷ x) (w .ids 0) (omega arith)))
-        (unfold unordered in ap₂ (λ (y z : Bool). y || not z) (le-ltb p (length G) h) (w .ids 0))
-        (unfold tooMany in refl)
+    none = row-sound t (length G) p ids (omega arith) h (w .ids 0)
 
     lawful : legal 5 (length body) ≡ true
     lawful = unfold ruleOf in
         legal-true 5 (length body) (omega (arith, long)) (omega (arith, long, w .few 0)) (omega (arith, long))
 
-    read : (at : ℕ) → drop at s ≡ body ++ rowFields (suc p) l → itemIn s 5 at (length body) ≡ FormerRow p ids
+    read : (at : ℕ) → drop at s ≡ body ++ formerFields (suc p) l → itemIn s 5 at (length body) ≡ FormerRow p ids
     read at d =
-        let d₁ : drop at s ≡ bytesOf 2 p ++ (idBytes ids ++ rowFields (suc p) l) = (d ∙ append-assoc (bytesOf 2 p) (idBytes ids) (rowFields (suc p) l)) in
+        let d₁ : drop at s ≡ bytesOf 2 p ++ (idBytes ids ++ formerFields (suc p) l) = (d ∙ append-assoc (bytesOf 2 p) (idBytes ids) (formerFields (suc p) l)) in
         let m : (length body - 2) / 4 ≡ length ids = omega (arith, long) in
         item-five s at (length body) 5 refl
-        ∙ ap₂ FormerRow (number-here s (idBytes ids ++ rowFields (suc p) l) at 2 p d₁ (omega (arith, few-partitions (t .bits) k)))
-        (ap (idsAt s (at + 2)) m ∙ ids-here s (rowFields (suc p) l) ids (at + 2) (after-number s (idBytes ids ++ rowFields (suc p) l) at 2 p d₁) (w .fits 0))
+        ∙ ap₂ FormerRow (number-here s (idBytes ids ++ formerFields (suc p) l) at 2 p d₁ (omega (arith, few-partitions (t .bits) k)))
+        (ap (idsAt s (at + 2)) m ∙ ids-here s (formerFields (suc p) l) (at + 2) ids (after-number s (idBytes ids ++ formerFields (suc p) l) at 2 p d₁) (w .fits 0))
 
-    one : Reaches s r (field 5 (bytesOf 2 p ++ idBytes (i ∷ x)) ++ rowFields (suc p) l) → Reaches s (record { last = 5; cluster = t; former = upTo p G ++ ((i ∷ x) ∷ []) }) (rowFields (suc p) l)
+    one : Reaches s r (field 5 (bytesOf 2 p ++ idBytes (i ∷ x)) ++ formerFields (suc p) l) → Reaches s (record { last = 5; cluster = t; former = upTo p G ++ ((i ∷ x) ∷ []) }) (formerFields (suc p) l)
     one q′ =
         unfold readingWith withItem formerWith in
-        reach-field s r (rowFields (suc p) l) body 5 (FormerRow p ids) q′ (row-next a refl) lawful read none
+        reach-field s r (formerFields (suc p) l) body 5 (FormerRow p ids) q′ (row-next a refl) lawful read none
 
 -- Reading the record of an accepted cluster and its former layout yields them.
-pub records-read : (s : List ℕ) (t : Topology) (F : Layout) → IsRecord s t F → readCluster s ≡ record { refusal = 0; byte = 0; cluster = t; former = F }
+pub records-read : (s : List ℕ) (t : Topology) (F : Layout) → IsClusterRecord s t F → readCluster s ≡ record { refusal = 0; byte = 0; cluster = t; former = F }
 unfolding clusterRecord upTo
 records-read s t F q =
     let a = q .accepted in
     let w = q .former in
-    let start = reach-numbers s (nodeFields (t .nodes) ++ rowFields 0 F) t a (subst (Reaches s beginning) (q .bytes) (reach-start s)) in
-    let n = reach-nodes s (rowFields 0 F) t (t .nodes) [] 3 (omega arith) (omega arith) (a .ids) (a .few)
-    (record { ids = q .fits .ids; zones = q .fits .zones; capacities = q .fits .capacities }) start in
+    let start = reach-numbers s (nodeFields (t .nodes) ++ formerFields 0 F) t a (subst (Reaches s nothingRead) (q .bytes) (reach-start s)) in
+    let n = reach-nodes s (formerFields 0 F) t (t .nodes) [] 3 (omega arith) (omega arith) (a .ids) (a .few)
+    (q .fits .nodes) start in
     reach-rows s t F (a .bits) F [] 0 (n .0) (n .1) (omega arith) (omega (arith, w .partition-rows)) refl
     (record {
       ids = λ p. ⊎-elim (λ l. w .ids p (omega (arith, w .partition-rows))) (λ g. ap rising (List·getD-eq-default F [] g) ∙ rising-none 0) (lt-or-ge p (length F));

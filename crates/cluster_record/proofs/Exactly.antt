@@ -7,8 +7,7 @@ use mathlib.Core.List.{List, _++_}
 use native.Mathlib.Omega.{arith}
 use lib.Dec.{ltb}
 use lib.ListN.{length, drop}
-use Rattle.cluster.specs.Terms.{mostNodes, layoutCells, Topology, topology, partitions, Layout, IsFormer, cellsOf, rowsIn, faultOf}
-use Rattle.cluster.specs.declared.Cluster.{Cluster}
+use Rattle.cluster.specs.Terms.{mostNodes, layoutCells, Topology, topology, partitions, Layout, IsFormer, cellsOf, rowsIn}
 use Rattle.cluster.specs.ModelRows.{FitsCells}
 use Rattle.cluster.specs.TermsReading.{Accepted, slotsOf}
 use Rattle.cluster.proofs.Accepting.{no-fault}
@@ -16,30 +15,25 @@ use Rattle.cluster.proofs.CellLayouts.{rowsIn-written}
 use Rattle.fields.specs.RecordField.{Bytes}
 use Rattle.fields.proofs.RecordField.{whole}
 use Rattle.cluster_record.specs.declared.ReadCluster.{ReadCluster}
-use Rattle.cluster_record.specs.RecordCluster.{IsRecord}
-use Rattle.cluster_record.specs.RecordClusterFaults.{Reading, Outcome, beginning, allowedAfter, refusedAt, ended, upTo, readCluster}
-use Rattle.cluster_record.specs.RecordClusterAnswer.{outcomeOf, answerOf, readAnswer, formerAfter}
+use Rattle.cluster_record.specs.RecordCluster.{IsClusterRecord}
+use Rattle.cluster_record.specs.RecordClusterFaults.{Reading, ClusterRead, nothingRead, allowedAfter, clusterRefused, ended, upTo, readCluster}
+use Rattle.cluster_record.specs.RecordClusterAnswer.{clusterOutcome, clusterAnswer, readClusterOf, formerRead}
+use Rattle.cluster_record.specs.RecordClusterClaims.{ReadsCluster, AnswersCluster, Yielded}
 use Rattle.cluster_record.proofs.FieldFaults.{few-partitions}
 use Rattle.cluster.proofs.Slots.{topology-slots}
 use Rattle.cluster_record.proofs.Walks.{walk-holds}
-use Rattle.cluster_record.proofs.Readings.{kind, row-bytes, Well, well-beginning, well-step}
+use Rattle.cluster_record.proofs.Readings.{kind, row-bytes, Well, well-nothing, well-step}
 use Rattle.cluster_record.proofs.Answers.{long-answer, accepted-former}
 use Rattle.cluster_record.proofs.Sound.{reads-records}
 use Rattle.cluster_record.proofs.Complete.{records-read}
 
--- The reading of s is not refused and yields the cluster t and the former layout F.
-pub record Reads (s : List ℕ) (t : Topology) (F : Layout) : Type 0 where
-  pub refusal : readCluster s .refusal ≡ 0
-  pub cluster : readCluster s .cluster ≡ t
-  pub former : readCluster s .former ≡ F
-
 -- A cluster reading accepts exactly the records, and yields what they are records of.
-pub reads-exactly : (s : List ℕ) → Bytes s → (t : Topology) (F : Layout) → (Reads s t F → IsRecord s t F) × (IsRecord s t F → Reads s t F)
+pub reads-exactly : (s : List ℕ) → Bytes s → (t : Topology) (F : Layout) → (ReadsCluster s t F → IsClusterRecord s t F) × (IsClusterRecord s t F → ReadsCluster s t F)
 reads-exactly s b t F = (
-  λ q. subst (λ (x : Layout). IsRecord s t x) (q .former)
-      (subst (λ (x : Topology). IsRecord s x (readCluster s .former)) (q .cluster) (reads-records s b (q .refusal))),
+  λ q. subst (λ (x : Layout). IsClusterRecord s t x) (q .former)
+      (subst (λ (x : Topology). IsClusterRecord s x (readCluster s .former)) (q .cluster) (reads-records s b (q .refusal))),
   λ q. let e = records-read s t F q in
-      record { refusal = ap (λ (o : Outcome). o .refusal) e; cluster = ap (λ (o : Outcome). o .cluster) e; former = ap (λ (o : Outcome). o .former) e },
+      record { refusal = ap (λ (o : ClusterRead). o .refusal) e; cluster = ap (λ (o : ClusterRead). o .cluster) e; former = ap (λ (o : ClusterRead). o .former) e },
 )
 
 -- ---- the answer and the cells
@@ -53,30 +47,30 @@ former-fits t F a f = record {
 }
 
 module _ (s former : List ℕ) (long : layoutCells ≤ length former) where
-  -- A record is accepted; the answer is its cluster, with unused slots zero, and the cells are those of its former layout.
-  pub record-answer : (t : Topology) (F : Layout) → IsRecord s t F
-      → (readAnswer s former ≡ record { refusal = 0; byte = 0; cluster = slotsOf t }) × (formerAfter s former ≡ cellsOf F ++ drop layoutCells former)
-  unfolding answerOf
+  -- A record is accepted, and its cluster and former layout are answered.
+  pub record-answer : (t : Topology) (F : Layout) → IsClusterRecord s t F → AnswersCluster s former t F
+  unfolding clusterAnswer
   record-answer t F q =
-      let e = records-read s t F q in (
-        long-answer s former long ∙ ap answerOf e,
-        accepted-former s former long (ap (λ (o : Outcome). o .refusal) e) ∙ ap (λ (o : Outcome). cellsOf (o .former) ++ drop layoutCells former) e,
-      )
+      let e = records-read s t F q in
+      record {
+        answer = long-answer s former long ∙ ap clusterAnswer e;
+        after = accepted-former s former long (ap (λ (o : ClusterRead). o .refusal) e) ∙ ap (λ (o : ClusterRead). cellsOf (o .former) ++ drop layoutCells former) e;
+      }
 
   -- What is accepted is a record: that of the cluster answered and of the rows that stand in the cells.
-  pub answer-record : Bytes s → readAnswer s former .refusal ≡ 0
-      → let t = topology (readAnswer s former .cluster) in IsRecord s t (rowsIn (partitions t) (formerAfter s former))
-  unfolding answerOf
+  pub answer-record : Bytes s → readClusterOf s former .refusal ≡ 0
+      → let t = topology (readClusterOf s former .cluster) in IsClusterRecord s t (rowsIn (partitions t) (formerRead s former))
+  unfolding clusterAnswer
   answer-record b z =
       let e = long-answer s former long in
       let z₁ : readCluster s .refusal ≡ 0 = sym (ap (λ (r : ReadCluster). r .refusal) e) ∙ z in
       let q = reads-records s b z₁ in
       let t : Topology = readCluster s .cluster in
       let F : Layout = readCluster s .former in
-      let c : t ≡ topology (readAnswer s former .cluster) = sym (ap (λ (r : ReadCluster). topology (r .cluster)) e ∙ topology-slots t) in
-      let f : F ≡ rowsIn (partitions t) (formerAfter s former) =
+      let c : t ≡ topology (readClusterOf s former .cluster) = sym (ap (λ (r : ReadCluster). topology (r .cluster)) e ∙ topology-slots t) in
+      let f : F ≡ rowsIn (partitions t) (formerRead s former) =
       sym (rowsIn-written F (drop layoutCells former) (former-fits t F (q .accepted) (q .former))) ∙ ap₂ rowsIn (q .former .partition-rows) (sym (accepted-former s former long z₁)) in
-      subst (λ (x : Topology). IsRecord s x (rowsIn (partitions x) (formerAfter s former))) c (subst (λ (x : Layout). IsRecord s t x) f q)
+      subst (λ (x : Topology). IsClusterRecord s x (rowsIn (partitions x) (formerRead s former))) c (subst (λ (x : Layout). IsClusterRecord s t x) f q)
 
 -- ---- every cluster that is answered
 
@@ -87,24 +81,19 @@ reads-accepted s =
     walk-holds s (λ at r. Well r) (λ o. Accepted (o .cluster)) (λ at r w h. at-end r w) (λ at r w refusal byte e. none) (λ at r w tag start len e some. none)
     (λ at r w tag start len e z. let f = whole s at (allowedAfter (r .last)) 0 tag start len e in
     well-step s r tag start len w (kind (r .last) tag (f .member)) (λ d. row-bytes f d .1) z)
-    (length s) 0 beginning (omega arith) well-beginning
+    (length s) 0 nothingRead (omega arith) well-nothing
   where
-    none : Accepted (refusedAt 0 0 .cluster)
-    none = unfold beginning in well-beginning .accepted
+    none : Accepted (clusterRefused 0 0 .cluster)
+    none = unfold nothingRead in well-nothing .accepted
 
     at-end : (r : Reading) → Well r → Accepted (ended s r .cluster)
     at-end r w = unfold ended in go (ltb (r .last) 3)
       where
-        go : (x : Bool) → Accepted (cond x (refusedAt 7 (length s)) (record { refusal = 0; byte = 0; cluster = r .cluster; former = upTo (partitions (r .cluster)) (r .former) }) .cluster)
+        go : (x : Bool) → Accepted (cond x (clusterRefused 7 (length s)) (record { refusal = 0; byte = 0; cluster = r .cluster; former = upTo (partitions (r .cluster)) (r .former) }) .cluster)
         go true = none
         go false = w .accepted
 
--- The cluster answered, whatever came in: its unused slots are zero, it has at most 32 nodes, and no fault.
-pub record Yielded (c : Cluster) : Type 0 where
-  pub slots : c ≡ slotsOf (topology c)
-  pub few : c .count ≤ mostNodes
-  pub sound : faultOf c ≡ 0
-
+-- Each cluster that is answered is without fault.
 yielded : (t : Topology) → Accepted t → Yielded (slotsOf t)
 yielded t a = record {
   slots = ap slotsOf (sym (topology-slots t));
@@ -115,10 +104,10 @@ yielded t a = record {
     few : slotsOf t .count ≤ mostNodes
     few = unfold slotsOf in a .few
 
-pub answer-yields : (s former : List ℕ) → Yielded (readAnswer s former .cluster)
-unfolding readAnswer answerOf outcomeOf
+pub answer-yields : (s former : List ℕ) → Yielded (readClusterOf s former .cluster)
+unfolding readClusterOf clusterAnswer clusterOutcome
 answer-yields s former = go (ltb (length former) layoutCells)
   where
-    go : (x : Bool) → Yielded (slotsOf (cond x (refusedAt 8 0) (readCluster s) .cluster))
-    go true = yielded (refusedAt 8 0 .cluster) (unfold beginning in well-beginning .accepted)
+    go : (x : Bool) → Yielded (slotsOf (cond x (clusterRefused 8 0) (readCluster s) .cluster))
+    go true = yielded (clusterRefused 8 0 .cluster) (unfold nothingRead in well-nothing .accepted)
     go false = yielded (readCluster s .cluster) (reads-accepted s)

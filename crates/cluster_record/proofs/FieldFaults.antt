@@ -1,8 +1,8 @@
 -- The faults of a field by its tag, over plain numbers.
 -- Assumes nothing.
 use Prim.Native.Nat.{ℕ, _+_, _-_, _*_, _/_, _%_, _^_, _≤_}
-use mathlib.Core.Path.{_≡_, refl, sym, ap, ap₂, _∙_, subst}
-use mathlib.Core.Bool.{Bool, true, false, _||_, not, cond}
+use mathlib.Core.Path.{_≡_, sym, ap, ap₂, _∙_}
+use mathlib.Core.Bool.{Bool, _||_, not, cond}
 use mathlib.Core.List.{List}
 use native.Mathlib.Nat.{one-mul, mod-eq-of-lt}
 use native.Mathlib.Omega.{arith}
@@ -11,12 +11,8 @@ use lib.ListN.{length}
 use lib.Pow.{pow-mono}
 use borrow.Author.Tests.{le-ltb}
 use Rattle.cluster.specs.Terms.{mostBits, mostCopies, mostNodes, Topology, partitions, idsOf, mem, rising}
-use Rattle.cluster.specs.declared.Node.{Node}
-use Rattle.sets.specs.ModelBits.{memberOf}
-use Rattle.fields.specs.RecordField.{numberAt, has, legalAs, judged, fieldAt}
-use Rattle.fields.specs.declared.Field.{Field}
-use Rattle.fields.specs.declared.Field.the-variants.{Body, Refused}
-use Rattle.cluster_record.specs.RecordClusterFaults.{nodeIn, idsAt, itemIn, lastOf, outside, unordered, tooMany, faultIn}
+use Rattle.fields.specs.RecordField.{numberAt, nodeAtByte, idsAt}
+use Rattle.cluster_record.specs.RecordClusterFaults.{itemIn, lastOf, faultIn}
 use Rattle.cluster_record.proofs.Items.{below-one, item-bits, item-replication, item-redundancy, item-node, item-row}
 
 -- There are at most 256 partitions.
@@ -27,58 +23,28 @@ few-partitions k h = pow-mono {i = k} {j = 8} h
 pub shift-one : (k : ℕ) → k ≤ mostBits → 1 * 2 ^ k % 2 ^ 64 ≡ 2 ^ k
 shift-one k h = ap (λ (n : ℕ). n % 2 ^ 64) (one-mul (2 ^ k)) ∙ mod-eq-of-lt (omega (arith, few-partitions k h))
 
--- What is known of a field that cannot be taken whole: its refusal is not 0, and the byte is that at which it begins.
-abbrev Fine : ℕ → Field → Type 0
-Fine at (Body tag start len) = Unit
-Fine at (Refused refusal byte) = (1 ≤ refusal) × (byte ≡ at)
-
-pub refused-some : (s : List ℕ) (at allowed exact refusal byte : ℕ) → fieldAt s at allowed exact ≡ Refused refusal byte → (1 ≤ refusal) × (byte ≡ at)
-unfolding fieldAt judged
-refused-some s at allowed exact refusal byte e = subst (Fine at) e (go (not (has (length s) at 3)) (not (memberOf allowed tag)) (not (legalAs exact tag len)) (not (has (length s) (at + 3) len)))
-  where
-    tag : ℕ
-    tag = numberAt s at 1
-
-    len : ℕ
-    len = numberAt s (at + 1) 2
-
-    go : (a b c d : Bool) → Fine at (cond a (Refused 1 at) (cond b (Refused 2 at) (cond c (Refused 3 at) (cond d (Refused 1 at) (Body tag (at + 3) len)))))
-    go true b c d = (omega arith, refl)
-    go false true c d = (omega arith, refl)
-    go false false true d = (omega arith, refl)
-    go false false false true = (omega arith, refl)
-    go false false false false = tt
-
--- The values of a node that was read.
-pub node-read : (s : List ℕ) (start a b c : ℕ) → a ≡ numberAt s start 4 → b ≡ numberAt s (start + 4) 2 → c ≡ numberAt s (start + 6) 4
-    → _≡_ {A = Node} (record { id = a; zone = b; capacity = c }) (nodeIn s start)
-unfolding nodeIn
-node-read s start a b c x y z =
-    ap₂ (λ (i j : ℕ). record { id = i; zone = j; capacity = c }) x y
-    ∙ ap (λ (k : ℕ). record { id = numberAt s start 4; zone = numberAt s (start + 4) 2; capacity = k }) z
-
 module _ (t : Topology) (next : ℕ) (s : List ℕ) (tag start len : ℕ) where
   pub bits-fault : (v r : ℕ) → tag ≡ 1 → v ≡ numberAt s start 1 → r ≡ cond (ltb v 0 || ltb mostBits v) 4 0 → r ≡ faultIn t next (itemIn s tag start len)
-  unfolding faultIn outside unordered tooMany
+  unfolding faultIn
   bits-fault v r e d f =
       f ∙ (ap (λ (b : Bool). cond (b || ltb mostBits v) 4 0) (le-ltb v 0 (omega arith))
       ∙ (ap (λ (k : ℕ). cond (ltb mostBits k) 4 0) d ∙ ap (faultIn t next) (sym (item-bits s start len tag e))))
 
   pub replication-fault : (v r : ℕ) → tag ≡ 2 → v ≡ numberAt s start 1 → r ≡ cond (ltb v 1 || ltb mostCopies v) 4 0 → r ≡ faultIn t next (itemIn s tag start len)
-  unfolding faultIn outside unordered tooMany
+  unfolding faultIn
   replication-fault v r e d f =
       f ∙ (ap (λ (b : Bool). cond (b || ltb mostCopies v) 4 0) (below-one v)
       ∙ (ap (λ (k : ℕ). cond (eqb k 0 || ltb mostCopies k) 4 0) d ∙ ap (faultIn t next) (sym (item-replication s start len tag e))))
 
   pub redundancy-fault : (v r : ℕ) → tag ≡ 3 → v ≡ numberAt s start 1 → r ≡ cond (ltb v 1 || ltb (t .replication) v) 4 0 → r ≡ faultIn t next (itemIn s tag start len)
-  unfolding faultIn outside unordered tooMany
+  unfolding faultIn
   redundancy-fault v r e d f =
       f ∙ (ap (λ (b : Bool). cond (b || ltb (t .replication) v) 4 0) (below-one v)
       ∙ (ap (λ (k : ℕ). cond (eqb k 0 || ltb (t .replication) k) 4 0) d ∙ ap (faultIn t next) (sym (item-redundancy s start len tag e))))
 
-  pub node-fault : (id last count r : ℕ) → tag ≡ 4 → id ≡ numberAt s start 4 → last ≡ lastOf 0 (idsOf (t .nodes)) → count ≡ length (t .nodes)
+  pub node-fault : (id last count r : ℕ) → tag ≡ 4 → id ≡ nodeAtByte s start .id → last ≡ lastOf 0 (idsOf (t .nodes)) → count ≡ length (t .nodes)
       → r ≡ cond (eqb id 0) 4 (cond (leb id last) 5 (cond (leb mostNodes count) 6 0)) → r ≡ faultIn t next (itemIn s tag start len)
-  unfolding faultIn outside unordered tooMany nodeIn
+  unfolding faultIn
   node-fault id last count r e d l n f =
       f ∙ (ap₂ (λ (x y : ℕ). cond (eqb id 0) 4 (cond (leb id x) 5 (cond (leb mostNodes y) 6 0))) l n
       ∙ (ap (λ (x : ℕ). cond (eqb x 0) 4 (cond (leb x (lastOf 0 (idsOf (t .nodes)))) 5 (cond (leb mostNodes (length (t .nodes))) 6 0))) d
@@ -88,5 +54,5 @@ module _ (t : Topology) (next : ℕ) (s : List ℕ) (tag start len : ℕ) where
       → r ≡ cond (leb (partitions t) (numberAt s start 2) || mem 0 (idsAt s (start + 2) ((len - 2) / 4))) 4
       (cond (ltb (numberAt s start 2) next || not (rising (idsAt s (start + 2) ((len - 2) / 4)))) 5 0)
       → r ≡ faultIn t next (itemIn s tag start len)
-  unfolding faultIn outside unordered tooMany
+  unfolding faultIn
   row-fault r a b c d f = f ∙ ap (faultIn t next) (sym (item-row s start len tag a b c d))

@@ -2,21 +2,21 @@
 -- Assumes nothing.
 use Prim.Native.Nat.{ℕ, zero, suc, _+_, _-_, _/_, _≤_, _<_}
 use mathlib.Core.Path.{_≡_, refl, sym, ap, _∙_}
-use mathlib.Core.Bool.{Bool, true, false, cond}
+use mathlib.Core.Bool.{Bool, true, false, not, _||_, cond}
 use mathlib.Core.List.{List, [], _∷_, _++_}
 use mathlib.Core.Logic.{⊎-elim}
 use native.Mathlib.Omega.{arith}
-use lib.Dec.{ltb, eqb}
+use lib.Dec.{ltb, leb, eqb}
 use lib.ListN.{length, take, getD}
 use lib.Seq.{take-suc}
-use borrow.Author.Tests.{lt-ltb, le-ltb, eq-eqb, ne-eqb}
+use borrow.Author.Tests.{ltb-false, leb-false, not-false, lt-ltb, le-ltb, lt-leb, eq-eqb, ne-eqb}
 use Rattle.sums.proofs.Sum.{eq-or-ne}
+use Rattle.sums.proofs.Tests.{neither}
 use Rattle.cluster.specs.declared.Node.{Node}
-use Rattle.cluster.specs.Terms.{Topology, Layout, noNode, idsOf, risingFrom}
-use Rattle.cluster.proofs.Lists.{rising-head, rising-cons, rising-tail, rising-none}
-use Rattle.fields.specs.RecordField.{numberAt}
-pub use Rattle.fields.proofs.Ids.{ids-more, ids-none, length-ids, getD-ids, zero-found, zero-passed, fall-found, rise-passed}
-use Rattle.cluster_record.specs.RecordClusterFaults.{Item, BitsOf, ReplicationOf, RedundancyOf, OneNode, FormerRow, nodeIn, idsAt, itemIn, formerWith, outside, lastOf, unordered, tooMany, faultIn}
+use Rattle.cluster.specs.Terms.{mostNodes, Topology, partitions, Layout, noNode, idsOf, mem, rising, risingFrom}
+use Rattle.cluster.proofs.Lists.{rising-head, rising-cons, rising-tail, rising-none, rising-fresh}
+use Rattle.fields.specs.RecordField.{numberAt, nodeAtByte, idsAt}
+use Rattle.cluster_record.specs.RecordClusterFaults.{BitsOf, ReplicationOf, RedundancyOf, OneNode, FormerRow, itemIn, formerWith, lastOf, faultIn}
 
 -- ---- tests
 
@@ -39,7 +39,7 @@ module _ (s : List ℕ) (start len : ℕ) where
   unfolding itemIn
   item-redundancy tag e = ap (λ (k : ℕ). itemIn s k start len) e
 
-  pub item-node : (tag : ℕ) → tag ≡ 4 → itemIn s tag start len ≡ OneNode (nodeIn s start)
+  pub item-node : (tag : ℕ) → tag ≡ 4 → itemIn s tag start len ≡ OneNode (nodeAtByte s start)
   unfolding itemIn
   item-node tag e = ap (λ (k : ℕ). itemIn s k start len) e
 
@@ -104,19 +104,44 @@ snoc-rising k (y ∷ l) x h =
 
 -- ---- the faults
 
--- Where no fault is found every test has failed,
-pub no-fault : (a b c : Bool) → _≡_ {A = ℕ} (cond a 4 (cond b 5 (cond c 6 0))) 0 → (a ≡ false) × (b ≡ false) × (c ≡ false)
-no-fault true b c e = absurd (omega arith)
-no-fault false true c e = absurd (omega arith)
-no-fault false false true e = absurd (omega arith)
-no-fault false false false e = (refl, refl, refl)
+-- Where a test of range finds no fault it has failed,
+pub in-range : (a : Bool) → _≡_ {A = ℕ} (cond a 4 0) 0 → a ≡ false
+in-range true e = absurd (omega arith)
+in-range false e = refl
 
-pub faults-none : (t : Topology) (next : ℕ) (i : Item) → faultIn t next i ≡ 0
-    → (outside t i ≡ false) × (unordered t next i ≡ false) × (tooMany t i ≡ false)
-unfolding faultIn
-faults-none t next i e = no-fault (outside t i) (unordered t next i) (tooMany t i) e
+module _ (t : Topology) (next : ℕ) where
+  -- a node without fault has an id above the last, and a slot,
+  pub sound-node : (n : Node) → faultIn t next (OneNode n) ≡ 0 → (lastOf 0 (idsOf (t .nodes)) < n .id) × (length (t .nodes) < mostNodes)
+  unfolding faultIn
+  sound-node n = go (eqb (n .id) 0) (leb (n .id) (lastOf 0 (idsOf (t .nodes)))) (leb mostNodes (length (t .nodes))) refl refl
+    where
+      go : (a b c : Bool) → leb (n .id) (lastOf 0 (idsOf (t .nodes))) ≡ b → leb mostNodes (length (t .nodes)) ≡ c
+          → _≡_ {A = ℕ} (cond a 4 (cond b 5 (cond c 6 0))) 0 → (lastOf 0 (idsOf (t .nodes)) < n .id) × (length (t .nodes) < mostNodes)
+      go true b c d e z = absurd (omega arith)
+      go false true c d e z = absurd (omega arith)
+      go false false true d e z = absurd (omega arith)
+      go false false false d e z = (leb-false (n .id) (lastOf 0 (idsOf (t .nodes))) d, leb-false mostNodes (length (t .nodes)) e)
 
--- and where every test fails there is no fault.
-pub none-faults : (t : Topology) (next : ℕ) (i : Item) → outside t i ≡ false → unordered t next i ≡ false → tooMany t i ≡ false → faultIn t next i ≡ 0
-unfolding faultIn
-none-faults t next i a b c = simp (a, b, c)
+  -- and a row without fault is one of the cluster's, not passed, of rising ids.
+  pub sound-row : (p : ℕ) (ids : List ℕ) → faultIn t next (FormerRow p ids) ≡ 0 → (p < partitions t) × (next ≤ p) × (rising ids ≡ true)
+  unfolding faultIn
+  sound-row p ids = go (leb (partitions t) p || mem 0 ids) (ltb p next || not (rising ids)) refl refl
+    where
+      go : (a b : Bool) → leb (partitions t) p || mem 0 ids ≡ a → ltb p next || not (rising ids) ≡ b → _≡_ {A = ℕ} (cond a 4 (cond b 5 0)) 0
+          → (p < partitions t) × (next ≤ p) × (rising ids ≡ true)
+      go true b d e z = absurd (omega arith)
+      go false true d e z = absurd (omega arith)
+      go false false d e z =
+          let up = neither (ltb p next) (not (rising ids)) e in
+          (leb-false (partitions t) p (neither (leb (partitions t) p) (mem 0 ids) d .0), ltb-false p next (up .0), not-false (rising ids) (up .1))
+
+  -- The other way round.
+  pub node-sound : (n : Node) → lastOf 0 (idsOf (t .nodes)) < n .id → length (t .nodes) < mostNodes → faultIn t next (OneNode n) ≡ 0
+  unfolding faultIn
+  node-sound n a b =
+      let some : (n .id ≡ 0 → ⊥) = λ e. omega arith in
+      simp (ne-eqb (n .id) 0 some, lt-leb (n .id) (lastOf 0 (idsOf (t .nodes))) a, lt-leb mostNodes (length (t .nodes)) b)
+
+  pub row-sound : (p : ℕ) (ids : List ℕ) → p < partitions t → next ≤ p → rising ids ≡ true → faultIn t next (FormerRow p ids) ≡ 0
+  unfolding faultIn
+  row-sound p ids a b up = simp (lt-leb (partitions t) p a, rising-fresh 0 0 ids up (omega arith), le-ltb p next b, up)

@@ -1,66 +1,54 @@
 -- The longest record, and that the first 9,937 bytes decide every reading.
 -- Assumes nothing.
-use Prim.Native.Nat.{ℕ, zero, suc, _+_, _-_, _*_, _/_, _≤_, _<_, min}
-use mathlib.Core.Path.{_≡_, refl, sym, ap, ap₂, _∙_}
-use mathlib.Core.Bool.{not, cond}
+use Prim.Native.Nat.{ℕ, suc, _+_, _-_, _*_, _/_, _≤_, _<_, min}
+use mathlib.Core.Path.{_≡_, refl, sym, ap, _∙_}
+use mathlib.Core.Bool.{cond}
 use mathlib.Core.List.{List, [], _∷_, _++_}
 use mathlib.Core.Logic.{⊎-elim}
 use native.Mathlib.Omega.{arith}
 use lib.Dec.{ltb, eqb}
 use lib.ListN.{length, take, drop, replicate, length-append, length-take}
-use lib.Seq.{take-take, take-all}
-use borrow.Author.Tests.{ltb-false}
+use lib.Seq.{take-all}
 use Rattle.sums.proofs.Sum.{lt-or-ge}
-use Rattle.sets.specs.ModelBits.{memberOf}
 use Rattle.cluster.specs.declared.Node.{Node}
-use Rattle.cluster.specs.Terms.{mostCopies, layoutCells, cellsOf, Topology, Layout, row, rising, IsFormer}
+use Rattle.cluster.specs.Terms.{mostCopies, layoutCells, cellsOf, Topology, Layout, row, IsFormer}
 use Rattle.cluster.specs.TermsReading.{Accepted}
-use Rattle.sums.proofs.Tests.{true-or-false, neither}
-use Rattle.fields.specs.RecordField.{numberOf, bytesOf, part, numberAt, field, fieldAt, ruleOf, legalAs, Whole}
+use Rattle.fields.specs.RecordField.{nodeWidth, nodeBytes, rowWidth, headWidth, longestField, bytesOf, numberAt, field, fieldAt, Whole, nodeAtByte, idBytes, idsAt}
 use Rattle.fields.specs.declared.Field.the-variants.{Body}
-use Rattle.fields.proofs.Numbers.{length-bytes, number-there}
-use Rattle.fields.proofs.RecordField.{whole, length-field, lawful, legal-greatest, field-tag, field-length, field-whole}
-use Rattle.cluster_record.specs.RecordCluster.{bitsField, replicationField, redundancyField, nodeField, nodeFields, idBytes, rowField, rowFields, clusterRecord, longestRecord, decidingBytes}
-use Rattle.cluster_record.specs.RecordClusterFaults.{Item, BitsOf, ReplicationOf, RedundancyOf, OneNode, FormerRow, nodeIn, idsAt, itemIn, Reading, Outcome, beginning, allowedAfter, withItem, upTo, formerWith, readingWith, unordered, faultIn, refusedAt, walk, readCluster}
-use Rattle.cluster_record.specs.RecordClusterAnswer.{outcomeOf, answerOf, readAnswer, formerAfter}
-use Rattle.cluster_record.proofs.Items.{item-node, item-five, faults-none}
-use Rattle.cluster_record.proofs.FieldFaults.{few-partitions, refused-some}
+use Rattle.fields.proofs.Nodes.{length-node}
+use Rattle.fields.proofs.Cut.{number-same, ids-same, node-same, field-same}
+use Rattle.fields.proofs.Numbers.{length-bytes}
+use Rattle.fields.proofs.RecordField.{whole, length-field, refused-some}
+use Rattle.cluster_record.specs.RecordCluster.{bitsField, replicationField, redundancyField, nodeField, nodeFields, formerField, formerFields, clusterRecord, longestRecord, decidingBytes}
+use Rattle.cluster_record.specs.RecordClusterFaults.{Item, BitsOf, ReplicationOf, RedundancyOf, OneNode, FormerRow, itemIn, Reading, ClusterRead, nothingRead, allowedAfter, withItem, upTo, formerWith, readingWith, faultIn, clusterRefused, walk, readCluster}
+use Rattle.cluster_record.specs.RecordClusterAnswer.{clusterOutcome, clusterAnswer, readClusterOf, formerRead}
+use Rattle.cluster_record.proofs.Items.{item-node, item-five, sound-row}
+use Rattle.cluster_record.proofs.FieldFaults.{few-partitions}
 use Rattle.cluster_record.proofs.Rows.{length-next}
 use Rattle.cluster_record.proofs.Walks.{walk-refused, walk-fault, walk-on, walk-holds}
-use Rattle.cluster_record.proofs.Readings.{Kind, number-next, node-next, row-next, kind, tag-range, one-byte, ten-bytes, row-bytes, Well, well-beginning, well-step, rows-few}
-use Rattle.fields.proofs.Ids.{length-id-bytes}
+use Rattle.cluster_record.proofs.Readings.{Kind, number-next, node-next, row-next, kind, one-byte, node-length, row-bytes, Well, well-nothing, well-step, rows-few}
+use Rattle.fields.proofs.IdBytes.{length-id-bytes}
 
 -- ---- the longest record
 
-length-nodes : (l : List Node) → length (nodeFields l) ≡ length l * 13
+length-nodes : (l : List Node) → length (nodeFields l) ≡ length l * (headWidth + nodeWidth)
 unfolding nodeFields nodeField
 length-nodes [] = refl
 length-nodes (n ∷ l) =
-    let body = bytesOf 4 (n .id) ++ (bytesOf 2 (n .zone) ++ bytesOf 4 (n .capacity)) in
-    omega (
-      arith,
-      length-append (field 4 body) (nodeFields l),
-      length-field 4 body,
-      length-append (bytesOf 4 (n .id)) (bytesOf 2 (n .zone) ++ bytesOf 4 (n .capacity)),
-      length-append (bytesOf 2 (n .zone)) (bytesOf 4 (n .capacity)),
-      length-bytes 4 (n .id),
-      length-bytes 2 (n .zone),
-      length-bytes 4 (n .capacity),
-      length-nodes l,
-    )
+    omega (arith, length-append (field 4 (nodeBytes n)) (nodeFields l), length-field 4 (nodeBytes n), length-node n, length-nodes l)
 
-length-row : (p : ℕ) (l : List ℕ) → length l ≤ mostCopies → length (rowField p l) ≤ 37
-unfolding rowField
+length-row : (p : ℕ) (l : List ℕ) → length l ≤ mostCopies → length (formerField p l) ≤ longestField
+unfolding formerField
 length-row p [] h = omega arith
 length-row p (i ∷ l) h =
     let body = bytesOf 2 p ++ idBytes (i ∷ l) in
     omega (arith, length-field 5 body, length-append (bytesOf 2 p) (idBytes (i ∷ l)), length-bytes 2 p, length-id-bytes (i ∷ l))
 
-length-rows : (p : ℕ) (F : Layout) → ((q : ℕ) → q < length F → length (row F q) ≤ mostCopies) → length (rowFields p F) ≤ length F * 37
-unfolding rowFields
+length-rows : (p : ℕ) (F : Layout) → ((q : ℕ) → q < length F → length (row F q) ≤ mostCopies) → length (formerFields p F) ≤ length F * longestField
+unfolding formerFields
 length-rows p [] h = omega arith
 length-rows p (r ∷ F) h =
-    omega (arith, length-append (rowField p r) (rowFields (suc p) F), length-row p r (h 0 (omega arith)), length-rows (suc p) F (λ q l. h (suc q) (omega arith)))
+    omega (arith, length-append (formerField p r) (formerFields (suc p) F), length-row p r (h 0 (omega arith)), length-rows (suc p) F (λ q l. h (suc q) (omega arith)))
 
 -- No record has more than 9,900 bytes.
 pub longest : (t : Topology) (F : Layout) → Accepted t → IsFormer t F → length (clusterRecord t F) ≤ longestRecord
@@ -69,13 +57,13 @@ longest t F a f =
     let b = field 1 (bytesOf 1 (t .bits)) in
     let c = field 2 (bytesOf 1 (t .replication)) in
     let d = field 3 (bytesOf 1 (t .redundancy)) in
-    let rest = nodeFields (t .nodes) ++ rowFields 0 F in
+    let rest = nodeFields (t .nodes) ++ formerFields 0 F in
     omega (
       arith,
       length-append b (c ++ (d ++ rest)),
       length-append c (d ++ rest),
       length-append d rest,
-      length-append (nodeFields (t .nodes)) (rowFields 0 F),
+      length-append (nodeFields (t .nodes)) (formerFields 0 F),
       length-field 1 (bytesOf 1 (t .bits)),
       length-field 2 (bytesOf 1 (t .replication)),
       length-field 3 (bytesOf 1 (t .redundancy)),
@@ -93,7 +81,7 @@ longest t F a f =
 
 -- The byte that a reading has come to, by what it has read.
 Small : ℕ → Reading → Type 0
-Small at r = at ≤ 4 * min 3 (r .last) + length (r .cluster .nodes) * 13 + length (r .former) * 37
+Small at r = at ≤ (headWidth + 1) * min 3 (r .last) + length (r .cluster .nodes) * (headWidth + nodeWidth) + length (r .former) * longestField
 
 -- No more than the longest record.
 small-far : (at : ℕ) (r : Reading) → Well r → Small at r → at ≤ longestRecord
@@ -120,89 +108,36 @@ rows-grow F (FormerRow p l) = omega (arith, length-append (F ++ replicate (p - l
 -- Each field has its share of the bytes.
 small-step : (s : List ℕ) (at : ℕ) (r : Reading) (tag start len : ℕ) → Small at r → Whole (length s) at (allowedAfter (r .last)) 0 tag start len → Kind (r .last) tag
     → faultIn (r .cluster) (length (r .former)) (itemIn s tag start len) ≡ 0 → Small (start + len) (readingWith r tag (itemIn s tag start len))
-unfolding Small readingWith withItem formerWith unordered
+unfolding Small readingWith withItem formerWith
 small-step s at r tag start len h f (number-next a e) none =
     omega (arith, f .begins, one-byte f (omega arith) (omega arith), nodes-grow (r .cluster) (itemIn s tag start len), rows-grow (r .former) (itemIn s tag start len))
 small-step s at r tag start len h f (node-next a b e) none =
     let i : Item = itemIn s tag start len in
     let n : length (withItem (r .cluster) i .nodes) ≡ length (r .cluster .nodes) + 1 =
-    ap (λ (x : Item). length (withItem (r .cluster) x .nodes)) (item-node s start len tag e) ∙ length-append (r .cluster .nodes) (nodeIn s start ∷ []) in
-    omega (arith, f .begins, ten-bytes f e, n, rows-grow (r .former) i)
+    ap (λ (x : Item). length (withItem (r .cluster) x .nodes)) (item-node s start len tag e) ∙ length-append (r .cluster .nodes) (nodeAtByte s start ∷ []) in
+    omega (arith, f .begins, node-length f e, n, rows-grow (r .former) i)
 small-step s at r tag start len h f (row-next a e) none =
     let i : Item = itemIn s tag start len in
     let F : Layout = r .former in
     let p : ℕ = numberAt s start 2 in
     let l : List ℕ = idsAt s (start + 2) ((len - 2) / 4) in
-    let g = faults-none (r .cluster) (length F) (FormerRow p l) (ap (faultIn (r .cluster) (length F)) (sym (item-five s start len tag e)) ∙ none) in
-    let passed : length F ≤ p = ltb-false p (length F) (neither (ltb p (length F)) (not (rising l)) (g .1) .0) in
+    let passed = sound-row (r .cluster) (length F) p l (ap (faultIn (r .cluster) (length F)) (sym (item-five s start len tag e)) ∙ none) .1 in
     let n : length (formerWith F i) ≡ p + 1 = ap (λ (x : Item). length (formerWith F x)) (item-five s start len tag e) ∙ length-next F p l passed in
     omega (arith, f .begins, row-bytes f e, n, nodes-grow (r .cluster) i)
 
 -- ---- the bytes that decide
 
--- A part that ends before the cut is the same after it.
-part-same : (s : List ℕ) (n at w : ℕ) → at + w ≤ n → part (take n s) at w ≡ part s at w
-part-same s n zero w h = take-take w n s (omega arith)
-part-same s zero (suc at) w h = absurd (omega arith)
-part-same [] (suc n) (suc at) w h = refl
-part-same (x ∷ s) (suc n) (suc at) w h = part-same s n at w (omega arith)
-
 module _ (s : List ℕ) (n : ℕ) where
-  number-same : (at w : ℕ) → at + w ≤ n → at + w ≤ length s → numberAt (take n s) at w ≡ numberAt s at w
-  number-same at w h k =
-      number-there (take n s) at w (omega (arith, length-take n s)) ∙ (ap numberOf (part-same s n at w h) ∙ sym (number-there s at w k))
-
-  ids-same : (at m : ℕ) → at + 4 * m ≤ n → at + 4 * m ≤ length s → idsAt (take n s) at m ≡ idsAt s at m
-  unfolding idsAt
-  ids-same at zero h k = refl
-  ids-same at (suc m) h k =
-      ap₂ (λ (x : ℕ) (l : List ℕ). x ∷ l) (number-same at 4 (omega arith) (omega arith)) (ids-same (at + 4) m (omega arith) (omega arith))
-
-  -- What a field says is the same after the cut,
-  item-same : (tag start len : ℕ) → start + 34 ≤ n → start + 34 ≤ length s → len ≤ 34 → itemIn (take n s) tag start len ≡ itemIn s tag start len
-  unfolding itemIn nodeIn
+  -- What a field says is the same after the cut.
+  item-same : (tag start len : ℕ) → start + rowWidth mostCopies ≤ n → start + rowWidth mostCopies ≤ length s → len ≤ rowWidth mostCopies → itemIn (take n s) tag start len ≡ itemIn s tag start len
+  unfolding itemIn
   item-same tag start len h k few =
-      let a = number-same start 1 (omega arith) (omega arith) in
-      let m : ℕ = (len - 2) / 4 in
       simp (
-        a,
-        number-same start 4 (omega arith) (omega arith),
-        number-same (start + 4) 2 (omega arith) (omega arith),
-        number-same (start + 6) 4 (omega arith) (omega arith),
-        number-same start 2 (omega arith) (omega arith),
-        ids-same (start + 2) ((len - 2) / 4) (omega arith) (omega arith),
+        number-same s n start 1 (omega arith) (omega arith),
+        node-same s n start (omega arith) (omega arith),
+        number-same s n start 2 (omega arith) (omega arith),
+        ids-same s n (start + 2) ((len - 2) / 4) (omega arith) (omega arith),
       )
-
-  -- and so is the field itself.
-  field-same : (at last : ℕ) → at + 37 ≤ n → at + 37 ≤ length s → fieldAt (take n s) at (allowedAfter last) 0 ≡ fieldAt s at (allowedAfter last) 0
-  field-same at last h k =
-      let u : List ℕ = take n s in
-      let allowed : ℕ = allowedAfter last in
-      let tag : ℕ = numberAt s at 1 in
-      let len : ℕ = numberAt s (at + 1) 2 in
-      let a : numberAt u at 1 ≡ tag = number-same at 1 (omega arith) (omega arith) in
-      let b : numberAt u (at + 1) 2 ≡ len = number-same (at + 1) 2 (omega arith) (omega arith) in
-      let j : at + 37 ≤ length u = omega (arith, length-take n s) in
-      let hu : at + 3 ≤ length u = omega arith in
-      let hs : at + 3 ≤ length s = omega arith in
-      ⊎-elim
-      (λ t. ⊎-elim
-      (λ l. let g : len ≤ 34 = omega (arith, legal-greatest tag len (lawful 0 tag len l), short-rule tag (tag-range last tag (kind last tag t) .0) (tag-range last tag (kind last tag t) .1)) in
-      field-whole u at allowed 0 hu (ap (memberOf allowed) a ∙ t) (ap₂ (legalAs 0) a b ∙ l) (omega arith)
-      ∙ (ap₂ (λ (x y : ℕ). Body x (at + 3) y) a b ∙ sym (field-whole s at allowed 0 hs t l (omega arith))))
-      (λ l. field-length u at allowed 0 hu (ap (memberOf allowed) a ∙ t) (ap₂ (legalAs 0) a b ∙ l) ∙ sym (field-length s at allowed 0 hs t l))
-      (true-or-false (legalAs 0 tag len)))
-      (λ t. field-tag u at allowed 0 hu (ap (memberOf allowed) a ∙ t) ∙ sym (field-tag s at allowed 0 hs t))
-      (true-or-false (memberOf allowed tag))
-    where
-      short-rule : (tag : ℕ) → 1 ≤ tag → tag ≤ 5 → ruleOf tag .greatest ≤ 34
-      short-rule zero a b = absurd (omega arith)
-      short-rule (suc zero) a b = unfold ruleOf in omega arith
-      short-rule (suc (suc zero)) a b = unfold ruleOf in omega arith
-      short-rule (suc (suc (suc zero))) a b = unfold ruleOf in omega arith
-      short-rule (suc (suc (suc (suc zero)))) a b = unfold ruleOf in omega arith
-      short-rule (suc (suc (suc (suc (suc zero))))) a b = unfold ruleOf in omega arith
-      short-rule (suc (suc (suc (suc (suc (suc k)))))) a b = absurd (omega arith)
 
   -- The walk over the cut record comes to the same.
   record Same (at : ℕ) (r : Reading) : Type 0 where
@@ -212,18 +147,18 @@ module _ (s : List ℕ) (n : ℕ) where
     enough : length (take n s) ≤ at + fuel
     here : readCluster (take n s) ≡ walk fuel (take n s) at r
 
-  abbrev Decides : Outcome → Type 0
+  abbrev Decides : ClusterRead → Type 0
   Decides o = (readCluster (take n s) ≡ o) × (o .refusal ≡ 0 → ⊥)
 
   module _ (long : decidingBytes ≤ length s) (cut-long : decidingBytes ≤ n) where
-    near : (at : ℕ) (r : Reading) → Same at r → at + 37 ≤ decidingBytes
+    near : (at : ℕ) (r : Reading) → Same at r → at + longestField ≤ decidingBytes
     near at r q = omega (arith, small-far at r (q .well) (q .small))
 
     before-end : (at : ℕ) (r : Reading) → Same at r → at < length (take n s)
     before-end at r q = omega (arith, near at r q, length-take n s)
 
     same-field : (at : ℕ) (r : Reading) → Same at r → fieldAt (take n s) at (allowedAfter (r .last)) 0 ≡ fieldAt s at (allowedAfter (r .last)) 0
-    same-field at r q = field-same at (r .last) (omega (arith, near at r q)) (omega (arith, near at r q))
+    same-field at r q = field-same s n at (allowedAfter (r .last)) 0 (omega (arith, near at r q)) (omega (arith, near at r q))
 
     module _ (at : ℕ) (r : Reading) (q : Same at r) (tag start len : ℕ) (e : fieldAt s at (allowedAfter (r .last)) 0 ≡ Body tag start len) where
       met : Whole (length s) at (allowedAfter (r .last)) 0 tag start len
@@ -232,21 +167,21 @@ module _ (s : List ℕ) (n : ℕ) where
       kind-met : Kind (r .last) tag
       kind-met = kind (r .last) tag (met .member)
 
-      short : (k : Kind (r .last) tag) → len ≤ 34
+      short : (k : Kind (r .last) tag) → len ≤ rowWidth mostCopies
       short (number-next a d) = omega (arith, one-byte met (omega arith) (omega arith))
-      short (node-next a b d) = omega (arith, ten-bytes met d)
+      short (node-next a b d) = omega (arith, node-length met d)
       short (row-next a d) = row-bytes met d .1
 
       same-item : itemIn (take n s) tag start len ≡ itemIn s tag start len
       same-item = item-same tag start len (omega (arith, near at r q, met .begins)) (omega (arith, near at r q, met .begins)) (short kind-met)
 
       same-fault : (faultIn (r .cluster) (length (r .former)) (itemIn s tag start len) ≡ 0 → ⊥)
-          → Decides (refusedAt (faultIn (r .cluster) (length (r .former)) (itemIn s tag start len)) at)
+          → Decides (clusterRefused (faultIn (r .cluster) (length (r .former)) (itemIn s tag start len)) at)
       same-fault some =
           let d = ap (faultIn (r .cluster) (length (r .former))) same-item in (
             q .here
                 ∙ (walk-fault (take n s) at (q .fuel) r (before-end at r q) (q .enough) tag start len (same-field at r q ∙ e) (λ z. some (sym d ∙ z))
-                ∙ ap (λ (k : ℕ). refusedAt k at) d),
+                ∙ ap (λ (k : ℕ). clusterRefused k at) d),
             some,
           )
 
@@ -272,8 +207,8 @@ module _ (s : List ℕ) (n : ℕ) where
         ))
         (λ at r q tag start len e some. same-fault at r q tag start len e some)
         (λ at r q tag start len e none. same-on at r q tag start len e none)
-        (length s) 0 beginning (omega arith)
-        (record { well = well-beginning; small = unfold Small in omega arith; fuel = length (take n s); enough = omega arith; here = refl })
+        (length s) 0 nothingRead (omega arith)
+        (record { well = well-nothing; small = unfold Small in omega arith; fuel = length (take n s); enough = omega arith; here = refl })
 
 -- The first bytes of a record, 9,937 or more, are read as the whole: the same refusal and byte, or the same cluster and former layout.
 pub first-bytes : (s : List ℕ) (n : ℕ) → decidingBytes ≤ n → readCluster (take n s) ≡ readCluster s
@@ -282,12 +217,12 @@ first-bytes s n h =
 
 -- So are the answer and the lent cells.
 pub first-answer : (s former : List ℕ) (n : ℕ) → decidingBytes ≤ n
-    → (readAnswer (take n s) former ≡ readAnswer s former) × (formerAfter (take n s) former ≡ formerAfter s former)
+    → (readClusterOf (take n s) former ≡ readClusterOf s former) × (formerRead (take n s) former ≡ formerRead s former)
 first-answer s former n h = let e = first-bytes s n h in (answer e, cells e)
   where
-    answer : readCluster (take n s) ≡ readCluster s → readAnswer (take n s) former ≡ readAnswer s former
-    answer e = unfold readAnswer outcomeOf in ap (λ (o : Outcome). answerOf (cond (ltb (length former) layoutCells) (refusedAt 8 0) o)) e
+    answer : readCluster (take n s) ≡ readCluster s → readClusterOf (take n s) former ≡ readClusterOf s former
+    answer e = unfold readClusterOf clusterOutcome in ap (λ (o : ClusterRead). clusterAnswer (cond (ltb (length former) layoutCells) (clusterRefused 8 0) o)) e
 
-    cells : readCluster (take n s) ≡ readCluster s → formerAfter (take n s) former ≡ formerAfter s former
-    cells e = unfold formerAfter outcomeOf in
-        ap (λ (o : Outcome). let x = cond (ltb (length former) layoutCells) (refusedAt 8 0) o in cond (eqb (x .refusal) 0) (cellsOf (x .former) ++ drop layoutCells former) former) e
+    cells : readCluster (take n s) ≡ readCluster s → formerRead (take n s) former ≡ formerRead s former
+    cells e = unfold formerRead clusterOutcome in
+        ap (λ (o : ClusterRead). let x = cond (ltb (length former) layoutCells) (clusterRefused 8 0) o in cond (eqb (x .refusal) 0) (cellsOf (x .former) ++ drop layoutCells former) former) e

@@ -1,26 +1,25 @@
 -- What was read so far: which tags come next, and what holds of every reading that no fault has ended.
 -- Assumes nothing.
-use Prim.Native.Nat.{ℕ, zero, suc, _+_, _-_, _*_, _/_, _%_, _≤_, _<_}
-use mathlib.Core.Path.{_≡_, refl, sym, ap, ap₂, _∙_, subst}
-use mathlib.Core.Bool.{true, not}
+use Prim.Native.Nat.{ℕ, zero, suc, _+_, _-_, _/_, _%_, _≤_, _<_}
+use mathlib.Core.Path.{_≡_, refl, sym, ap, _∙_, subst}
+use mathlib.Core.Bool.{true, _||_}
 use mathlib.Core.List.{List, [], _∷_}
 use mathlib.Core.Logic.{_⊎_, ⊎-elim}
 use native.Mathlib.Omega.{arith}
-use lib.Dec.{ltb, leb, eqb}
+use lib.Dec.{ltb, eqb}
 use lib.ListN.{length, length-append}
-use borrow.Author.Tests.{ltb-false, leb-false, eqb-false, not-false, lt-ltb, le-ltb}
+use borrow.Author.Tests.{ltb-false, eqb-false, lt-ltb, le-ltb}
 use Rattle.sums.proofs.Sum.{lt-or-ge}
-use Rattle.sets.specs.ModelBits.{memberOf, withOf}
-use Rattle.sets.proofs.Laws.{bit-true, bit-with-same, bit-with-other}
-use Rattle.cluster.specs.Terms.{mostBits, mostCopies, mostNodes, bufferRows, partitions, Layout, row, idsOf, mem, rising}
+use Rattle.cluster.specs.Terms.{mostBits, mostCopies, bufferRows, partitions, Layout, row, idsOf, mem, rising}
 use Rattle.cluster.specs.declared.Node.{Node}
 use Rattle.cluster.specs.TermsReading.{Accepted}
-use Rattle.cluster.proofs.Lists.{rising-none}
-use Rattle.fields.specs.RecordField.{ruleOf, numberAt, Whole}
-use Rattle.fields.proofs.RecordField.{with-tag, no-tag}
-use Rattle.cluster_record.specs.RecordClusterFaults.{Item, BitsOf, ReplicationOf, RedundancyOf, OneNode, FormerRow, nodeIn, idsAt, itemIn, Reading, beginning, allowedAfter, withItem, upTo, formerWith, readingWith, outside, lastOf, unordered, tooMany, faultIn}
+use Rattle.cluster.proofs.Lists.{mem-head, mem-tail, mem-cases, rising-none}
+use Rattle.fields.specs.RecordField.{ruleOf, numberAt, nodeWidth, rowWidth, Whole, nodeAtByte, idsAt}
+use Rattle.fields.proofs.RecordField.{one-tag}
+use Rattle.cluster_record.specs.RecordClusterFaults.{Item, BitsOf, ReplicationOf, RedundancyOf, OneNode, FormerRow, itemIn, Reading, nothingRead, allowedAfter, withItem, upTo, formerWith, readingWith, faultIn}
 use Rattle.sums.proofs.Tests.{neither}
-use Rattle.cluster_record.proofs.Items.{item-bits, item-replication, item-redundancy, item-node, item-five, length-ids, ids-snoc, rising-snoc, faults-none}
+use Rattle.cluster_record.proofs.Items.{item-bits, item-replication, item-redundancy, item-node, item-five, ids-snoc, rising-snoc, in-range, sound-node, sound-row}
+use Rattle.fields.proofs.IdBytes.{length-ids}
 use Rattle.cluster_record.proofs.FieldFaults.{few-partitions}
 use Rattle.cluster_record.proofs.Rows.{every-snoc, row-upTo, length-next}
 
@@ -32,44 +31,35 @@ pub data Kind (last tag : ℕ) : Type 0 where
   node-next : 3 ≤ last → last < 5 → tag ≡ 4 → Kind last tag
   row-next : 3 ≤ last → tag ≡ 5 → Kind last tag
 
-allowed-number : (last : ℕ) → last < 3 → allowedAfter last ≡ withOf 0 (last + 1)
+allowed-number : (last : ℕ) → last < 3 → allowedAfter last ≡ (last + 1) ∷ []
 unfolding allowedAfter
 allowed-number last h = simp (lt-ltb last 3 h)
 
-allowed-node : (last : ℕ) → 3 ≤ last → last < 5 → allowedAfter last ≡ withOf (withOf 0 4) 5
+allowed-node : (last : ℕ) → 3 ≤ last → last < 5 → allowedAfter last ≡ 4 ∷ 5 ∷ []
 unfolding allowedAfter
 allowed-node last a b = simp (le-ltb last 3 a, lt-ltb last 5 b)
 
-allowed-row : (last : ℕ) → 5 ≤ last → allowedAfter last ≡ withOf 0 5
+allowed-row : (last : ℕ) → 5 ≤ last → allowedAfter last ≡ 5 ∷ []
 unfolding allowedAfter
 allowed-row last a = simp (le-ltb last 3 (omega arith), le-ltb last 5 a)
 
 -- A tag that is allowed is one of these,
-pub kind : (last tag : ℕ) → memberOf (allowedAfter last) tag ≡ true → Kind last tag
+pub kind : (last tag : ℕ) → mem tag (allowedAfter last) ≡ true → Kind last tag
 kind last tag h =
-    ⊎-elim (λ low. one (last + 1) (allowed-number last low) (λ e. number-next low e))
+    ⊎-elim (λ low. number-next low (one-tag (last + 1) tag (sym (ap (mem tag) (allowed-number last low)) ∙ h)))
     (λ a. ⊎-elim
-    (λ b. ⊎-elim (λ e. row-next a e)
-    (λ m. ⊎-elim (λ e. node-next a b e) (λ n. absurd (no-tag tag n)) (with-tag 0 4 tag m))
-    (with-tag (withOf 0 4) 5 tag (subst (λ (m : ℕ). memberOf m tag ≡ true) (allowed-node last a b) h)))
-    (λ b. one 5 (allowed-row last b) (λ e. row-next a e))
+    (λ b. ⊎-elim (λ e. node-next a b e) (λ m. row-next a (one-tag 5 tag m)) (mem-cases tag 4 (5 ∷ []) (sym (ap (mem tag) (allowed-node last a b)) ∙ h)))
+    (λ b. row-next a (one-tag 5 tag (sym (ap (mem tag) (allowed-row last b)) ∙ h)))
     (lt-or-ge last 5))
     (lt-or-ge last 3)
-  where
-    one : (a : ℕ) → allowedAfter last ≡ withOf 0 a → (tag ≡ a → Kind last tag) → Kind last tag
-    one a e f = ⊎-elim f (λ m. absurd (no-tag tag m)) (with-tag 0 a tag (subst (λ (m : ℕ). memberOf m tag ≡ true) e h))
 
 -- and each of these is allowed.
-pub kind-allowed : (last tag : ℕ) → Kind last tag → memberOf (allowedAfter last) tag ≡ true
-kind-allowed last tag (number-next a e) =
-    ap₂ memberOf (allowed-number last a) e ∙ bit-true (withOf 0 (last + 1)) (last + 1) (bit-with-same 0 (last + 1) (omega arith))
-kind-allowed last tag (node-next a b e) =
-    ap₂ memberOf (allowed-node last a b) e
-    ∙ bit-true (withOf (withOf 0 4) 5) 4 (bit-with-other (withOf 0 4) 5 4 (omega arith) (λ q. omega arith) ∙ bit-with-same 0 4 (omega arith))
+pub kind-allowed : (last tag : ℕ) → Kind last tag → mem tag (allowedAfter last) ≡ true
+kind-allowed last tag (number-next a e) = ap (mem tag) (allowed-number last a) ∙ mem-head tag (last + 1) [] e
+kind-allowed last tag (node-next a b e) = ap (mem tag) (allowed-node last a b) ∙ mem-head tag 4 (5 ∷ []) e
 kind-allowed last tag (row-next a e) =
-    ⊎-elim (λ b. ap₂ memberOf (allowed-node last a b) e ∙ bit-true (withOf (withOf 0 4) 5) 5 (bit-with-same (withOf 0 4) 5 (omega arith)))
-    (λ b. ap₂ memberOf (allowed-row last b) e ∙ bit-true (withOf 0 5) 5 (bit-with-same 0 5 (omega arith)))
-    (lt-or-ge last 5)
+    let five = mem-head tag 5 [] e in
+    ⊎-elim (λ b. ap (mem tag) (allowed-node last a b) ∙ mem-tail tag 4 (5 ∷ []) five) (λ b. ap (mem tag) (allowed-row last b) ∙ five) (lt-or-ge last 5)
 
 pub tag-range : (last tag : ℕ) → Kind last tag → (1 ≤ tag) × (tag ≤ 5)
 tag-range last tag (number-next a e) = (omega arith, omega arith)
@@ -78,7 +68,7 @@ tag-range last tag (row-next a e) = (omega arith, omega arith)
 
 -- ---- the lengths
 
-module _ {n at allowed tag start len : ℕ} (w : Whole n at allowed 0 tag start len) where
+module _ {n at : ℕ} {allowed : List ℕ} {tag start len : ℕ} (w : Whole n at allowed 0 tag start len) where
   -- A field of the tags 1, 2 and 3 has one byte,
   pub one-byte : 1 ≤ tag → tag ≤ 3 → len ≡ 1
   unfolding ruleOf
@@ -91,26 +81,26 @@ module _ {n at allowed tag start len : ℕ} (w : Whole n at allowed 0 tag start 
       go (suc (suc (suc zero))) a b x y = omega arith
       go (suc (suc (suc (suc k)))) a b x y = absurd (omega arith)
 
-  -- that of a node has ten,
-  pub ten-bytes : tag ≡ 4 → len ≡ 10
+  -- that of a node has those of a node,
+  pub node-length : tag ≡ 4 → len ≡ nodeWidth
   unfolding ruleOf
-  ten-bytes e =
-      let a : 10 ≤ len = subst (λ (k : ℕ). ruleOf k .least ≤ len) e (w .least) in
-      let b : len ≤ 10 = subst (λ (k : ℕ). len ≤ ruleOf k .greatest) e (w .greatest) in
+  node-length e =
+      let a : nodeWidth ≤ len = subst (λ (k : ℕ). ruleOf k .least ≤ len) e (w .least) in
+      let b : len ≤ nodeWidth = subst (λ (k : ℕ). len ≤ ruleOf k .greatest) e (w .greatest) in
       omega arith
 
   -- and that of a row two, and four for each of one to eight ids.
-  pub row-bytes : tag ≡ 5 → (6 ≤ len) × (len ≤ 34) × (len ≡ 2 + 4 * ((len - 2) / 4))
+  pub row-bytes : tag ≡ 5 → (rowWidth 1 ≤ len) × (len ≤ rowWidth mostCopies) × (len ≡ rowWidth ((len - 2) / 4))
   unfolding ruleOf
   row-bytes e =
-      let a : 6 ≤ len = subst (λ (k : ℕ). ruleOf k .least ≤ len) e (w .least) in
-      let b : len ≤ 34 = subst (λ (k : ℕ). len ≤ ruleOf k .greatest) e (w .greatest) in
-      let c : (len - 6) % 4 ≡ 0 = subst (λ (k : ℕ). (len - ruleOf k .least) % ruleOf k .step ≡ 0) e (w .step) in
+      let a : rowWidth 1 ≤ len = subst (λ (k : ℕ). ruleOf k .least ≤ len) e (w .least) in
+      let b : len ≤ rowWidth mostCopies = subst (λ (k : ℕ). len ≤ ruleOf k .greatest) e (w .greatest) in
+      let c : (len - rowWidth 1) % 4 ≡ 0 = subst (λ (k : ℕ). (len - ruleOf k .least) % ruleOf k .step ≡ 0) e (w .step) in
       (a, b, omega arith)
 
 -- ---- what holds of a reading
 
--- The cluster so far is accepted, and so are the rows; what was not read yet is as in the beginning.
+-- The cluster so far is accepted, and so are the rows; what was not read yet is as in the nothingRead.
 pub record Well (r : Reading) : Type 0 where
   pub accepted : Accepted (r .cluster)
   pub alone : r .last < 3 → r .cluster .redundancy ≡ 1
@@ -125,9 +115,9 @@ pub record Well (r : Reading) : Type 0 where
 pub rows-few : (r : Reading) → Well r → length (r .former) ≤ bufferRows
 rows-few r w = omega (arith, w .rows-le, few-partitions (r .cluster .bits) (w .accepted .bits))
 
-pub well-beginning : Well beginning
-unfolding beginning idsOf
-well-beginning = record {
+pub well-nothing : Well nothingRead
+unfolding nothingRead idsOf
+well-nothing = record {
   accepted = record { bits = omega arith; replication = (omega arith, omega arith); redundancy = (omega arith, omega arith); few = omega arith; ids = rising-none 0 };
   alone = λ l. refl;
   no-nodes = λ l. refl;
@@ -141,11 +131,10 @@ well-beginning = record {
 -- Each field without fault keeps it.
 module _ (r : Reading) (tag : ℕ) (w : Well r) where
   well-bits : (k : ℕ) → r .last ≡ 0 → tag ≡ 1 → faultIn (r .cluster) (length (r .former)) (BitsOf k) ≡ 0 → Well (readingWith r tag (BitsOf k))
-  unfolding readingWith withItem formerWith outside
+  unfolding readingWith withItem formerWith faultIn
   well-bits k z e f =
-      let n = faults-none (r .cluster) (length (r .former)) (BitsOf k) f in
       record {
-        accepted = record { bits = ltb-false mostBits k (n .0); replication = w .accepted .replication; redundancy = w .accepted .redundancy; few = w .accepted .few; ids = w .accepted .ids };
+        accepted = record { bits = ltb-false mostBits k (in-range (ltb mostBits k) f); replication = w .accepted .replication; redundancy = w .accepted .redundancy; few = w .accepted .few; ids = w .accepted .ids };
         alone = λ l. w .alone (omega arith);
         no-nodes = λ l. w .no-nodes (omega arith);
         no-rows = λ l. w .no-rows (omega arith);
@@ -156,9 +145,9 @@ module _ (r : Reading) (tag : ℕ) (w : Well r) where
       }
 
   well-replication : (k : ℕ) → r .last ≡ 1 → tag ≡ 2 → faultIn (r .cluster) (length (r .former)) (ReplicationOf k) ≡ 0 → Well (readingWith r tag (ReplicationOf k))
-  unfolding readingWith withItem formerWith outside
+  unfolding readingWith withItem formerWith faultIn
   well-replication k z e f =
-      let n = neither (eqb k 0) (ltb mostCopies k) (faults-none (r .cluster) (length (r .former)) (ReplicationOf k) f .0) in
+      let n = neither (eqb k 0) (ltb mostCopies k) (in-range (eqb k 0 || ltb mostCopies k) f) in
       let some : (k ≡ 0 → ⊥) = eqb-false k 0 (n .0) in
       record {
         accepted = record { bits = w .accepted .bits; replication = (omega arith, ltb-false mostCopies k (n .1)); redundancy = (w .accepted .redundancy .0, omega (arith, w .alone (omega arith))); few = w .accepted .few; ids = w .accepted .ids };
@@ -172,9 +161,9 @@ module _ (r : Reading) (tag : ℕ) (w : Well r) where
       }
 
   well-redundancy : (k : ℕ) → r .last ≡ 2 → tag ≡ 3 → faultIn (r .cluster) (length (r .former)) (RedundancyOf k) ≡ 0 → Well (readingWith r tag (RedundancyOf k))
-  unfolding readingWith withItem formerWith outside
+  unfolding readingWith withItem formerWith faultIn
   well-redundancy k z e f =
-      let n = neither (eqb k 0) (ltb (r .cluster .replication) k) (faults-none (r .cluster) (length (r .former)) (RedundancyOf k) f .0) in
+      let n = neither (eqb k 0) (ltb (r .cluster .replication) k) (in-range (eqb k 0 || ltb (r .cluster .replication) k) f) in
       let some : (k ≡ 0 → ⊥) = eqb-false k 0 (n .0) in
       record {
         accepted = record { bits = w .accepted .bits; replication = w .accepted .replication; redundancy = (omega arith, ltb-false (r .cluster .replication) k (n .1)); few = w .accepted .few; ids = w .accepted .ids };
@@ -188,19 +177,17 @@ module _ (r : Reading) (tag : ℕ) (w : Well r) where
       }
 
   well-node : (n : Node) → r .last < 5 → tag ≡ 4 → faultIn (r .cluster) (length (r .former)) (OneNode n) ≡ 0 → Well (readingWith r tag (OneNode n))
-  unfolding readingWith withItem formerWith unordered tooMany
+  unfolding readingWith withItem formerWith
   well-node n z e f =
       let l : List Node = r .cluster .nodes in
-      let h = faults-none (r .cluster) (length (r .former)) (OneNode n) f in
-      let above : lastOf 0 (idsOf l) < n .id = leb-false (n .id) (lastOf 0 (idsOf l)) (h .1) in
-      let room : length l < mostNodes = leb-false mostNodes (length l) (h .2) in
+      let h = sound-node (r .cluster) (length (r .former)) n f in
       record {
         accepted = record {
           bits = w .accepted .bits;
           replication = w .accepted .replication;
           redundancy = w .accepted .redundancy;
-          few = omega (arith, length-append l (n ∷ []));
-          ids = ap rising (ids-snoc l n) ∙ rising-snoc 0 (idsOf l) (n .id) (w .accepted .ids) above;
+          few = omega (arith, length-append l (n ∷ []), h .1);
+          ids = ap rising (ids-snoc l n) ∙ rising-snoc 0 (idsOf l) (n .id) (w .accepted .ids) (h .0);
         };
         alone = λ l. absurd (omega arith);
         no-nodes = λ l. absurd (omega arith);
@@ -212,27 +199,24 @@ module _ (r : Reading) (tag : ℕ) (w : Well r) where
       }
 
   well-row : (p : ℕ) (l : List ℕ) → tag ≡ 5 → length l ≤ mostCopies → faultIn (r .cluster) (length (r .former)) (FormerRow p l) ≡ 0 → Well (readingWith r tag (FormerRow p l))
-  unfolding readingWith withItem formerWith outside unordered
+  unfolding readingWith withItem formerWith
   well-row p l e few f =
       let F : Layout = r .former in
-      let h = faults-none (r .cluster) (length F) (FormerRow p l) f in
-      let inside : p < partitions (r .cluster) = leb-false (partitions (r .cluster)) p (neither (leb (partitions (r .cluster)) p) (mem 0 l) (h .0) .0) in
-      let n = neither (ltb p (length F)) (not (rising l)) (h .1) in
-      let passed : length F ≤ p = ltb-false p (length F) (n .0) in
+      let h = sound-row (r .cluster) (length F) p l f in
       record {
         accepted = w .accepted;
         alone = λ l. absurd (omega arith);
         no-nodes = λ l. absurd (omega arith);
         no-rows = λ l. absurd (omega arith);
         last-le = omega arith;
-        rows-le = omega (arith, length-next F p l passed);
+        rows-le = omega (arith, length-next F p l (h .1), h .0);
         row-ids = every-snoc (λ (x : List ℕ). rising x ≡ true) [] (upTo p F) l
-            (λ q. ap rising (row-upTo p F q) ∙ w .row-ids q) (not-false (rising l) (n .1)) (rising-none 0);
+            (λ q. ap rising (row-upTo p F q) ∙ w .row-ids q) (h .2) (rising-none 0);
         row-few = every-snoc (λ (x : List ℕ). length x ≤ mostCopies) [] (upTo p F) l
             (λ q. subst (λ (x : List ℕ). length x ≤ mostCopies) (sym (row-upTo p F q)) (w .row-few q)) few (omega arith);
       }
 
-pub well-step : (s : List ℕ) (r : Reading) (tag start len : ℕ) → Well r → Kind (r .last) tag → (tag ≡ 5 → len ≤ 34)
+pub well-step : (s : List ℕ) (r : Reading) (tag start len : ℕ) → Well r → Kind (r .last) tag → (tag ≡ 5 → len ≤ rowWidth mostCopies)
     → faultIn (r .cluster) (length (r .former)) (itemIn s tag start len) ≡ 0 → Well (readingWith r tag (itemIn s tag start len))
 well-step s r tag start len w (number-next a e) few =
     ⊎-elim (λ l. by (item-bits s start len tag (omega arith)) (well-bits r tag w (numberAt s start 1) (omega arith) (omega arith)))
@@ -246,7 +230,7 @@ well-step s r tag start len w (number-next a e) few =
     by q h = subst (λ (i : Item). faultIn (r .cluster) (length (r .former)) i ≡ 0 → Well (readingWith r tag i)) (sym q) h
 well-step s r tag start len w (node-next a b e) few =
     subst (λ (i : Item). faultIn (r .cluster) (length (r .former)) i ≡ 0 → Well (readingWith r tag i)) (sym (item-node s start len tag e))
-    (well-node r tag w (nodeIn s start) b e)
+    (well-node r tag w (nodeAtByte s start) b e)
 well-step s r tag start len w (row-next a e) few =
     subst (λ (i : Item). faultIn (r .cluster) (length (r .former)) i ≡ 0 → Well (readingWith r tag i)) (sym (item-five s start len tag e))
     (well-row r tag w (numberAt s start 2) (idsAt s (start + 2) ((len - 2) / 4)) e (omega (arith, few e, length-ids s (start + 2) ((len - 2) / 4))))

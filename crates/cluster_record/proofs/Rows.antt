@@ -10,11 +10,12 @@ use lib.Seq.{getD-append-add, getD-at, ext-getD}
 use Rattle.sums.proofs.Sum.{lt-or-ge}
 use Rattle.cells.specs.ModelCells.{put}
 use Rattle.cells.proofs.Cells.{length-put, getD-put-in, getD-put-out}
-use Rattle.cluster.specs.Terms.{rowCells, bufferRows, layoutCells, Layout, row, cellsOf}
+use Rattle.cluster.specs.Terms.{mostCopies, rowCells, bufferRows, layoutCells, Layout, row, cellsOf}
 use Rattle.cluster.proofs.CellLayouts.{length-cellsOf, getD-cellsOf}
-use Rattle.fields.specs.RecordField.{numberAt}
-use Rattle.cluster_record.specs.RecordClusterFaults.{Item, idsAt, itemIn, upTo, formerWith}
-use Rattle.cluster_record.proofs.Items.{item-five, length-ids, getD-ids}
+use Rattle.fields.specs.RecordField.{numberAt, rowWidth, idsAt}
+use Rattle.cluster_record.specs.RecordClusterFaults.{Item, itemIn, upTo, formerWith}
+use Rattle.cluster_record.proofs.Items.{item-five}
+use Rattle.fields.proofs.IdBytes.{length-ids, getD-ids}
 
 -- What holds of every element of a list, of one more and of the default holds of every element of the longer list.
 pub every-snoc : {A : Type 0} (P : A → Type 0) (d : A) (l : List A) (x : A) → ((i : ℕ) → P (getD l i d)) → P x → P d → (i : ℕ) → P (getD (l ++ (x ∷ [])) i d)
@@ -132,7 +133,7 @@ cells-none =
 
 -- A row that is written into its cells is taken in.
 pub taken-row : (s : List ℕ) (F : Layout) (tag start len p : ℕ) (rows rows′ : List ℕ) → tag ≡ 5 → p ≡ numberAt s start 2 → numberAt s start 2 < bufferRows
-    → len ≤ 34 → length F ≤ numberAt s start 2 → rows ≡ cellsOf F
+    → len ≤ rowWidth mostCopies → length F ≤ numberAt s start 2 → rows ≡ cellsOf F
     → rows′ ≡ put (p * rowCells) (λ j. numberAt s (start + 2 + 4 * j) 4) ((len - 2) / 4) rows
     → (rows′ ≡ cellsOf (formerWith F (itemIn s tag start len))) × (p + 1 ≡ length (formerWith F (itemIn s tag start len)))
 unfolding formerWith

@@ -2,7 +2,7 @@
 -- Assumes nothing.
 use Prim.Native.Nat.{ℕ, zero, suc, _+_, _-_, _*_, _/_, _^_, _≤_, _<_}
 use mathlib.Core.Path.{_≡_, refl, sym, ap, ap₂, _∙_, subst}
-use mathlib.Core.Bool.{Bool, true, false, not, cond}
+use mathlib.Core.Bool.{Bool, true, false, cond}
 use mathlib.Core.List.{List, [], _∷_, _++_, append-assoc, append-nil}
 use native.Mathlib.Omega.{arith}
 use lib.Dec.{ltb, eqb}
@@ -11,19 +11,19 @@ use lib.Seq.{take-all}
 use borrow.Author.Tests.{ltb-false}
 use Rattle.cluster.specs.declared.Node.{Node}
 use Rattle.cluster.specs.Terms.{mostCopies, Topology, partitions, Layout, noNode, rising}
-use Rattle.fields.specs.RecordField.{bytesOf, Bytes, part, numberAt, field, fieldAt, Whole}
+use Rattle.fields.specs.RecordField.{bytesOf, Bytes, part, numberAt, nodeWidth, FitsNode, field, fieldAt, Whole, nodeAtByte, idBytes, idsAt}
 use Rattle.fields.specs.declared.Field.the-variants.{Body}
-use Rattle.fields.proofs.Numbers.{bytes-there, number-at-lt, part-append}
-use Rattle.fields.proofs.RecordField.{whole}
-use Rattle.cluster_record.specs.RecordCluster.{bitsField, replicationField, redundancyField, nodeField, nodeFields, idBytes, rowField, rowFields, clusterRecord, FitsRecord, IsRecord}
-use Rattle.cluster_record.specs.RecordClusterFaults.{Item, BitsOf, ReplicationOf, RedundancyOf, OneNode, FormerRow, nodeIn, idsAt, itemIn, Reading, Outcome, beginning, allowedAfter, withItem, upTo, formerWith, readingWith, unordered, faultIn, refusedAt, ended, readCluster}
-use Rattle.sums.proofs.Tests.{neither}
-use Rattle.cluster_record.proofs.Items.{item-node, item-five, length-ids, faults-none}
-use Rattle.cluster_record.proofs.FieldFaults.{refused-some}
+use Rattle.fields.proofs.IdBytes.{ids-back, ids-words, length-ids}
+use Rattle.fields.proofs.Nodes.{node-bytes, fits-none, fits-node}
+use Rattle.fields.proofs.Numbers.{bytes-there, part-append}
+use Rattle.fields.proofs.RecordField.{whole, refused-some}
+use Rattle.cluster_record.specs.RecordCluster.{bitsField, replicationField, redundancyField, nodeField, nodeFields, formerField, formerFields, clusterRecord, FitsRecord, IsClusterRecord}
+use Rattle.cluster_record.specs.RecordClusterFaults.{Item, BitsOf, ReplicationOf, RedundancyOf, OneNode, FormerRow, itemIn, Reading, ClusterRead, nothingRead, allowedAfter, withItem, upTo, formerWith, readingWith, faultIn, clusterRefused, ended, readCluster}
+use Rattle.cluster_record.proofs.Items.{item-node, item-five, sound-row}
 use Rattle.cluster_record.proofs.Rows.{every-snoc, row-upTo, length-upTo}
 use Rattle.cluster_record.proofs.Walks.{walk-holds}
-use Rattle.cluster_record.proofs.Readings.{Kind, number-next, node-next, row-next, kind, one-byte, ten-bytes, row-bytes, Well, well-beginning, well-step}
-use Rattle.cluster_record.proofs.RecordBytes.{nodes-snoc, rows-upTo, rows-next, ids-bytes, node-bytes, ids-lt, bytes-next}
+use Rattle.cluster_record.proofs.Readings.{Kind, number-next, node-next, row-next, kind, one-byte, node-length, row-bytes, Well, well-nothing, well-step}
+use Rattle.cluster_record.proofs.RecordBytes.{nodes-snoc, rows-upTo, rows-next, bytes-next}
 
 -- ---- the numbers fit
 
@@ -32,36 +32,32 @@ abbrev FitsItem : Item → Type 0
 FitsItem (BitsOf k) = Unit
 FitsItem (ReplicationOf k) = Unit
 FitsItem (RedundancyOf k) = Unit
-FitsItem (OneNode n) = (n .id < 2 ^ 32) × (n .zone < 2 ^ 16) × (n .capacity < 2 ^ 32)
+FitsItem (OneNode n) = FitsNode n
 FitsItem (FormerRow p l) = (j : ℕ) → getD l j 0 < 2 ^ 32
 
 fits-item : (s : List ℕ) → Bytes s → (tag start len : ℕ) → FitsItem (itemIn s tag start len)
-unfolding itemIn nodeIn
+unfolding itemIn
 fits-item s b tag start len = go (eqb tag 1) (eqb tag 2) (eqb tag 3) (eqb tag 4)
   where
     go : (w x y z : Bool) → FitsItem (cond w (BitsOf (numberAt s start 1)) (cond x (ReplicationOf (numberAt s start 1)) (cond y (RedundancyOf (numberAt s start 1))
-        (cond z (OneNode (nodeIn s start)) (FormerRow (numberAt s start 2) (idsAt s (start + 2) ((len - 2) / 4)))))))
+        (cond z (OneNode (nodeAtByte s start)) (FormerRow (numberAt s start 2) (idsAt s (start + 2) ((len - 2) / 4)))))))
     go true x y z = tt
     go false true y z = tt
     go false false true z = tt
-    go false false false true = (number-at-lt s start 4 b, number-at-lt s (start + 4) 2 b, number-at-lt s (start + 6) 4 b)
-    go false false false false = λ j. ids-lt s b (start + 2) ((len - 2) / 4) j
+    go false false false true = fits-node s start b
+    go false false false false = λ j. ids-words s (start + 2) ((len - 2) / 4) j b
 
 fits-with : (t : Topology) (F : Layout) (i : Item) → FitsRecord t F → FitsItem i → FitsRecord (withItem t i) (formerWith F i)
 unfolding withItem formerWith
-fits-with t F (BitsOf k) f g = record { ids = f .ids; zones = f .zones; capacities = f .capacities; former = f .former }
-fits-with t F (ReplicationOf k) f g = record { ids = f .ids; zones = f .zones; capacities = f .capacities; former = f .former }
-fits-with t F (RedundancyOf k) f g = record { ids = f .ids; zones = f .zones; capacities = f .capacities; former = f .former }
+fits-with t F (BitsOf k) f g = record { nodes = f .nodes; former = f .former }
+fits-with t F (ReplicationOf k) f g = record { nodes = f .nodes; former = f .former }
+fits-with t F (RedundancyOf k) f g = record { nodes = f .nodes; former = f .former }
 fits-with t F (OneNode n) f g = record {
-  ids = every-snoc (λ (x : Node). x .id < 2 ^ 32) noNode (t .nodes) n (f .ids) (g .0) (omega arith);
-  zones = every-snoc (λ (x : Node). x .zone < 2 ^ 16) noNode (t .nodes) n (f .zones) (g .1) (omega arith);
-  capacities = every-snoc (λ (x : Node). x .capacity < 2 ^ 32) noNode (t .nodes) n (f .capacities) (g .2) (omega arith);
+  nodes = every-snoc FitsNode noNode (t .nodes) n (f .nodes) g fits-none;
   former = f .former;
 }
 fits-with t F (FormerRow p l) f g = record {
-  ids = f .ids;
-  zones = f .zones;
-  capacities = f .capacities;
+  nodes = f .nodes;
   former = every-snoc (λ (x : List ℕ). (j : ℕ) → getD x j 0 < 2 ^ 32) [] (upTo p F) l
       (λ q j. subst (λ (x : List ℕ). getD x j 0 < 2 ^ 32) (sym (row-upTo p F q)) (f .former q j)) g (λ j. omega arith);
 }
@@ -77,7 +73,7 @@ heads (suc (suc (suc n))) t = bitsField t ++ (replicationField t ++ redundancyFi
 
 -- The bytes of a reading.
 unfoldable soFar : Reading → List ℕ
-soFar r = heads (r .last) (r .cluster) ++ (nodeFields (r .cluster .nodes) ++ rowFields 0 (r .former))
+soFar r = heads (r .last) (r .cluster) ++ (nodeFields (r .cluster .nodes) ++ formerFields 0 (r .former))
 
 -- Once the numbers are read, their fields are there.
 heads-all : (last : ℕ) (t : Topology) → 3 ≤ last → heads last t ≡ bitsField t ++ (replicationField t ++ redundancyField t)
@@ -89,9 +85,9 @@ heads-all (suc (suc (suc n))) t h = refl
 
 -- Before that there is nothing else.
 early : (r : Reading) → Well r → r .last < 4 → soFar r ≡ heads (r .last) (r .cluster)
-unfolding soFar nodeFields rowFields
+unfolding soFar nodeFields formerFields
 early r w h =
-    ap₂ (λ (l : List Node) (F : Layout). heads (r .last) (r .cluster) ++ (nodeFields l ++ rowFields 0 F)) (w .no-nodes h) (w .no-rows (omega arith))
+    ap₂ (λ (l : List Node) (F : Layout). heads (r .last) (r .cluster) ++ (nodeFields l ++ formerFields 0 F)) (w .no-nodes h) (w .no-rows (omega arith))
     ∙ append-nil (heads (r .last) (r .cluster))
 
 -- One number more.
@@ -109,14 +105,14 @@ nodes-next : (r : Reading) (tag : ℕ) (n : Node) → Well r → 3 ≤ r .last �
 unfolding soFar readingWith withItem formerWith bitsField replicationField redundancyField
 nodes-next r tag n w a c e =
     let t : Topology = r .cluster in
-    ap₂ (λ (x y : List ℕ). x ++ (y ++ rowFields 0 (r .former))) (heads-all tag (withItem t (OneNode n)) (omega arith) ∙ sym (heads-all (r .last) t a)) (nodes-snoc (t .nodes) n)
-    ∙ regroup (heads (r .last) t) (nodeFields (t .nodes)) (nodeField n) (rowFields 0 (r .former)) no-fields
+    ap₂ (λ (x y : List ℕ). x ++ (y ++ formerFields 0 (r .former))) (heads-all tag (withItem t (OneNode n)) (omega arith) ∙ sym (heads-all (r .last) t a)) (nodes-snoc (t .nodes) n)
+    ∙ regroup (heads (r .last) t) (nodeFields (t .nodes)) (nodeField n) (formerFields 0 (r .former)) no-fields
   where
-    no-fields : rowFields 0 (r .former) ≡ []
-    no-fields = ap (rowFields 0) (w .no-rows c) ∙ rows-none
+    no-fields : formerFields 0 (r .former) ≡ []
+    no-fields = ap (formerFields 0) (w .no-rows c) ∙ rows-none
       where
-        rows-none : rowFields 0 [] ≡ []
-        rows-none = unfold rowFields in refl
+        rows-none : formerFields 0 [] ≡ []
+        rows-none = unfold formerFields in refl
 
     regroup : (x y z q : List ℕ) → q ≡ [] → x ++ (y ++ z ++ q) ≡ x ++ (y ++ q) ++ z
     regroup x y z q d =
@@ -124,15 +120,15 @@ nodes-next r tag n w a c e =
         ap (λ (k : List ℕ). x ++ (y ++ z ++ k)) d ∙ (g ∙ sym (ap (λ (k : List ℕ). x ++ (y ++ k) ++ z) d))
 
 -- One row more.
-rows-more : (r : Reading) (tag p : ℕ) (l : List ℕ) → 3 ≤ r .last → tag ≡ 5 → length (r .former) ≤ p → soFar (readingWith r tag (FormerRow p l)) ≡ soFar r ++ rowField p l
+rows-more : (r : Reading) (tag p : ℕ) (l : List ℕ) → 3 ≤ r .last → tag ≡ 5 → length (r .former) ≤ p → soFar (readingWith r tag (FormerRow p l)) ≡ soFar r ++ formerField p l
 unfolding soFar readingWith withItem formerWith
 rows-more r tag p l a e h =
     let t : Topology = r .cluster in
     ap₂ (λ (x y : List ℕ). x ++ (nodeFields (t .nodes) ++ y)) (heads-all tag t (omega arith) ∙ sym (heads-all (r .last) t a)) (rows-next p (r .former) l h)
     ∙ simp append-assoc
 
-row-some : (p : ℕ) (l : List ℕ) → 0 < length l → rowField p l ≡ field 5 (bytesOf 2 p ++ idBytes l)
-unfolding rowField
+row-some : (p : ℕ) (l : List ℕ) → 0 < length l → formerField p l ≡ field 5 (bytesOf 2 p ++ idBytes l)
+unfolding formerField
 row-some p [] h = absurd (omega arith)
 row-some p (i ∷ l) h = refl
 
@@ -151,29 +147,26 @@ module _ (s : List ℕ) (b : Bytes s) (r : Reading) (at tag start len : ℕ) (w 
       ∙ ap₂ (λ (x y : List ℕ). x ++ y) (sym (early r w (omega arith)))
       (ap₂ field (sym e) (bytes-there s start 1 b (omega (arith, f .ends)) ∙ ap (part s start) (sym one)))))
   soFar-next (node-next a c e) v =
-      let ten : len ≡ 10 = ten-bytes f e in
+      let long : len ≡ nodeWidth = node-length f e in
       ap (λ (i : Item). soFar (readingWith r tag i)) (item-node s start len tag e)
-      ∙ (nodes-next r tag (nodeIn s start) w a c e
-      ∙ ap (λ (x : List ℕ). soFar r ++ x) (node-field (omega (arith, f .ends)) ∙ ap₂ (λ (k n : ℕ). field k (part s start n)) (sym e) (sym ten)))
+      ∙ (nodes-next r tag (nodeAtByte s start) w a c e
+      ∙ ap (λ (x : List ℕ). soFar r ++ x) (node-field (omega (arith, f .ends)) ∙ ap₂ (λ (k n : ℕ). field k (part s start n)) (sym e) (sym long)))
     where
-      node-field : start + 10 ≤ length s → nodeField (nodeIn s start) ≡ field 4 (part s start 10)
-      node-field h = unfold nodeField in ap (field 4) (node-bytes s b start h)
+      node-field : start + nodeWidth ≤ length s → nodeField (nodeAtByte s start) ≡ field 4 (part s start nodeWidth)
+      node-field h = unfold nodeField in ap (field 4) (node-bytes s start b h)
   soFar-next (row-next a e) v =
       let p : ℕ = numberAt s start 2 in
       let m : ℕ = (len - 2) / 4 in
       let l : List ℕ = idsAt s (start + 2) m in
       let long = row-bytes f e in
-      let n = faults-none (r .cluster) (length (r .former)) (FormerRow p l) (ap (faultIn (r .cluster) (length (r .former))) (sym (item-five s start len tag e)) ∙ none) in
+      let n = sound-row (r .cluster) (length (r .former)) p l (ap (faultIn (r .cluster) (length (r .former))) (sym (item-five s start len tag e)) ∙ none) in
       ap (λ (i : Item). soFar (readingWith r tag i)) (item-five s start len tag e)
-      ∙ (rows-more r tag p l a e (not-passed p l (n .1))
+      ∙ (rows-more r tag p l a e (n .1)
       ∙ ap (λ (x : List ℕ). soFar r ++ x)
       (row-some p l (omega (arith, length-ids s (start + 2) m))
       ∙ ap₂ field (sym e)
-      (ap₂ (λ (x y : List ℕ). x ++ y) (bytes-there s start 2 b (omega (arith, f .ends))) (ids-bytes s b (start + 2) m (omega (arith, f .ends)))
+      (ap₂ (λ (x y : List ℕ). x ++ y) (bytes-there s start 2 b (omega (arith, f .ends))) (ids-back s (start + 2) m b (omega (arith, f .ends)))
       ∙ (sym (part-append s start 2 (4 * m)) ∙ ap (part s start) (sym (long .2))))))
-    where
-      not-passed : (p : ℕ) (l : List ℕ) → unordered (r .cluster) (length (r .former)) (FormerRow p l) ≡ false → length (r .former) ≤ p
-      not-passed p l h = ltb-false p (length (r .former)) (neither (ltb p (length (r .former))) (not (rising l)) (unfold unordered in h) .0)
 
 -- ---- what holds at every byte of the walk
 
@@ -183,11 +176,11 @@ record Sound (s : List ℕ) (at : ℕ) (r : Reading) : Type 0 where
   bytes : take at s ≡ soFar r
   inside : at ≤ length s
 
-sound-beginning : (s : List ℕ) → Sound s 0 beginning
-unfolding beginning soFar heads nodeFields rowFields
-sound-beginning s = record {
-  well = well-beginning;
-  fits = record { ids = λ b. omega arith; zones = λ b. omega arith; capacities = λ b. omega arith; former = λ p j. omega arith };
+sound-nothing : (s : List ℕ) → Sound s 0 nothingRead
+unfolding nothingRead soFar heads nodeFields formerFields
+sound-nothing s = record {
+  well = well-nothing;
+  fits = record { nodes = λ b. fits-none; former = λ p j. omega arith };
   bytes = refl;
   inside = omega arith;
 }
@@ -209,7 +202,7 @@ sound-step s b at r tag start len q e none =
     }
 
 -- At the end, after field 3, the whole is a record.
-sound-end : (s : List ℕ) (at : ℕ) (r : Reading) → Sound s at r → length s ≤ at → 3 ≤ r .last → IsRecord s (r .cluster) (upTo (partitions (r .cluster)) (r .former))
+sound-end : (s : List ℕ) (at : ℕ) (r : Reading) → Sound s at r → length s ≤ at → 3 ≤ r .last → IsClusterRecord s (r .cluster) (upTo (partitions (r .cluster)) (r .former))
 sound-end s at r q h l =
     let t : Topology = r .cluster in
     let P : ℕ = partitions t in
@@ -224,9 +217,7 @@ sound-end s at r q h l =
         few = λ p k. subst (λ (x : List ℕ). length x ≤ mostCopies) (sym (row-upTo P F p)) (w .row-few p);
       };
       fits = record {
-        ids = q .fits .ids;
-        zones = q .fits .zones;
-        capacities = q .fits .capacities;
+        nodes = q .fits .nodes;
         former = λ p j. subst (λ (x : List ℕ). getD x j 0 < 2 ^ 32) (sym (row-upTo P F p)) (q .fits .former p j);
       };
     }
@@ -240,24 +231,24 @@ sound-end s at r q h l =
 -- ---- the walk
 
 -- What an outcome accepts is a record.
-abbrev Accepts : List ℕ → Outcome → Type 0
-Accepts s o = o .refusal ≡ 0 → IsRecord s (o .cluster) (o .former)
+abbrev Accepts : List ℕ → ClusterRead → Type 0
+Accepts s o = o .refusal ≡ 0 → IsClusterRecord s (o .cluster) (o .former)
 
 accepts-end : (s : List ℕ) (at : ℕ) (r : Reading) → Sound s at r → length s ≤ at → Accepts s (ended s r)
 unfolding ended
 accepts-end s at r q h = go (ltb (r .last) 3) refl
   where
     go : (x : Bool) → ltb (r .last) 3 ≡ x
-        → Accepts s (cond x (refusedAt 7 (length s)) (record { refusal = 0; byte = 0; cluster = r .cluster; former = upTo (partitions (r .cluster)) (r .former) }))
+        → Accepts s (cond x (clusterRefused 7 (length s)) (record { refusal = 0; byte = 0; cluster = r .cluster; former = upTo (partitions (r .cluster)) (r .former) }))
     go true e z = absurd (omega arith)
     go false e z = sound-end s at r q h (ltb-false (r .last) 3 e)
 
 -- What a reading accepts is the record of the cluster and the former layout that it yields.
-pub reads-records : (s : List ℕ) → Bytes s → readCluster s .refusal ≡ 0 → IsRecord s (readCluster s .cluster) (readCluster s .former)
+pub reads-records : (s : List ℕ) → Bytes s → readCluster s .refusal ≡ 0 → IsClusterRecord s (readCluster s .cluster) (readCluster s .former)
 unfolding readCluster
 reads-records s b =
     walk-holds s (Sound s) (Accepts s) (λ at r q h. accepts-end s at r q h)
     (λ at r q refusal byte e z. absurd (omega (arith, refused-some s at (allowedAfter (r .last)) 0 refusal byte e)))
     (λ at r q tag start len e some z. absurd (some z))
     (λ at r q tag start len e none. sound-step s b at r tag start len q e none)
-    (length s) 0 beginning (omega arith) (sound-beginning s)
+    (length s) 0 nothingRead (omega arith) (sound-nothing s)

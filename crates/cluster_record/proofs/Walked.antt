@@ -4,26 +4,23 @@ use Prim.Native.Nat.{ℕ, _+_, _-_, _/_, _≤_, _<_}
 use mathlib.Core.Path.{_≡_, refl, sym, ap, ap₂, _∙_, subst}
 use mathlib.Core.List.{List}
 use native.Mathlib.Omega.{arith}
-use lib.Dec.{leb, ltb}
 use lib.ListN.{length, replicate}
-use borrow.Author.Tests.{ltb-false, leb-false, lt-ltb, le-ltb}
-use Rattle.cluster.specs.Terms.{mostBits, mostNodes, bufferRows, layoutCells, Topology, topology, partitions, Layout, mem, rising, cellsOf}
+use borrow.Author.Tests.{lt-ltb, le-ltb}
+use Rattle.cluster.specs.Terms.{mostBits, mostCopies, mostNodes, bufferRows, layoutCells, Topology, topology, partitions, Layout, cellsOf}
 use Rattle.cluster.specs.declared.Cluster.{Cluster}
 use Rattle.cluster.specs.TermsReading.{noNodes, slotsOf}
 use Rattle.cluster.proofs.CellLayouts.{length-cellsOf}
-use mathlib.Core.Bool.{not}
-use Rattle.fields.specs.RecordField.{numberAt, fieldAt, Whole}
+use Rattle.fields.specs.RecordField.{numberAt, rowWidth, fieldAt, Whole, nodeAtByte, idsAt}
 use Rattle.fields.specs.declared.Field.the-variants.{Body, Refused}
-use Rattle.fields.proofs.RecordField.{whole}
-use Rattle.cluster_record.specs.RecordClusterFaults.{OneNode, FormerRow, nodeIn, idsAt, itemIn, Reading, Outcome, beginning, allowedAfter, withItem, formerWith, readingWith, outside, unordered, tooMany, faultIn, refusedAt, ended, walk, readCluster}
-use Rattle.cluster_record.specs.RecordClusterAnswer.{answerOf}
-use Rattle.sums.proofs.Tests.{neither}
-use Rattle.cluster_record.proofs.Items.{item-node, item-five, faults-none}
-use Rattle.cluster_record.proofs.FieldFaults.{few-partitions, refused-some}
+use Rattle.fields.proofs.RecordField.{whole, refused-some}
+use Rattle.cluster_record.specs.RecordClusterFaults.{itemIn, Reading, ClusterRead, nothingRead, allowedAfter, withItem, formerWith, readingWith, faultIn, clusterRefused, ended, walk, readCluster}
+use Rattle.cluster_record.specs.RecordClusterAnswer.{clusterAnswer}
+use Rattle.cluster_record.proofs.Items.{item-node, item-five, sound-node, sound-row}
+use Rattle.cluster_record.proofs.FieldFaults.{few-partitions}
 use Rattle.cluster_record.proofs.Rows.{cells-none, cells-upTo}
 use Rattle.cluster.proofs.Slots.{topology-slots}
 use Rattle.cluster_record.proofs.Walks.{walk-ends, walk-refused, walk-fault, walk-on}
-use Rattle.cluster_record.proofs.Readings.{Kind, kind, tag-range, row-bytes, ten-bytes, Well, well-beginning, well-step}
+use Rattle.cluster_record.proofs.Readings.{Kind, kind, tag-range, row-bytes, Well, well-nothing, well-step}
 
 pub record Walked (s rows : List ℕ) (c : Cluster) (last next at : ℕ) : Type 0 where
   pub reading : Reading
@@ -37,16 +34,16 @@ pub record Walked (s rows : List ℕ) (c : Cluster) (last next at : ℕ) : Type 
   pub passed : next ≡ length (reading .former)
   pub cells : rows ≡ cellsOf (reading .former)
 
--- In the beginning.
+-- In the nothingRead.
 pub walked-start : (s rows : List ℕ) (c : Cluster) → c ≡ noNodes → rows ≡ replicate layoutCells 0 → Walked s rows c 0 0 0
-unfolding readCluster beginning slotsOf
+unfolding readCluster nothingRead slotsOf
 walked-start s rows c e z = record {
-  reading = beginning;
+  reading = nothingRead;
   fuel = length s;
   here = refl;
   enough = omega arith;
   inside = omega arith;
-  well = well-beginning;
+  well = well-nothing;
   tag-read = refl;
   slots = e;
   passed = refl;
@@ -70,7 +67,7 @@ module _ {s rows : List ℕ} {c : Cluster} {last next at : ℕ} (w : Walked s ro
   walked-length = ap length (w .cells) ∙ length-cellsOf (w .reading .former)
 
   -- At the end before field 3: refused.
-  pub walked-missing : length s ≤ at → last < 3 → readCluster s ≡ refusedAt 7 (length s)
+  pub walked-missing : length s ≤ at → last < 3 → readCluster s ≡ clusterRefused 7 (length s)
   unfolding ended
   walked-missing h l = w .here ∙ (walk-ends s at (w .fuel) (w .reading) h ∙ simp (lt-ltb (w .reading .last) 3 (omega (arith, w .tag-read))))
 
@@ -78,22 +75,22 @@ module _ {s rows : List ℕ} {c : Cluster} {last next at : ℕ} (w : Walked s ro
   walked-end : length s ≤ at → 3 ≤ last → readCluster s ≡ ended s (w .reading)
   walked-end h l = w .here ∙ walk-ends s at (w .fuel) (w .reading) h
 
-  pub walked-cluster : length s ≤ at → 3 ≤ last → record { refusal = 0; byte = 0; cluster = c } ≡ answerOf (readCluster s)
-  unfolding ended answerOf
+  pub walked-cluster : length s ≤ at → 3 ≤ last → record { refusal = 0; byte = 0; cluster = c } ≡ clusterAnswer (readCluster s)
+  unfolding ended clusterAnswer
   walked-cluster h l =
       ap (λ (k : Cluster). record { refusal = 0; byte = 0; cluster = k }) (w .slots)
-      ∙ sym (ap answerOf (walked-end h l) ∙ simp (le-ltb (w .reading .last) 3 (omega (arith, w .tag-read))))
+      ∙ sym (ap clusterAnswer (walked-end h l) ∙ simp (le-ltb (w .reading .last) 3 (omega (arith, w .tag-read))))
 
   pub walked-cells : length s ≤ at → 3 ≤ last → rows ≡ cellsOf (readCluster s .former)
   unfolding ended
   walked-cells h l =
       w .cells
       ∙ (sym (cells-upTo (partitions (w .reading .cluster)) (w .reading .former))
-      ∙ sym (ap (λ (o : Outcome). cellsOf (o .former)) (walked-end h l) ∙ simp (le-ltb (w .reading .last) 3 (omega (arith, w .tag-read)))))
+      ∙ sym (ap (λ (o : ClusterRead). cellsOf (o .former)) (walked-end h l) ∙ simp (le-ltb (w .reading .last) 3 (omega (arith, w .tag-read)))))
 
   -- A field that cannot be taken whole.
   pub walked-refused : at < length s → {refusal byte : ℕ} → fieldAt s at (allowedAfter last) 0 ≡ Refused refusal byte
-      → (1 ≤ refusal) × (readCluster s ≡ refusedAt refusal byte)
+      → (1 ≤ refusal) × (readCluster s ≡ clusterRefused refusal byte)
   walked-refused more {refusal} {byte} d =
       let e = ap (λ (l : ℕ). fieldAt s at (allowedAfter l) 0) (sym (w .tag-read)) ∙ d in (
         refused-some s at (allowedAfter (w .reading .last)) 0 refusal byte e .0,
@@ -122,7 +119,7 @@ module _ {s rows : List ℕ} {c : Cluster} {last next at tag start len : ℕ} (m
   pub walked-inside : (start ≡ at + 3) × (start + len ≤ length s)
   walked-inside = (walked-whole .begins, walked-whole .ends)
 
-  pub walked-row : tag ≡ 5 → (6 ≤ len) × (len ≤ 34)
+  pub walked-row : tag ≡ 5 → (rowWidth 1 ≤ len) × (len ≤ rowWidth mostCopies)
   walked-row q = let b = row-bytes walked-whole q in (b .0, b .1)
 
   module _ {x : ℕ} (g : x ≡ faultIn (topology c) next (itemIn s tag start len)) where
@@ -130,32 +127,29 @@ module _ {s rows : List ℕ} {c : Cluster} {last next at tag start len : ℕ} (m
     fault-read = sym (g ∙ ap₂ (λ (t : Topology) (n : ℕ). faultIn t n (itemIn s tag start len)) (walked-topology (m .walked)) (m .walked .passed))
 
     -- A fault of what it says.
-    pub walked-fault : (x ≡ 0 → ⊥) → readCluster s ≡ refusedAt x at
+    pub walked-fault : (x ≡ 0 → ⊥) → readCluster s ≡ clusterRefused x at
     walked-fault n =
         m .walked .here
         ∙ (walk-fault s at (m .walked .fuel) (m .walked .reading) (m .more) (m .walked .enough) tag start len field-read (λ z. n (sym fault-read ∙ z))
-        ∙ ap (λ (k : ℕ). refusedAt k at) fault-read)
+        ∙ ap (λ (k : ℕ). clusterRefused k at) fault-read)
 
     module _ (none : x ≡ 0) where
       -- What is known without fault: a node has a slot, and a row is one of the cluster's and not passed.
-      pub walked-room : tag ≡ 4 → (c .count < mostNodes) × (start + 10 ≤ length s)
-      unfolding slotsOf tooMany
+      pub walked-room : tag ≡ 4 → c .count < mostNodes
+      unfolding slotsOf
       walked-room q =
-          let n = faults-none (m .walked .reading .cluster) (length (m .walked .reading .former)) (OneNode (nodeIn s start))
-          (ap (faultIn (m .walked .reading .cluster) (length (m .walked .reading .former))) (sym (item-node s start len tag q)) ∙ (fault-read ∙ none)) in
-          let h : length (m .walked .reading .cluster .nodes) < mostNodes = leb-false mostNodes (length (m .walked .reading .cluster .nodes)) (n .2) in
-          (subst (λ (k : Cluster). k .count < mostNodes) (sym (m .walked .slots)) h, omega (arith, ten-bytes walked-whole q, walked-inside))
+          let t : Topology = m .walked .reading .cluster in
+          let next : ℕ = length (m .walked .reading .former) in
+          subst (λ (k : Cluster). k .count < mostNodes) (sym (m .walked .slots))
+          (sound-node t next (nodeAtByte s start) (ap (faultIn t next) (sym (item-node s start len tag q)) ∙ (fault-read ∙ none)) .1)
 
       row-tests : tag ≡ 5 → (numberAt s start 2 < partitions (m .walked .reading .cluster)) × (length (m .walked .reading .former) ≤ numberAt s start 2)
-      unfolding outside unordered
       row-tests q =
-          let p = numberAt s start 2 in
-          let l = idsAt s (start + 2) ((len - 2) / 4) in
-          let n = faults-none (m .walked .reading .cluster) (length (m .walked .reading .former)) (FormerRow p l)
-          (ap (faultIn (m .walked .reading .cluster) (length (m .walked .reading .former))) (sym (item-five s start len tag q)) ∙ (fault-read ∙ none)) in (
-            leb-false (partitions (m .walked .reading .cluster)) p (neither (leb (partitions (m .walked .reading .cluster)) p) (mem 0 l) (n .0) .0),
-            ltb-false p (length (m .walked .reading .former)) (neither (ltb p (length (m .walked .reading .former))) (not (rising l)) (n .1) .0),
-          )
+          let t : Topology = m .walked .reading .cluster in
+          let next : ℕ = length (m .walked .reading .former) in
+          let n = sound-row t next (numberAt s start 2) (idsAt s (start + 2) ((len - 2) / 4))
+          (ap (faultIn t next) (sym (item-five s start len tag q)) ∙ (fault-read ∙ none)) in
+          (n .0, n .1)
 
       pub walked-partition : tag ≡ 5 → numberAt s start 2 < bufferRows
       walked-partition q = omega (arith, row-tests q .0, few-partitions (m .walked .reading .cluster .bits) (m .walked .well .accepted .bits))

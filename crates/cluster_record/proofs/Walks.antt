@@ -13,7 +13,7 @@ use Rattle.fields.specs.RecordField.{fieldAt}
 use Rattle.fields.specs.declared.Field.{Field}
 use Rattle.fields.specs.declared.Field.the-variants.{Body, Refused}
 use Rattle.fields.proofs.RecordField.{whole}
-use Rattle.cluster_record.specs.RecordClusterFaults.{Reading, Outcome, refusedAt, allowedAfter, itemIn, readingWith, faultIn, ended, afterField, walk}
+use Rattle.cluster_record.specs.RecordClusterFaults.{Reading, ClusterRead, clusterRefused, allowedAfter, itemIn, readingWith, faultIn, ended, afterField, walk}
 
 module _ (s : List ℕ) (at k : ℕ) (r : Reading) where
   -- At the end of the bytes the walk has ended.
@@ -38,7 +38,7 @@ module _ (s : List ℕ) (at k : ℕ) (r : Reading) where
         (lt-leb (length s) at more)
 
     -- A field that cannot be taken whole ends the walk.
-    pub walk-refused : (refusal byte : ℕ) → fieldAt s at (allowedAfter (r .last)) 0 ≡ Refused refusal byte → walk k s at r ≡ refusedAt refusal byte
+    pub walk-refused : (refusal byte : ℕ) → fieldAt s at (allowedAfter (r .last)) 0 ≡ Refused refusal byte → walk k s at r ≡ clusterRefused refusal byte
     unfolding afterField
     walk-refused refusal byte e = walk-field ∙ ap (λ (f : Field). afterField (λ next q. walk (k - 1) s next q) s at r f) e
 
@@ -48,12 +48,12 @@ module _ (s : List ℕ) (at k : ℕ) (r : Reading) where
 
       -- A whole field with a fault ends the walk,
       pub walk-fault : (faultIn (r .cluster) (length (r .former)) (itemIn s tag start len) ≡ 0 → ⊥)
-          → walk k s at r ≡ refusedAt (faultIn (r .cluster) (length (r .former)) (itemIn s tag start len)) at
+          → walk k s at r ≡ clusterRefused (faultIn (r .cluster) (length (r .former)) (itemIn s tag start len)) at
       unfolding afterField
       walk-fault h =
           let n = faultIn (r .cluster) (length (r .former)) (itemIn s tag start len) in
           walk-body
-          ∙ ap (λ (b : Bool). cond b (walk (k - 1) s (start + len) (readingWith r tag (itemIn s tag start len))) (refusedAt n at)) (ne-eqb n 0 h)
+          ∙ ap (λ (b : Bool). cond b (walk (k - 1) s (start + len) (readingWith r tag (itemIn s tag start len))) (clusterRefused n at)) (ne-eqb n 0 h)
 
       -- and one without a fault is taken in, and the walk goes on after it.
       pub walk-on : faultIn (r .cluster) (length (r .former)) (itemIn s tag start len) ≡ 0
@@ -62,15 +62,36 @@ module _ (s : List ℕ) (at k : ℕ) (r : Reading) where
       walk-on h =
           let n = faultIn (r .cluster) (length (r .former)) (itemIn s tag start len) in
           walk-body
-          ∙ ap (λ (b : Bool). cond b (walk (k - 1) s (start + len) (readingWith r tag (itemIn s tag start len))) (refusedAt n at)) (eq-eqb n 0 h)
+          ∙ ap (λ (b : Bool). cond b (walk (k - 1) s (start + len) (readingWith r tag (itemIn s tag start len))) (clusterRefused n at)) (eq-eqb n 0 h)
+
+-- As many fields as there are bytes left are enough: the walk has ended by then, and any more change nothing.
+pub walk-enough : (s : List ℕ) (j k at : ℕ) (r : Reading) → length s ≤ at + j → length s ≤ at + k → walk j s at r ≡ walk k s at r
+walk-enough s zero k at r a b = walk-ends s at 0 r (omega arith) ∙ sym (walk-ends s at k r (omega arith))
+walk-enough s (suc j) k at r a b =
+    ⊎-elim (λ more. go (walk-enough s j) more (fieldAt s at (allowedAfter (r .last)) 0) refl)
+    (λ g. walk-ends s at (suc j) r g ∙ sym (walk-ends s at k r g)) (lt-or-ge at (length s))
+  where
+    go : ((k at : ℕ) (r : Reading) → length s ≤ at + j → length s ≤ at + k → walk j s at r ≡ walk k s at r) → at < length s
+        → (f : Field) → fieldAt s at (allowedAfter (r .last)) 0 ≡ f → walk (suc j) s at r ≡ walk k s at r
+    go rec more (Refused refusal byte) e = walk-refused s at (suc j) r more a refusal byte e ∙ sym (walk-refused s at k r more b refusal byte e)
+    go rec more (Body tag start len) e =
+        ⊎-elim
+        (λ none. let w = whole s at (allowedAfter (r .last)) 0 tag start len e in
+        let q = readingWith r tag (itemIn s tag start len) in
+        let d : suc j - 1 ≡ j = omega arith in
+        walk-on s at (suc j) r more a tag start len e none
+        ∙ (ap (λ (i : ℕ). walk i s (start + len) q) d
+        ∙ (rec (k - 1) (start + len) q (omega (arith, w .begins)) (omega (arith, w .begins)) ∙ sym (walk-on s at k r more b tag start len e none))))
+        (λ some. walk-fault s at (suc j) r more a tag start len e some ∙ sym (walk-fault s at k r more b tag start len e some))
+        (eq-or-ne (faultIn (r .cluster) (length (r .former)) (itemIn s tag start len)) 0)
 
 -- What holds at every byte that the walk comes to, and of every way in which it can end, holds of its outcome.
-module _ (s : List ℕ) (Q : ℕ → Reading → Type 0) (A : Outcome → Type 0)
+module _ (s : List ℕ) (Q : ℕ → Reading → Type 0) (A : ClusterRead → Type 0)
     (ends : (at : ℕ) (r : Reading) → Q at r → length s ≤ at → A (ended s r))
-    (refuses : (at : ℕ) (r : Reading) → Q at r → (refusal byte : ℕ) → fieldAt s at (allowedAfter (r .last)) 0 ≡ Refused refusal byte → A (refusedAt refusal byte))
+    (refuses : (at : ℕ) (r : Reading) → Q at r → (refusal byte : ℕ) → fieldAt s at (allowedAfter (r .last)) 0 ≡ Refused refusal byte → A (clusterRefused refusal byte))
     (faults : (at : ℕ) (r : Reading) → Q at r → (tag start len : ℕ) → fieldAt s at (allowedAfter (r .last)) 0 ≡ Body tag start len
     → (faultIn (r .cluster) (length (r .former)) (itemIn s tag start len) ≡ 0 → ⊥)
-    → A (refusedAt (faultIn (r .cluster) (length (r .former)) (itemIn s tag start len)) at))
+    → A (clusterRefused (faultIn (r .cluster) (length (r .former)) (itemIn s tag start len)) at))
     (goes-on : (at : ℕ) (r : Reading) → Q at r → (tag start len : ℕ) → fieldAt s at (allowedAfter (r .last)) 0 ≡ Body tag start len
     → faultIn (r .cluster) (length (r .former)) (itemIn s tag start len) ≡ 0 → Q (start + len) (readingWith r tag (itemIn s tag start len))) where
   pub walk-holds : (k at : ℕ) (r : Reading) → length s ≤ at + k → Q at r → A (walk k s at r)

@@ -1,3 +1,4 @@
 pub mod RecordCluster
-pub mod RecordClusterFaults
 pub mod RecordClusterAnswer
+pub mod RecordClusterClaims
+pub mod RecordClusterFaults

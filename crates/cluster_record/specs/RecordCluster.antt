@@ -7,8 +7,7 @@ use lib.ListN.{getD}
 use Rattle.cluster.specs.Terms.{mostNodes, bufferRows, Topology, Layout, nodeAt, row, IsFormer}
 use Rattle.cluster.specs.declared.Node.{Node}
 use Rattle.cluster.specs.TermsReading.{Accepted}
-unfoldable pub use Rattle.fields.specs.RecordField.{idBytes}
-use Rattle.fields.specs.RecordField.{bytesOf, field}
+use Rattle.fields.specs.RecordField.{bytesOf, nodeWidth, nodeBytes, FitsNode, headWidth, longestField, field, idBytes}
 
 -- "1 bits (1 byte), 2 replication (1), 3 redundancy (1)"
 unfoldable pub bitsField : Topology → List ℕ
@@ -22,7 +21,7 @@ redundancyField t = field 3 (bytesOf 1 (t .redundancy))
 
 -- "4 box (10: id 4, zone 2, capacity 4)"
 unfoldable pub nodeField : Node → List ℕ
-nodeField n = field 4 (bytesOf 4 (n .id) ++ (bytesOf 2 (n .zone) ++ bytesOf 4 (n .capacity)))
+nodeField n = field 4 (nodeBytes n)
 
 -- A field for each node.
 unfoldable pub nodeFields : List Node → List ℕ
@@ -30,37 +29,35 @@ nodeFields [] = []
 nodeFields (n ∷ ns) = nodeField n ++ nodeFields ns
 
 -- "5 former row (2 + 4m: partition 2, then m rising ids, m from 1 to 8)"; "A partition without a row had no former copies."
-unfoldable pub rowField : ℕ → List ℕ → List ℕ
-rowField p [] = []
-rowField p (i ∷ l) = field 5 (bytesOf 2 p ++ idBytes (i ∷ l))
+unfoldable pub formerField : ℕ → List ℕ → List ℕ
+formerField p [] = []
+formerField p (i ∷ l) = field 5 (bytesOf 2 p ++ idBytes (i ∷ l))
 
 -- "by rising partition": the fields of the rows of the partitions p, p + 1 and on.
-unfoldable pub rowFields : ℕ → Layout → List ℕ
-rowFields p [] = []
-rowFields p (r ∷ rs) = rowField p r ++ rowFields (suc p) rs
+unfoldable pub formerFields : ℕ → Layout → List ℕ
+formerFields p [] = []
+formerFields p (r ∷ rs) = formerField p r ++ formerFields (suc p) rs
 
 -- "Cluster record: 1 bits, 2 replication, 3 redundancy, once each in this order; then 4 box, by rising id; then 5 former row, by rising partition."
 unfoldable pub clusterRecord : Topology → Layout → List ℕ
-clusterRecord t F = bitsField t ++ (replicationField t ++ (redundancyField t ++ (nodeFields (t .nodes) ++ rowFields 0 F)))
+clusterRecord t F = bitsField t ++ (replicationField t ++ (redundancyField t ++ (nodeFields (t .nodes) ++ formerFields 0 F)))
 
--- The numbers that a record holds fit the bytes that it has for them: "id 4, zone 2, capacity 4", and four for each id of a row.
+-- The numbers that a record holds fit the bytes that it has for them: those of a node, and four for each id of a row.
 pub record FitsRecord (t : Topology) (F : Layout) : Type 0 where
-  pub ids : (b : ℕ) → nodeAt t b .id < 2 ^ 32
-  pub zones : (b : ℕ) → nodeAt t b .zone < 2 ^ 16
-  pub capacities : (b : ℕ) → nodeAt t b .capacity < 2 ^ 32
+  pub nodes : (b : ℕ) → FitsNode (nodeAt t b)
   pub former : (p j : ℕ) → getD (row F p) j 0 < 2 ^ 32
 
 -- s is the record of an accepted cluster and its former layout.
-pub record IsRecord (s : List ℕ) (t : Topology) (F : Layout) : Type 0 where
+pub record IsClusterRecord (s : List ℕ) (t : Topology) (F : Layout) : Type 0 where
   pub bytes : s ≡ clusterRecord t F
   pub accepted : Accepted t
   pub former : IsFormer t F
   pub fits : FitsRecord t F
 
--- The bytes of the longest record: three fields of 4 bytes, one of 13 for each of 32 nodes, one of 37 for each of 256 rows. It is 9,900.
+-- The bytes of the longest record: three fields of one byte, one for each of 32 nodes, and the longest row for each of 256. It is 9,900.
 abbrev pub longestRecord : ℕ
-longestRecord = 3 * 4 + mostNodes * 13 + bufferRows * 37
+longestRecord = 3 * (headWidth + 1) + mostNodes * (headWidth + nodeWidth) + bufferRows * longestField
 
 -- The bytes that decide every reading: those of the longest record and of one more field. It is 9,937.
 abbrev pub decidingBytes : ℕ
-decidingBytes = longestRecord + 37
+decidingBytes = longestRecord + longestField

@@ -2,16 +2,14 @@
 -- document 01. "Box" in the papers is a node here.
 -- Assumes nothing.
 use Prim.Native.Nat.{ℕ, zero, suc, _+_, _-_, _/_}
-use mathlib.Core.Bool.{Bool, false, not, _||_, cond}
+use mathlib.Core.Bool.{not, _||_, cond}
 use mathlib.Core.List.{List, [], _∷_, _++_}
 use lib.Dec.{ltb, leb, eqb}
 use lib.ListN.{length, replicate}
-use Rattle.sets.specs.ModelBits.{withOf}
 use Rattle.cluster.specs.Terms.{mostBits, mostCopies, mostNodes, Topology, topology, partitions, Layout, idsOf, mem, rising}
 use Rattle.cluster.specs.declared.Node.{Node}
 use Rattle.cluster.specs.TermsReading.{noNodes}
-unfoldable pub use Rattle.fields.specs.RecordField.{idsAt}
-use Rattle.fields.specs.RecordField.{numberAt, fieldAt}
+use Rattle.fields.specs.RecordField.{numberAt, nodeAtByte, fieldAt, idsAt}
 use Rattle.fields.specs.declared.Field.{Field}
 use Rattle.fields.specs.declared.Field.the-variants.{Body, Refused}
 
@@ -25,17 +23,13 @@ pub data Item : Type 0 where
   OneNode : Node → Item
   FormerRow : ℕ → List ℕ → Item
 
--- "id 4, zone 2, capacity 4"
-unfoldable pub nodeIn : List ℕ → ℕ → Node
-nodeIn s start = record { id = numberAt s start 4; zone = numberAt s (start + 4) 2; capacity = numberAt s (start + 6) 4 }
-
 -- The values in a body of s that begins at byte `start`, by the field's tag.
 unfoldable pub itemIn : List ℕ → ℕ → ℕ → ℕ → Item
 itemIn s tag start len =
     cond (eqb tag 1) (BitsOf (numberAt s start 1))
     (cond (eqb tag 2) (ReplicationOf (numberAt s start 1))
     (cond (eqb tag 3) (RedundancyOf (numberAt s start 1))
-    (cond (eqb tag 4) (OneNode (nodeIn s start))
+    (cond (eqb tag 4) (OneNode (nodeAtByte s start))
     -- "2 + 4m: partition 2, then m rising ids"
     (FormerRow (numberAt s start 2) (idsAt s (start + 2) ((len - 2) / 4))))))
 
@@ -47,14 +41,14 @@ pub record Reading : Type 0 where
   pub cluster : Topology
   pub former : Layout
 
-unfoldable pub beginning : Reading
-beginning = record { last = 0; cluster = topology noNodes; former = [] }
+-- Before the first field: the cluster with no nodes.
+unfoldable pub nothingRead : Reading
+nothingRead = record { last = 0; cluster = topology noNodes; former = [] }
 
--- "1 bits, 2 replication, 3 redundancy, once each in this order; then 4 box; then 5 former row": the set of the tags allowed next.
-unfoldable pub allowedAfter : ℕ → ℕ
+-- "1 bits, 2 replication, 3 redundancy, once each in this order; then 4 box; then 5 former row": the tags allowed after the last one, 0 for none yet.
+unfoldable pub allowedAfter : ℕ → List ℕ
 allowedAfter last =
-    cond (ltb last 3) (withOf 0 (last + 1))
-    (cond (ltb last 5) (withOf (withOf 0 4) 5) (withOf 0 5))
+    cond (ltb last 3) ((last + 1) ∷ []) (cond (ltb last 5) (4 ∷ 5 ∷ []) (5 ∷ []))
 
 -- A cluster with what a field says.
 unfoldable pub withItem : Topology → Item → Topology
@@ -76,78 +70,61 @@ formerWith F (RedundancyOf k) = F
 formerWith F (OneNode n) = F
 formerWith F (FormerRow p ids) = upTo p F ++ (ids ∷ [])
 
+-- What was read so far, with a field of this tag.
 unfoldable pub readingWith : Reading → ℕ → Item → Reading
 readingWith r tag i = record { last = tag; cluster = withItem (r .cluster) i; former = formerWith (r .former) i }
 
 -- ---- the faults of a field
-
--- "4, a value outside its range (id 0 and partition at or above P included)": k 0 to 8, R 1 to 8, Z 1 to R.
-unfoldable pub outside : Topology → Item → Bool
-outside t (BitsOf k) = ltb mostBits k
-outside t (ReplicationOf k) = eqb k 0 || ltb mostCopies k
-outside t (RedundancyOf k) = eqb k 0 || ltb (t .replication) k
-outside t (OneNode n) = eqb (n .id) 0
-outside t (FormerRow p ids) = leb (partitions t) p || mem 0 ids
 
 -- The last number of a list, d where it is empty.
 unfoldable pub lastOf : ℕ → List ℕ → ℕ
 lastOf d [] = d
 lastOf d (x ∷ xs) = lastOf x xs
 
--- "5, id or partition not rising": the partitions before `next` are passed.
-unfoldable pub unordered : Topology → ℕ → Item → Bool
-unordered t next (BitsOf k) = false
-unordered t next (ReplicationOf k) = false
-unordered t next (RedundancyOf k) = false
-unordered t next (OneNode n) = leb (n .id) (lastOf 0 (idsOf (t .nodes)))
-unordered t next (FormerRow p ids) = ltb p next || not (rising ids)
-
--- "6, a 33rd box"
-unfoldable pub tooMany : Topology → Item → Bool
-tooMany t (BitsOf k) = false
-tooMany t (ReplicationOf k) = false
-tooMany t (RedundancyOf k) = false
-tooMany t (OneNode n) = leb mostNodes (length (t .nodes))
-tooMany t (FormerRow p ids) = false
-
--- The first fault of what a field says; 0 where there is none.
+-- "4, a value outside its range (id 0 and partition at or above P included); 5, id or partition not rising; 6, a 33rd box": the first fault of
+-- what a field says, 0 where there is none. The ranges: k 0 to 8, R 1 to 8, Z 1 to R; the partitions before `next` are passed.
 unfoldable pub faultIn : Topology → ℕ → Item → ℕ
-faultIn t next i = cond (outside t i) 4 (cond (unordered t next i) 5 (cond (tooMany t i) 6 0))
+faultIn t next (BitsOf k) = cond (ltb mostBits k) 4 0
+faultIn t next (ReplicationOf k) = cond (eqb k 0 || ltb mostCopies k) 4 0
+faultIn t next (RedundancyOf k) = cond (eqb k 0 || ltb (t .replication) k) 4 0
+faultIn t next (OneNode n) =
+    cond (eqb (n .id) 0) 4 (cond (leb (n .id) (lastOf 0 (idsOf (t .nodes)))) 5 (cond (leb mostNodes (length (t .nodes))) 6 0))
+faultIn t next (FormerRow p ids) = cond (leb (partitions t) p || mem 0 ids) 4 (cond (ltb p next || not (rising ids)) 5 0)
 
 -- ---- the walk
 
 -- What a reading yields: the refusal, 0 for none, with its byte; the cluster and its former layout.
-pub record Outcome : Type 0 where
+pub record ClusterRead : Type 0 where
   pub refusal : ℕ
   pub byte : ℕ
   pub cluster : Topology
   pub former : Layout
 
 -- "a refused cluster reading yields the cluster with no boxes"
-abbrev pub refusedAt : ℕ → ℕ → Outcome
-refusedAt refusal byte = record { refusal = refusal; byte = byte; cluster = topology noNodes; former = [] }
+abbrev pub clusterRefused : ℕ → ℕ → ClusterRead
+clusterRefused refusal byte = record { refusal = refusal; byte = byte; cluster = topology noNodes; former = [] }
 
 -- At the end of the bytes: "7: the end comes before field 3 is read; the byte given is the record's length." Else the record is accepted.
-unfoldable pub ended : List ℕ → Reading → Outcome
+unfoldable pub ended : List ℕ → Reading → ClusterRead
 ended s r =
-    cond (ltb (r .last) 3) (refusedAt 7 (length s))
+    cond (ltb (r .last) 3) (clusterRefused 7 (length s))
     (record { refusal = 0; byte = 0; cluster = r .cluster; former = upTo (partitions (r .cluster)) (r .former) })
 
 -- "field by field, the first fault decides", with the byte at which the field begins; without fault the reading goes on after the field.
-unfoldable pub afterField : (ℕ → Reading → Outcome) → List ℕ → ℕ → Reading → Field → Outcome
-afterField go s at r (Refused refusal byte) = refusedAt refusal byte
+unfoldable pub afterField : (ℕ → Reading → ClusterRead) → List ℕ → ℕ → Reading → Field → ClusterRead
+afterField go s at r (Refused refusal byte) = clusterRefused refusal byte
 afterField go s at r (Body tag start len) =
-    cond (eqb (faultIn (r .cluster) (length (r .former)) (itemIn s tag start len)) 0)
-    (go (start + len) (readingWith r tag (itemIn s tag start len)))
-    (refusedAt (faultIn (r .cluster) (length (r .former)) (itemIn s tag start len)) at)
+    let item = itemIn s tag start len in
+    let fault = faultIn (r .cluster) (length (r .former)) item in
+    cond (eqb fault 0) (go (start + len) (readingWith r tag item)) (clusterRefused fault at)
 
--- The walk over the fields from byte `at` on, k fields at most; as many as there are bytes are enough.
-unfoldable pub walk : ℕ → List ℕ → ℕ → Reading → Outcome
+-- The walk over the fields from byte `at` on, k fields at most; as many as there are bytes are enough (`walk-enough`).
+unfoldable pub walk : ℕ → List ℕ → ℕ → Reading → ClusterRead
 walk zero s at r = ended s r
 walk (suc k) s at r =
     cond (leb (length s) at) (ended s r)
     (afterField (λ next q. walk k s next q) s at r (fieldAt s at (allowedAfter (r .last)) 0))
 
 -- Reading the record s into a buffer that is long enough.
-unfoldable pub readCluster : List ℕ → Outcome
-readCluster s = walk (length s) s 0 beginning
+unfoldable pub readCluster : List ℕ → ClusterRead
+readCluster s = walk (length s) s 0 nothingRead

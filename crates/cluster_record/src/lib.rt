@@ -2,14 +2,14 @@
 ghost use mathlib.Core.Path.{_≡_};
 ghost use lib.ListN.{replicate};
 ghost use Rattle.cluster.specs.Terms.{layoutCells, cellsOf};
-ghost use Rattle.cluster_record.specs.RecordClusterFaults.{allowedAfter, refusedAt, readCluster};
-ghost use Rattle.cluster_record.specs.RecordClusterAnswer.{answerOf, readAnswer, formerAfter};
+ghost use Rattle.fields.specs.ModelTags.{tagsOf};
+ghost use Rattle.cluster_record.specs.RecordClusterFaults.{allowedAfter, clusterRefused, readCluster};
+ghost use Rattle.cluster_record.specs.RecordClusterAnswer.{clusterAnswer, readClusterOf, formerRead};
 use cluster::Cluster;
 use cluster::refusal;
 use fields::Field;
 
 mod faults;
-mod row_faults;
 mod taking;
 
 // What a reading yields: the refusal, 0 for none, with its byte, and the cluster.
@@ -21,7 +21,7 @@ pub struct ReadCluster {
 
 // A refused reading yields the cluster with no nodes.
 fn refused(refusal: u32, byte: usize) -> ReadCluster
-    ensures { λ r. ⌜ r ≡ answerOf (refusedAt refusal byte) ⌝ }
+    ensures { λ r. ⌜ r ≡ clusterAnswer (clusterRefused refusal byte) ⌝ }
 {
     ReadCluster {
         refusal,
@@ -32,7 +32,7 @@ fn refused(refusal: u32, byte: usize) -> ReadCluster
 
 // The set of the tags that are allowed after a tag, 0 for none yet.
 fn allowed_after(last: u32) -> u32
-    ensures { λ r. ⌜ r ≡ allowedAfter last ⌝ }
+    ensures { λ r. ⌜ tagsOf r ≡ allowedAfter last ⌝ }
 {
     if last < 3 {
         return sets::with(0, last + 1);
@@ -46,7 +46,7 @@ fn allowed_after(last: u32) -> u32
 // Walks the fields, and gathers the former rows in cells that are zero.
 fn walk(bytes: &[u8], rows: &mut [u32]) -> ReadCluster
     requires { ⌜ now rows ≡ replicate layoutCells 0 ⌝ }
-    ensures { λ r. ⌜ (r ≡ answerOf (readCluster (now (bytes .entry))))
+    ensures { λ r. ⌜ (r ≡ clusterAnswer (readCluster (now (bytes .entry))))
         × (r .refusal ≡ 0 → now (rows .exit) ≡ cellsOf (readCluster (now (bytes .entry)) .former)) ⌝ }
 {
     let mut c = Cluster::none();
@@ -77,11 +77,11 @@ fn walk(bytes: &[u8], rows: &mut [u32]) -> ReadCluster
     }
 }
 
-// Reads a cluster record. The former layout goes into the first 2,048 lent cells, all of them or, where the reading is
+// ReadsCluster a cluster record. The former layout goes into the first 2,048 lent cells, all of them or, where the reading is
 // refused, none.
 pub fn read_cluster(bytes: &[u8], former: &mut [u32]) -> ReadCluster
-    ensures { λ r. ⌜ (r ≡ readAnswer (now (bytes .entry)) (now (former .entry)))
-        × (now (former .exit) ≡ formerAfter (now (bytes .entry)) (now (former .entry))) ⌝ }
+    ensures { λ r. ⌜ (r ≡ readClusterOf (now (bytes .entry)) (now (former .entry)))
+        × (now (former .exit) ≡ formerRead (now (bytes .entry)) (now (former .entry))) ⌝ }
 {
     if former.len() < Cluster::CELLS {
         return refused(refusal::BUFFER, 0);

@@ -4,16 +4,15 @@ ghost use mathlib.Core.List.{_++_};
 ghost use Prim.Native.Nat.{ℕ, _+_, _-_, _*_, _/_, _≤_, _<_};
 ghost use lib.ListN.{length, drop};
 ghost use Rattle.cells.specs.ModelCells.{put};
-ghost use Rattle.cluster.specs.Terms.{mostNodes, rowCells, bufferRows, layoutCells, Topology, Layout, cellsOf};
-ghost use Rattle.fields.specs.RecordField.{numberAt};
+ghost use Rattle.cluster.specs.Terms.{mostCopies, mostNodes, rowCells, bufferRows, layoutCells, Topology, Layout, cellsOf};
+ghost use Rattle.fields.specs.RecordField.{numberAt, rowWidth};
 ghost use Rattle.cluster_record.specs.RecordClusterFaults.{itemIn, withItem, formerWith};
 ghost use Rattle.cluster.specs.TermsReading.{slotsOf};
 use cluster::Cluster;
-use cluster::Node;
 
 // A cluster with what a field says of it.
 pub(crate) fn cluster_with(bytes: &[u8], c: Cluster, tag: u8, start: usize) -> Cluster
-    requires { ⌜ (tag ≡ 4 → (c .count < mostNodes) × (start + 10 ≤ length (now bytes))) ⌝ }
+    requires { ⌜ (tag ≡ 4 → c .count < mostNodes) ⌝ }
     ensures { λ r. ⌜ ((t : Topology) (len : ℕ) → c ≡ slotsOf t → r ≡ slotsOf (withItem t (itemIn (now (bytes .entry)) tag start len))) ⌝ }
 {
     let mut next = c;
@@ -31,11 +30,7 @@ pub(crate) fn cluster_with(bytes: &[u8], c: Cluster, tag: u8, start: usize) -> C
     }
     if tag == 4 {
         let at = c.count;
-        next.nodes[at] = Node {
-            id: fields::word_at(bytes, start),
-            zone: fields::pair_at(bytes, start + 4) as u16,
-            capacity: fields::word_at(bytes, start + 6),
-        };
+        next.nodes[at] = fields::node_at(bytes, start);
         next.count = at + 1;
         return next;
     }
@@ -63,7 +58,7 @@ pub(crate) fn take_row(
     start: usize,
     len: usize,
 ) -> usize
-    requires { ⌜ (tag ≡ 5 → (length (now rows) ≡ layoutCells) × (numberAt (now bytes) start 2 < bufferRows) × (6 ≤ len) × (len ≤ 34) × (start + len ≤ length (now bytes))) ⌝ }
+    requires { ⌜ (tag ≡ 5 → (length (now rows) ≡ layoutCells) × (numberAt (now bytes) start 2 < bufferRows) × (rowWidth 1 ≤ len) × (len ≤ rowWidth mostCopies) × (start + len ≤ length (now bytes))) ⌝ }
     ensures { λ r. ⌜ ((F : Layout) → 1 ≤ tag → tag ≤ 5 → now (rows .entry) ≡ cellsOf F → next ≡ length F → (tag ≡ 5 → length F ≤ numberAt (now (bytes .entry)) start 2)
         → (now (rows .exit) ≡ cellsOf (formerWith F (itemIn (now (bytes .entry)) tag start len)))
         × (r ≡ length (formerWith F (itemIn (now (bytes .entry)) tag start len)))) ⌝ }

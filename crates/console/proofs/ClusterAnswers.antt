@@ -9,7 +9,7 @@ use lib.Seq.{drop-drop}
 use borrow.Author.Tests.{lt-ltb, le-ltb}
 use Rattle.cluster.specs.Terms.{Topology, noNode}
 use Rattle.cluster.specs.TermsReading.{slotsOf}
-use Rattle.cluster_record.specs.RecordClusterAnswer.{outcomeOf, answerOf, readAnswer, formerAfter}
+use Rattle.cluster_record.specs.RecordClusterAnswer.{clusterOutcome, clusterAnswer, readClusterOf, formerRead}
 use Rattle.cluster_record.specs.declared.ReadCluster.{ReadCluster}
 use Rattle.cluster_record.proofs.Answers.{long-answer}
 use Rattle.console.specs.TermsConsole.{answered, reading, nodeCells, clusterNumbers, readClusterRefusal, readClusterFormer, readClusterAnswer}
@@ -20,11 +20,11 @@ slots-few : (t : Topology) → length (slotsOf t .nodes) ≡ 32 → slotsOf t .c
 unfolding slotsOf
 slots-few t e = omega (arith, length-append (t .nodes) (replicate (32 - length (t .nodes)) noNode), length-replicate (32 - length (t .nodes)) noNode)
 
-module _ (s former : List ℕ) (r : ReadCluster) (e-read : r ≡ readAnswer s former) where
+module _ (s former : List ℕ) (r : ReadCluster) (e-read : r ≡ readClusterOf s former) where
   pub read-few : length (r .cluster .nodes) ≡ 32 → r .cluster .count ≤ 32
-  unfolding readAnswer answerOf
+  unfolding readClusterOf clusterAnswer
   read-few =
-      subst (λ (x : ReadCluster). length (x .cluster .nodes) ≡ 32 → x .cluster .count ≤ 32) (sym e-read) (slots-few (outcomeOf s former .cluster))
+      subst (λ (x : ReadCluster). length (x .cluster .nodes) ≡ 32 → x .cluster .count ≤ 32) (sym e-read) (slots-few (clusterOutcome s former .cluster))
 
   -- Cells that are long enough leave the reading to the record.
   pub read-whole : 2048 ≤ length former → r ≡ reading s
@@ -37,7 +37,7 @@ module _ (s former answer : List ℕ) where
   unfolding readClusterRefusal readClusterFormer readClusterAnswer answered
   read-cluster-short h = let t = lt-ltb (length answer) 102 h in (simp t, simp t, simp t)
 
-  module _ (r : ReadCluster) (left : List ℕ) (high low : ℕ) (e-read : r ≡ readAnswer s former) (e-left : left ≡ formerAfter s former)
+  module _ (r : ReadCluster) (left : List ℕ) (high low : ℕ) (e-read : r ≡ readClusterOf s former) (e-left : left ≡ formerRead s former)
       (e-high : high ≡ r .byte / 2 ^ 32) (e-low : low ≡ r .byte % 2 ^ 32) where
     abbrev headAt : ReadCluster → ℕ → ℕ → List ℕ
     headAt x h l = h ∷ l ∷ x .cluster .bits ∷ x .cluster .replication ∷ x .cluster .redundancy ∷ x .cluster .count ∷ []
@@ -61,5 +61,5 @@ module _ (s former answer : List ℕ) where
           simp t e-left,
           numbers r high low cells (e ∙ answered-long 6 (headAt r high low) answer (omega arith))
               ∙ ((λ i. headAt (e-read i) (e1 i) (e2 i) ++ nodeCells (e-read i .cluster .nodes) ++ drop 102 answer)
-              ∙ sym (answered-long 102 (clusterNumbers (readAnswer s former)) answer h)),
+              ∙ sym (answered-long 102 (clusterNumbers (readClusterOf s former)) answer h)),
         )

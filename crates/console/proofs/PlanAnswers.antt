@@ -11,7 +11,7 @@ use borrow.Author.Tests.{lt-ltb, le-ltb, eq-eqb, ne-eqb, eqb-true}
 use Rattle.sums.specs.TermsSums.{one-if}
 use Rattle.cluster.specs.Terms.{cellsOf}
 use Rattle.cluster_record.specs.RecordClusterFaults.{readCluster}
-use Rattle.cluster_record.specs.RecordClusterAnswer.{answerOf, readAnswer, formerAfter}
+use Rattle.cluster_record.specs.RecordClusterAnswer.{clusterAnswer, readClusterOf, formerRead}
 use Rattle.cluster_record.specs.declared.ReadCluster.{ReadCluster}
 use Rattle.cluster_record.proofs.Answers.{accepted-former}
 use Rattle.planner.specs.TermsPlan.{refusedWith, plannedOf, assignmentAfter, scratchAfter}
@@ -58,13 +58,13 @@ module _ (s : List ℕ) (allowance : ℕ) (assignment scratch answer : List ℕ)
   zeros-long : 2048 ≤ length zeros
   zeros-long = omega (arith, length-replicate {A = ℕ} 2048 0)
 
-  module _ (r : ReadCluster) (f : List ℕ) (e-read : r ≡ readAnswer s zeros) (e-former : f ≡ formerAfter s zeros) where
+  module _ (r : ReadCluster) (f : List ℕ) (e-read : r ≡ readClusterOf s zeros) (e-former : f ≡ formerRead s zeros) where
     is-reading : r ≡ reading s
     is-reading = read-whole s zeros r e-read zeros-long
 
     -- An accepted record's former layout is in the cells.
     is-former : reading s .refusal ≡ 0 → f ≡ formerIn s
-    unfolding reading answerOf formerIn
+    unfolding reading clusterAnswer formerIn
     is-former z =
         e-former
         ∙ (accepted-former s zeros zeros-long z

@@ -5,7 +5,7 @@ use mathlib.Core.Path.{_≡_, ap, _∙_}
 use mathlib.Core.List.{List, [], _∷_}
 use lib.ListN.{length}
 use borrow.Author.Tests.{lt-ltb, le-ltb}
-use Rattle.layout_record.specs.RecordLayoutAnswer.{readAnswer as readLayoutOf, assignmentAfter, writeAnswer, outAfter}
+use Rattle.layout_record.specs.RecordLayoutAnswer.{readLayoutOf, assignmentRead, writeAnswer, outAfter}
 use Rattle.layout_record.specs.declared.Numbers.{Numbers}
 use Rattle.layout_record.specs.declared.ReadLayout.{ReadLayout}
 use Rattle.layout_record.specs.declared.Written.{Written}
@@ -19,7 +19,7 @@ module _ (s assignment answer : List ℕ) where
   unfolding readLayoutRefusal readLayoutAssignment readLayoutAnswer answered
   read-layout-short h = let t = lt-ltb (length answer) 8 h in (simp t, simp t, simp t)
 
-  module _ (r : ReadLayout) (left : List ℕ) (high low : ℕ) (e-read : r ≡ readLayoutOf s assignment) (e-left : left ≡ assignmentAfter s assignment)
+  module _ (r : ReadLayout) (left : List ℕ) (high low : ℕ) (e-read : r ≡ readLayoutOf s assignment) (e-left : left ≡ assignmentRead s assignment)
       (e-high : high ≡ r .byte / 2 ^ 32) (e-low : low ≡ r .byte % 2 ^ 32) where
     abbrev cellsAt : ReadLayout → ℕ → ℕ → List ℕ
     cellsAt x h l =

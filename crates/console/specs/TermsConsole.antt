@@ -10,9 +10,9 @@ use Rattle.sums.specs.TermsSums.{one-if}
 use Rattle.cluster.specs.Terms.{rowCells, rowAt, cellsOf}
 use Rattle.cluster.specs.declared.Node.{Node}
 use Rattle.cluster_record.specs.RecordClusterFaults.{readCluster}
-use Rattle.cluster_record.specs.RecordClusterAnswer.{answerOf, readAnswer, formerAfter}
+use Rattle.cluster_record.specs.RecordClusterAnswer.{clusterAnswer, readClusterOf, formerRead}
 use Rattle.cluster_record.specs.declared.ReadCluster.{ReadCluster}
-use Rattle.layout_record.specs.RecordLayoutAnswer.{readAnswer as readLayoutOf, assignmentAfter, writeAnswer, outAfter}
+use Rattle.layout_record.specs.RecordLayoutAnswer.{readLayoutOf, assignmentRead, writeAnswer, outAfter}
 use Rattle.layout_record.specs.declared.Numbers.{Numbers}
 use Rattle.layout_record.specs.declared.ReadLayout.{ReadLayout}
 use Rattle.layouts.specs.TermsCheck.{fault, checkOf}
@@ -51,13 +51,13 @@ clusterNumbers r =
     ++ (r .cluster .bits ∷ r .cluster .replication ∷ r .cluster .redundancy ∷ r .cluster .count ∷ nodeCells (r .cluster .nodes))
 
 unfoldable pub readClusterRefusal : List ℕ → List ℕ → List ℕ → ℕ
-readClusterRefusal s former answer = unlessShort 102 answer 8 (readAnswer s former .refusal)
+readClusterRefusal s former answer = unlessShort 102 answer 8 (readClusterOf s former .refusal)
 
 unfoldable pub readClusterFormer : List ℕ → List ℕ → List ℕ → List ℕ
-readClusterFormer s former answer = unlessShort 102 answer former (formerAfter s former)
+readClusterFormer s former answer = unlessShort 102 answer former (formerRead s former)
 
 unfoldable pub readClusterAnswer : List ℕ → List ℕ → List ℕ → List ℕ
-readClusterAnswer s former answer = answered 102 (clusterNumbers (readAnswer s former)) answer
+readClusterAnswer s former answer = answered 102 (clusterNumbers (readClusterOf s former)) answer
 
 -- ---- reading a layout
 
@@ -71,7 +71,7 @@ unfoldable pub readLayoutRefusal : List ℕ → List ℕ → List ℕ → ℕ
 readLayoutRefusal s assignment answer = unlessShort 8 answer 8 (readLayoutOf s assignment .refusal)
 
 unfoldable pub readLayoutAssignment : List ℕ → List ℕ → List ℕ → List ℕ
-readLayoutAssignment s assignment answer = unlessShort 8 answer assignment (assignmentAfter s assignment)
+readLayoutAssignment s assignment answer = unlessShort 8 answer assignment (assignmentRead s assignment)
 
 unfoldable pub readLayoutAnswer : List ℕ → List ℕ → List ℕ → List ℕ
 readLayoutAnswer s assignment answer = answered 8 (layoutNumbers (readLayoutOf s assignment)) answer
@@ -80,7 +80,7 @@ readLayoutAnswer s assignment answer = answered 8 (layoutNumbers (readLayoutOf s
 
 -- The reading, into cells that are long enough; its byte is 0 where it is not refused.
 unfoldable pub reading : List ℕ → ReadCluster
-reading s = answerOf (readCluster s)
+reading s = clusterAnswer (readCluster s)
 
 -- "reading's refusals come before the operation's": r is the reading.
 unfoldable pub checked : ReadCluster → List ℕ → ℕ → Checked

@@ -1,6 +1,6 @@
 // Layout records, written through C.
 ghost use mathlib.Core.Path.{_≡_};
-ghost use Rattle.layout_record.specs.RecordLayoutFaults.{numbersOf};
+ghost use Rattle.layout_record.specs.RecordLayout.{numbersOf};
 ghost use Rattle.console.specs.TermsConsole.{writeRefusal, writeOut, writtenAnswer};
 use super::answers;
 use cluster::refusal;

@@ -1,9 +1,9 @@
 -- From one level down to the end of the search or to the next level: the ways that grow, the first node that closes a cycle, and the walk back
 -- around that cycle.
 -- Assumes nothing.
-use Prim.Native.Nat.{ℕ, zero, suc, _+_, _-_, _*_, _≤_, _<_}
+use Prim.Native.Nat.{ℕ, zero, suc, _+_, _-_, _*_, _≤_, _<_, _^_}
 use mathlib.Core.Path.{_≡_, refl, sym, ap, _∙_, subst}
-use mathlib.Core.Bool.{Bool, true, false, cond, _&&_, false≢true}
+use mathlib.Core.Bool.{Bool, true, false, cond, _&&_}
 use mathlib.Core.List.{List}
 use mathlib.Core.Logic.{⊎-elim}
 use native.Mathlib.Nat.{zero-add, sub-zero}
@@ -13,39 +13,31 @@ use lib.Dec.{ltb, eqb}
 use lib.ListN.{length, getD, set, take, drop}
 use lib.Seq.{getD-take, getD-drop}
 use borrow.Author.Tests.{lt-ltb, le-ltb}
-use Rattle.sums.specs.ModelSums.{is}
+use Rattle.cluster.specs.Terms.{mostNodes}
+use Rattle.sums.specs.ModelSums.{is, firstFrom}
 use Rattle.sums.proofs.Sum.{lt-or-ge, is-eq}
 use Rattle.cells.specs.ModelCells.{put}
 use Rattle.cells.proofs.Cells.{getD-put-in, put-cong}
-use Rattle.sets.specs.ModelBits.{bit, memberOf, withOf, leastOf}
+use Rattle.sets.specs.ModelBits.{maskBits, bit, memberOf, withOf, leastOf}
 use Rattle.sets.proofs.Laws.{bit-le, bit-zero, bit-true, bit-false, bit-with, bit-without, least-some, least-at}
 use Rattle.exchange.specs.ModelLevels as levels
-use Rattle.exchange.specs.ModelLevels.{Graph, Outcome, Potential, Cycle, fell, back, way, closes, firstFrom, search-from, outcome, cycleLength}
+use Rattle.exchange.specs.ModelLevels.{Graph, Outcome, Potential, Cycle, fell, back, way, closes, search-from, outcome, cycleLength}
 use Rattle.exchange.proofs.Levels.{from-node}
 use Rattle.sums.proofs.Tests.{true-or-false}
-use Rattle.exchange.proofs.Search.{open-next, Closing, closing, first-is-none, first-some, first-none, first-cases, way-next, way-stays, way-self, way-le, back-next, back-fell, back-node}
+use Rattle.exchange.proofs.Search.{open-next, Closing, closing, way-next, way-stays, way-self, way-le, back-next, back-fell, back-node}
+use Rattle.sums.proofs.First.{first-lt, first-cong, first-is-none, first-some, first-none, first-cases}
 use Rattle.cycles.specs.ModelFound.{endLength, endWalk}
 use Rattle.cycles.specs.ModelTurns.{before, closer, trail, trailLength}
 use Rattle.cycles.proofs.Parts.{before-fallen, before-stayed}
 use Rattle.cycles.proofs.States.{State, Next}
 
--- A first index goes by the values of its test.
-first-cong : (t s : ℕ → Bool) (n i : ℕ) → ((j : ℕ) → i ≤ j → j < i + n → t j ≡ s j) → firstFrom t n i ≡ firstFrom s n i
-unfolding firstFrom
-first-cong t s zero i h = refl
-first-cong t s (suc n) i h = rw (h i (omega arith) (omega arith), first-cong t s n (suc i) (λ j a b. h j (omega arith) (omega arith)))
-
--- Where an index passes, the first is below the bound.
-first-lt : (t : ℕ → Bool) (n i : ℕ) → i < n → t i ≡ true → firstFrom t n 0 < n
-first-lt t n i l e = ⊎-elim (λ h. omega (arith, h .1)) (λ h. absurd (false≢true (sym (h .1 i (omega arith) (omega arith)) ∙ e))) (first-cases t n 0)
-
 -- One level down from level k, with all that the cells hold: the state before, the next level, and the row of the nodes that the fallen came from.
 pub record Turning (G : Graph) (k set mask : ℕ) (next table dist next₀ ways table₀ row : List ℕ) : Type 0 where
-  pub small : G .N ≤ 32
+  pub small : G .N ≤ mostNodes
   pub below : k < G .N
   pub down : Next G k set next table
   pub state : State G k mask dist next₀ ways table₀
-  pub at-row : (v : ℕ) → v < 32 → getD row v 0 ≡ getD table ((k + 1) * 32 + v) 0
+  pub at-row : (v : ℕ) → v < mostNodes → getD row v 0 ≡ getD table ((k + 1) * mostNodes + v) 0
 
 module _ {G : Graph} {k set mask : ℕ} {next table dist next₀ ways table₀ row : List ℕ} (T : Turning G k set mask next table dist next₀ ways table₀ row) where
   abbrev n : ℕ
@@ -75,7 +67,7 @@ module _ {G : Graph} {k set mask : ℕ} {next table dist next₀ ways table₀ r
       none v l = sym (T .down .marks v l) ∙ (ap (λ (s : ℕ). memberOf s v) z ∙ bit-false 0 v (bit-zero v))
 
   -- Where some fell, it ends with a cycle or goes on.
-  search-moved : (set ≡ 0 → ⊥) → set < 4294967296
+  search-moved : (set ≡ 0 → ⊥) → set < 2 ^ maskBits
       → search-from G (n - k) k ≡ cond (ltb (firstFrom (closes G (suc k)) n 0) n) (Cycle (suc k) (firstFrom (closes G (suc k)) n 0)) (search-from G (n - (k + 1)) (k + 1))
   search-moved z f =
       search-step
@@ -85,7 +77,7 @@ module _ {G : Graph} {k set mask : ℕ} {next table dist next₀ ways table₀ r
       w : ℕ
       w = leastOf set
 
-      l : leastOf set < 32
+      l : leastOf set < mostNodes
       l = least-some set f z
 
       node : leastOf set < n
@@ -95,18 +87,18 @@ module _ {G : Graph} {k set mask : ℕ} {next table dist next₀ ways table₀ r
 
   row-from : (v : ℕ) → v < n → fell G (suc k) v ≡ true → getD row v 0 ≡ levels.from G (suc k) v
   row-from v l e =
-      T .at-row v (omega arith) ∙ (ap (λ (i : ℕ). getD table (i * 32 + v) 0) (add-one k) ∙ T .down .rows (suc k) v (omega arith) (omega arith) l e)
+      T .at-row v (omega arith) ∙ (ap (λ (i : ℕ). getD table (i * mostNodes + v) 0) (add-one k) ∙ T .down .rows (suc k) v (omega arith) (omega arith) l e)
 
   -- Where a node came from is a node.
-  pub row-node : (v : ℕ) → v < n → memberOf set v ≡ true → getD row v 0 < 32
+  pub row-node : (v : ℕ) → v < n → memberOf set v ≡ true → getD row v 0 < mostNodes
   row-node v l e = omega (arith, row-from v l (sym (T .down .marks v l) ∙ e), from-node G (suc k) v (T .below) l)
 
-  before-fell : (v x : ℕ) → v < n → x < 32 → fell G (suc k) v ≡ true → bit (before set row ways v) x ≡ way G k (levels.from G (suc k) v) x
+  before-fell : (v x : ℕ) → v < n → x < mostNodes → fell G (suc k) v ≡ true → bit (before set row ways v) x ≡ way G k (levels.from G (suc k) v) x
   before-fell v x l m e =
       ap (λ (i : ℕ). bit i x) (sym (before-fallen set row ways v (T .down .marks v l ∙ e)))
       ∙ (ap (λ (i : ℕ). bit (getD ways i 0) x) (row-from v l e) ∙ T .state .ways (levels.from G (suc k) v) x (from-node G (suc k) v (T .below) l) m)
 
-  before-stay : (v x : ℕ) → v < n → x < 32 → fell G (suc k) v ≡ false → bit (before set row ways v) x ≡ way G k v x - is v x
+  before-stay : (v x : ℕ) → v < n → x < mostNodes → fell G (suc k) v ≡ false → bit (before set row ways v) x ≡ way G k v x - is v x
   before-stay v x l m e =
       ap (λ (i : ℕ). bit i x) (sym (before-stayed set row ways v (T .down .marks v l ∙ e)))
       ∙ (bit-without (getD ways v 0) v x m ∙ ap (λ (i : ℕ). i - is v x) (T .state .ways v x l m))
@@ -130,7 +122,7 @@ module _ {G : Graph} {k set mask : ℕ} {next table dist next₀ ways table₀ r
   unfolding closer
   closer-is = first-cong (λ v. memberOf (before set row ways v) v) (closes G (suc k)) n 0 (λ j a b. closes-is j (omega arith))
 
-  grown-is : (v x : ℕ) → v < n → x < 32 → bit (withOf (before set row ways v) v) x ≡ way G (suc k) v x
+  grown-is : (v x : ℕ) → v < n → x < mostNodes → bit (withOf (before set row ways v) v) x ≡ way G (suc k) v x
   grown-is v x l m = ⊎-elim yes no (true-or-false (fell G (suc k) v))
     where
       yes : fell G (suc k) v ≡ true → bit (withOf (before set row ways v) v) x ≡ way G (suc k) v x
@@ -140,7 +132,7 @@ module _ {G : Graph} {k set mask : ℕ} {next table dist next₀ ways table₀ r
       no e = omega (arith, bit-with (before set row ways v) v x m, before-stay v x l m e, way-stays G k v x (T .below) e, way-self G k v x, way-le G k v x)
 
   -- Where none closes a cycle, the search goes on.
-  pub search-on : (set ≡ 0 → ⊥) → set < 4294967296 → n ≤ closer n set row ways → search-from G (n - k) k ≡ search-from G (n - (k + 1)) (k + 1)
+  pub search-on : (set ≡ 0 → ⊥) → set < 2 ^ maskBits → n ≤ closer n set row ways → search-from G (n - k) k ≡ search-from G (n - (k + 1)) (k + 1)
   search-on z f h =
       search-moved z f
       ∙ ap (λ (b : Bool). cond b (Cycle (suc k) (firstFrom (closes G (suc k)) n 0)) (search-from G (n - (k + 1)) (k + 1)))
@@ -179,7 +171,7 @@ module _ {G : Graph} {k set mask : ℕ} {next table dist next₀ ways table₀ r
     ends = closing G k v (T .below) node (T .state .still-open) found
 
     -- Where a node closes a cycle, the search ends with it.
-    pub search-closed : (set ≡ 0 → ⊥) → set < 4294967296 → search-from G (n - k) k ≡ Cycle (suc k) v
+    pub search-closed : (set ≡ 0 → ⊥) → set < 2 ^ maskBits → search-from G (n - k) k ≡ Cycle (suc k) v
     search-closed z f =
         let e : firstFrom (closes G (suc k)) n 0 ≡ v = sym (is-closer ∙ closer-is) in
         search-moved z f
@@ -191,7 +183,7 @@ module _ {G : Graph} {k set mask : ℕ} {next table dist next₀ ways table₀ r
     unfolding trail back
     trail-back zero l = refl
     trail-back (suc t) l =
-        ap (λ (i : ℕ). getD table ((suc k - t) * 32 + i) 0) (trail-back t (omega arith))
+        ap (λ (i : ℕ). getD table ((suc k - t) * mostNodes + i) 0) (trail-back t (omega arith))
         ∙ (T .down .rows (suc k - t) (back G (suc k) v t) (omega arith) (omega arith) (back-node G (suc k) v t (T .below) node)
         (back-fell G (suc k) v t (suc k - t) (omega arith) (T .below) (ends .fallen))
         ∙ sym (back-next G (suc k) v t (suc k - t) (omega arith)))
@@ -207,7 +199,7 @@ module _ {G : Graph} {k set mask : ℕ} {next table dist next₀ ways table₀ r
     trail-closes = rw (add-one k) (omega (arith, length-is, ends .length-le))
 
     -- It goes over nodes.
-    pub trail-node : (t : ℕ) → t < k + 1 → trail table (k + 1) v t < 32
+    pub trail-node : (t : ℕ) → t < k + 1 → trail table (k + 1) v t < mostNodes
     trail-node t l = rw (add-one k) (omega (arith, trail-back t (omega arith), back-node G (suc k) v t (T .below) node))
 
     -- It is the walk that the search ends with.
@@ -223,8 +215,8 @@ module _ {G : Graph} {k set mask : ℕ} {next table dist next₀ ways table₀ r
     trail-length = rw (add-one k) length-is
 
 -- The row that a part of the table shows.
-pub part-row : (i v : ℕ) (l : List ℕ) → v < 32 → getD (take (i + 32 - i) (drop i l)) v 0 ≡ getD l (i + v) 0
-part-row i v l h = getD-take (i + 32 - i) (drop i l) v 0 (omega arith) ∙ getD-drop i l v 0
+pub part-row : (i v : ℕ) (l : List ℕ) → v < mostNodes → getD (take (i + mostNodes - i) (drop i l)) v 0 ≡ getD l (i + v) 0
+part-row i v l h = getD-take (i + mostNodes - i) (drop i l) v 0 (omega arith) ∙ getD-drop i l v 0
 
 -- What a search answers that ends with a potential.
 pub ends-still : (G : Graph) (o : Outcome) (k : ℕ) (walk₀ walk : List ℕ) → o ≡ Potential k → walk ≡ walk₀ → (0 ≡ endLength G o) × (walk ≡ endWalk G o walk₀)

@@ -1,6 +1,4 @@
 pub mod Ends
-pub mod Firsts
-pub mod Found
 pub mod Offers
 pub mod Parts
 pub mod Rows

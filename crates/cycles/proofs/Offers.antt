@@ -1,6 +1,6 @@
 -- An offer of one distance to the members of a set, member by member.
 -- Assumes nothing.
-use Prim.Native.Nat.{ℕ, _-_, _≤_, _<_}
+use Prim.Native.Nat.{ℕ, _+_, _-_, _≤_, _<_}
 use mathlib.Core.Path.{_≡_, refl, sym, ap, _∙_, subst}
 use mathlib.Core.Bool.{Bool, true, false, cond, _&&_}
 use mathlib.Core.List.{List}
@@ -10,10 +10,13 @@ use lib.Dec.{ltb, eqb}
 use lib.ListN.{length, getD, set}
 use lib.Seq.{getD-set-same, getD-set-other}
 use borrow.Author.Tests.{lt-ltb, le-ltb}
+use Rattle.cluster.specs.Terms.{mostNodes}
 use Rattle.sums.specs.TermsSums.{one-if}
-use Rattle.sums.proofs.Sum.{eq-or-ne}
+use Rattle.sums.specs.ModelSums.{is}
+use Rattle.sums.proofs.Sum.{eq-or-ne, is-eq, is-ne}
 use Rattle.sets.specs.ModelBits.{bit, withOf, withoutOf, leastOf, countOf}
-use Rattle.sets.proofs.Laws.{bit-le, bit-zero, bit-with-same, bit-with-other, bit-without, bit-without-same, bit-without-other, least-some, least-at, least-taken}
+use Rattle.sets.proofs.Laws.{bit-le, bit-with-same, bit-with-other, least-at, least-taken}
+use Rattle.sets.proofs.Scan.{Left, least-word, left-less, done-more, done-all}
 use Rattle.exchange.specs.ModelLevels.{Fall}
 use Rattle.cycles.specs.ModelTurns.{Held, Turns, offered}
 
@@ -60,8 +63,7 @@ pub offers-end : (top m c u fell marks left : ℕ) (next₀ row₀ next row : Li
     → Turns top (λ v f. offered (bit m v - bit left v) c u f) next₀ row₀ fell next row marks
     → Turns top (λ v f. offered (bit m v) c u f) next₀ row₀ fell next row marks
 offers-end top m c u fell marks left next₀ row₀ next row z s v d f l t h =
-    let e : bit m v - bit left v ≡ bit m v = omega (arith, bit-zero v, ap (λ (i : ℕ). bit i v) z) in
-    subst (λ (i : ℕ). Held d (offered i c u f) (getD next v 0) (getD row v 0) (bit marks v)) e (s v d f l t h)
+    subst (λ (i : ℕ). Held d (offered i c u f) (getD next v 0) (getD row v 0) (bit marks v)) (done-all m left v z) (s v d f l t h)
 
 -- An offer at the top or above is of no use.
 pub offers-high : (top m c u fell : ℕ) (next row : List ℕ) → top ≤ c → Turns top (λ v f. offered (bit m v) c u f) next row fell next row fell
@@ -70,45 +72,43 @@ offers-high top m c u fell next row g v d f l t h = held-more (bit m v) c u h (o
 -- The turn at the next member w, of those left, with the rest after it.
 pub record Offering (top m c u fell marks left w rest : ℕ) (next₀ row₀ next row : List ℕ) : Type 0 where
   pub some : left ≡ 0 → ⊥
-  pub fits : left < 4294967296
+  pub scan : Left m left
   pub at-least : w ≡ leastOf left
   pub at-rest : rest ≡ withoutOf left w
-  pub part : (v : ℕ) → v < 32 → bit left v ≤ bit m v
   pub turns : Turns top (λ v f. offered (bit m v - bit left v) c u f) next₀ row₀ fell next row marks
 
 module _ {top m c u fell marks left w rest : ℕ} {next₀ row₀ next row : List ℕ} (o : Offering top m c u fell marks left w rest next₀ row₀ next row) where
   -- The next member is a node.
-  pub offers-node : w < 32
-  offers-node = omega (arith, least-some left (o .fits) (o .some))
+  pub offers-node : w < mostNodes
+  offers-node = omega (arith, o .at-least, least-word m left (o .scan) (o .some))
 
-  in-left : bit left w ≡ 1
-  in-left = let l : leastOf left < 32 = omega (arith, offers-node) in ap (λ (i : ℕ). bit left i) (o .at-least) ∙ least-at left l
-
-  in-rest : bit rest w ≡ 0
-  in-rest = ap (λ (i : ℕ). bit i w) (o .at-rest) ∙ bit-without-same left w offers-node
-
-  out-rest : (v : ℕ) → v < 32 → (w ≡ v → ⊥) → bit rest v ≡ bit left v
-  out-rest v l n = ap (λ (i : ℕ). bit i v) (o .at-rest) ∙ bit-without-other left w v l n
+  the-rest : rest ≡ withoutOf left (leastOf left)
+  the-rest = o .at-rest ∙ ap (withoutOf left) (o .at-least)
 
   -- What is left is smaller.
   pub offers-less : countOf rest < countOf left
-  offers-less = omega (arith, least-taken left (o .fits) (o .some), ap (λ (i : ℕ). countOf (withoutOf left i)) (o .at-least), ap countOf (o .at-rest))
+  offers-less = omega (arith, least-taken left (o .scan .word) (o .some), ap countOf the-rest)
 
   -- What is left is still a part.
-  pub offers-part : (v : ℕ) → v < 32 → bit rest v ≤ bit m v
-  offers-part v l = omega (arith, ap (λ (i : ℕ). bit i v) (o .at-rest), bit-without left w v l, (o .part) v l)
+  pub offers-rest : Left m rest
+  offers-rest = subst (Left m) (sym the-rest) (left-less m left (o .scan) (o .some))
 
-  -- The next member has had no offer yet.
+  -- The next member has had no offer yet, and has it now; the others have had it or not as before.
+  done : (v : ℕ) → v < mostNodes → bit m v - bit left v + is w v ≡ bit m v - bit rest v
+  done v l = omega (arith, done-more m left (o .scan) (o .some) v l, ap (λ (i : ℕ). is i v) (o .at-least), ap (λ (i : ℕ). bit i v) the-rest)
+
+  none-yet : bit m w - bit left w ≡ 0
+  none-yet = omega (arith, ap (bit left) (o .at-least), least-at left (least-word m left (o .scan) (o .some)), bit-le m w)
+
   here : {d : ℕ} {f : Fall} → d ≤ top → Held d f (getD next₀ w 0) (getD row₀ w 0) (bit fell w) → Held d f (getD next w 0) (getD row w 0) (bit marks w)
   here {d} {f} t h =
-      let e : bit m w - bit left w ≡ 0 = omega (arith, in-left, bit-le m w) in
-      subst (λ (g : Fall). Held d g (getD next w 0) (getD row w 0) (bit marks w)) (offered-none (bit m w - bit left w) c u f e) (o .turns w d f offers-node t h)
+      subst (λ (g : Fall). Held d g (getD next w 0) (getD row w 0) (bit marks w)) (offered-none (bit m w - bit left w) c u f none-yet) (o .turns w d f offers-node t h)
 
   now-one : bit m w - bit rest w ≡ 1
-  now-one = omega (arith, in-left, (o .part) w offers-node, bit-le m w, in-rest)
+  now-one = omega (arith, done w offers-node, none-yet, is-eq {a = w} {b = w} refl)
 
-  still : (v : ℕ) → v < 32 → (w ≡ v → ⊥) → bit m v - bit rest v ≡ bit m v - bit left v
-  still v l n = omega (arith, out-rest v l n)
+  still : (v : ℕ) → v < mostNodes → (w ≡ v → ⊥) → bit m v - bit rest v ≡ bit m v - bit left v
+  still v l n = omega (arith, done v l, is-ne n)
 
   -- The next member does not take it.
   pub offers-skip : getD next w 0 ≤ c → Turns top (λ v f. offered (bit m v - bit rest v) c u f) next₀ row₀ fell next row marks
@@ -120,7 +120,7 @@ module _ {top m c u fell marks left w rest : ℕ} {next₀ row₀ next row : Lis
       (eq-or-ne w v)
 
   -- The next member takes it.
-  pub offers-take : (marks' : ℕ) → marks' ≡ withOf marks w → 32 ≤ length next → 32 ≤ length row → c < getD next w 0
+  pub offers-take : (marks' : ℕ) → marks' ≡ withOf marks w → mostNodes ≤ length next → mostNodes ≤ length row → c < getD next w 0
       → Turns top (λ v f. offered (bit m v - bit rest v) c u f) next₀ row₀ fell (set next w c) (set row w u) marks'
   offers-take marks' em a b g v d f l t h = ⊎-elim same other (eq-or-ne w v)
     where

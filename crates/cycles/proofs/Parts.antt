@@ -10,12 +10,13 @@ use native.Mathlib.Omega.{arith}
 use lib.Dec.{eqb}
 use lib.ListN.{getD, set}
 use borrow.Author.Tests.{eq-eqb, ne-eqb}
+use Rattle.cluster.specs.Terms.{mostNodes}
 use Rattle.cells.specs.ModelCells.{put}
 use Rattle.cells.proofs.Cells.{put-next}
 use Rattle.sets.specs.ModelBits.{memberOf, withoutOf}
-use Rattle.exchange.specs.ModelLevels.{firstFrom}
+use Rattle.sums.specs.ModelSums.{firstFrom}
 use Rattle.cycles.specs.ModelTurns.{before, closer, trail, trailLength}
-use Rattle.cycles.proofs.Firsts.{first-hit, first-miss, first-end}
+use Rattle.sums.proofs.First.{first-hit, first-miss, first-end}
 
 -- ---- ways
 
@@ -67,7 +68,7 @@ module _ (table : List ℕ) (k v : ℕ) where
   trail-start = refl
 
   -- One step back.
-  pub trail-next : (t x : ℕ) → x ≡ trail table k v t → getD table ((k - t) * 32 + x) 0 ≡ trail table k v (t + 1)
+  pub trail-next : (t x : ℕ) → x ≡ trail table k v t → getD table ((k - t) * mostNodes + x) 0 ≡ trail table k v (t + 1)
   unfolding trail
   trail-next t x e = rw (add-one t, e)
 

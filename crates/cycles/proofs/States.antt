@@ -10,6 +10,7 @@ use native.Mathlib.Numerals.{add-one}
 use native.Mathlib.Omega.{arith}
 use lib.Dec.{eqb}
 use lib.ListN.{length, getD}
+use Rattle.cluster.specs.Terms.{mostNodes}
 use Rattle.sums.specs.TermsSums.{one-if}
 use Rattle.sums.proofs.Sum.{lt-or-ge}
 use Rattle.cells.specs.ModelCells.{put}
@@ -41,18 +42,18 @@ pub record State (G : Graph) (k mask : ℕ) (dist next way table : List ℕ) : T
   pub dists : (v : ℕ) → v < G .N → getD dist v 0 ≡ levels.dist G k v
   pub nexts : (v : ℕ) → v < G .N → getD next v 0 ≡ levels.dist G k v
   pub marks : (v : ℕ) → v < G .N → memberOf mask v ≡ fell G k v
-  pub ways : (v x : ℕ) → v < G .N → x < 32 → bit (getD way v 0) x ≡ levels.way G k v x
-  pub rows : (j v : ℕ) → 1 ≤ j → j ≤ k → v < G .N → fell G j v ≡ true → getD table (j * 32 + v) 0 ≡ levels.from G j v
+  pub ways : (v x : ℕ) → v < G .N → x < mostNodes → bit (getD way v 0) x ≡ levels.way G k v x
+  pub rows : (j v : ℕ) → 1 ≤ j → j ≤ k → v < G .N → fell G j v ≡ true → getD table (j * mostNodes + v) 0 ≡ levels.from G j v
   pub still-open : Open G k
 
 -- The next level, one down, and the set of the nodes that fell.
 pub record Next (G : Graph) (k set : ℕ) (next table : List ℕ) : Type 0 where
   pub nexts : (v : ℕ) → v < G .N → getD next v 0 ≡ levels.dist G (suc k) v
   pub marks : (v : ℕ) → v < G .N → memberOf set v ≡ fell G (suc k) v
-  pub rows : (j v : ℕ) → 1 ≤ j → j ≤ suc k → v < G .N → fell G j v ≡ true → getD table (j * 32 + v) 0 ≡ levels.from G j v
-  pub nodes : (v : ℕ) → v < 32 → G .N ≤ v → bit set v ≡ 0
+  pub rows : (j v : ℕ) → 1 ≤ j → j ≤ suc k → v < G .N → fell G j v ≡ true → getD table (j * mostNodes + v) 0 ≡ levels.from G j v
+  pub nodes : (v : ℕ) → v < mostNodes → G .N ≤ v → bit set v ≡ 0
 
-module _ (arcs : List ℕ) (n k mask : ℕ) (dist next way table : List ℕ) (small : n ≤ 32) (below : k < n)
+module _ (arcs : List ℕ) (n k mask : ℕ) (dist next way table : List ℕ) (small : n ≤ mostNodes) (below : k < n)
     (st : State (graphOf arcs n) k mask dist next way table) where
   abbrev G : Graph
   G = graphOf arcs n
@@ -72,29 +73,29 @@ module _ (arcs : List ℕ) (n k mask : ℕ) (dist next way table : List ℕ) (sm
         nodes = s .nodes;
       }
     where
-      held : (v : ℕ) → v < n → Held (levels.dist G k v) (level G (suc k) v) (getD next' v 0) (getD table' ((k + 1) * 32 + v) 0) (bit set v)
+      held : (v : ℕ) → v < n → Held (levels.dist G k v) (level G (suc k) v) (getD next' v 0) (getD table' ((k + 1) * mostNodes + v) 0) (bit set v)
       held v l =
-          subst (λ (f : Fall). Held (levels.dist G k v) f (getD next' v 0) (getD table' ((k + 1) * 32 + v) 0) (bit set v))
+          subst (λ (f : Fall). Held (levels.dist G k v) f (getD next' v 0) (getD table' ((k + 1) * mostNodes + v) 0) (bit set v))
           (scan-cong G (memberOf mask) (fell G k) (λ u. getD dist u 0) (levels.dist G k) v n (λ u h. st .marks u h) (λ u h. st .dists u h) (st .dists v l) ∙ level-skip G k v below)
-          (subst (λ (d : ℕ). Held d (scan G (memberOf mask) (λ u. getD dist u 0) v n) (getD next' v 0) (getD table' ((k + 1) * 32 + v) 0) (bit set v)) (st .dists v l) (s .swept v l))
+          (subst (λ (d : ℕ). Held d (scan G (memberOf mask) (λ u. getD dist u 0) v n) (getD next' v 0) (getD table' ((k + 1) * mostNodes + v) 0) (bit set v)) (st .dists v l) (s .swept v l))
 
       test : (b : Bool) → eqb (one-if b) 1 ≡ b
       test true = refl
       test false = refl
 
-      rows : (j v : ℕ) → 1 ≤ j → j ≤ suc k → v < n → fell G j v ≡ true → getD table' (j * 32 + v) 0 ≡ levels.from G j v
+      rows : (j v : ℕ) → 1 ≤ j → j ≤ suc k → v < n → fell G j v ≡ true → getD table' (j * mostNodes + v) 0 ≡ levels.from G j v
       rows j v a b l e =
-          ⊎-elim (λ h. s .kept (j * 32 + v) (omega arith) ∙ st .rows j v a (omega arith) l e)
+          ⊎-elim (λ h. s .kept (j * mostNodes + v) (omega arith) ∙ st .rows j v a (omega arith) l e)
           (λ h. let q : suc k ≡ j = omega arith in
-          subst (λ (i : ℕ). getD table' (i * 32 + v) 0 ≡ levels.from G i v) q
-          (subst (λ (i : ℕ). getD table' (i * 32 + v) 0 ≡ levels.from G (suc k) v) (add-one k) (held v l .from (fell-lt G k v (subst (λ (i : ℕ). fell G i v ≡ true) (sym q) e)))))
+          subst (λ (i : ℕ). getD table' (i * mostNodes + v) 0 ≡ levels.from G i v) q
+          (subst (λ (i : ℕ). getD table' (i * mostNodes + v) 0 ≡ levels.from G (suc k) v) (add-one k) (held v l .from (fell-lt G k v (subst (λ (i : ℕ). fell G i v ≡ true) (sym q) e)))))
           (lt-or-ge j (suc k))
 
 -- ---- level 0
 
 -- Before the first level the cells hold level 0.
-pub state-start : (arcs : List ℕ) (n mask : ℕ) (dist next way₀ way table : List ℕ) → n ≤ 32 → 32 ≤ length way₀ → mask ≡ belowOf n
-    → ((v : ℕ) → v < n → getD dist v 0 ≡ n) → ((v : ℕ) → v < n → getD next v 0 ≡ n) → way ≡ put 0 (λ v. withOf 0 v) 32 way₀
+pub state-start : (arcs : List ℕ) (n mask : ℕ) (dist next way₀ way table : List ℕ) → n ≤ mostNodes → mostNodes ≤ length way₀ → mask ≡ belowOf n
+    → ((v : ℕ) → v < n → getD dist v 0 ≡ n) → ((v : ℕ) → v < n → getD next v 0 ≡ n) → way ≡ put 0 (λ v. withOf 0 v) mostNodes way₀
     → State (graphOf arcs n) 0 mask dist next way table
 unfolding level fell levels.way
 state-start arcs n mask dist next way₀ way table small h em ed en ew =
@@ -110,4 +111,4 @@ state-start arcs n mask dist next way₀ way table small h em ed en ew =
     cell : (v : ℕ) → v < n → getD way v 0 ≡ withOf 0 v
     cell v l =
         ap (λ (g : List ℕ). getD g v 0) ew
-        ∙ (ap (λ (i : ℕ). getD (put 0 (λ v. withOf 0 v) 32 way₀) i 0) (sym (zero-add v)) ∙ getD-put-in 0 (λ v. withOf 0 v) 32 way₀ v 0 (omega arith) (omega arith))
+        ∙ (ap (λ (i : ℕ). getD (put 0 (λ v. withOf 0 v) mostNodes way₀) i 0) (sym (zero-add v)) ∙ getD-put-in 0 (λ v. withOf 0 v) mostNodes way₀ v 0 (omega arith) (omega arith))

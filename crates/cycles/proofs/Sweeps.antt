@@ -11,6 +11,7 @@ use lib.Dec.{ltb, eqb}
 use lib.ListN.{length, getD, take, List·getD-append}
 use lib.Seq.{length-take-le, getD-append-add, getD-take}
 use borrow.Author.Tests.{lt-ltb, le-ltb, eq-eqb}
+use Rattle.cluster.specs.Terms.{mostNodes}
 use Rattle.sums.specs.TermsSums.{one-if}
 use Rattle.sums.proofs.Sum.{lt-or-ge}
 use Rattle.sets.specs.ModelBits.{bit, memberOf, meetOf, belowOf}
@@ -55,12 +56,12 @@ three (suc (suc a)) b p d u f ha hb hp h = absurd (omega arith)
 
 -- A look at the arcs of u is three offers: at weight −1, then 0, then +1.
 pub look-offers : (arcs : List ℕ) (n d v u : ℕ) (f : Fall) → 1 ≤ d
-    → offered (bit (getD arcs (64 + u) 0) v) (d + 1) u (offered (bit (getD arcs (32 + u) 0) v) d u (offered (bit (getD arcs u 0) v) (d - 1) u f))
+    → offered (bit (getD arcs (2 * mostNodes + u) 0) v) (d + 1) u (offered (bit (getD arcs (mostNodes + u) 0) v) d u (offered (bit (getD arcs u 0) v) (d - 1) u f))
     ≡ relax (graphOf arcs n) (λ _. d) v u true f
 unfolding relax arcOf weightOf memberOf
 look-offers arcs n d v u f h =
-    three (bit (getD arcs u 0) v) (bit (getD arcs (32 + u) 0) v) (bit (getD arcs (64 + u) 0) v) d u f (bit-le (getD arcs u 0) v) (bit-le (getD arcs (32 + u) 0) v)
-    (bit-le (getD arcs (64 + u) 0) v) h
+    three (bit (getD arcs u 0) v) (bit (getD arcs (mostNodes + u) 0) v) (bit (getD arcs (2 * mostNodes + u) 0) v) d u f (bit-le (getD arcs u 0) v) (bit-le (getD arcs (mostNodes + u) 0) v)
+    (bit-le (getD arcs (2 * mostNodes + u) 0) v) h
 
 -- A node that is not looked at changes nothing.
 pub look-not : (arcs : List ℕ) (n d u fell : ℕ) (on : Bool) (next row : List ℕ) → on ≡ false
@@ -72,12 +73,12 @@ look-not arcs n d u fell on next row o v e f l g h =
 -- Three offers one after the other are a look.
 pub look-turns : (arcs : List ℕ) (n d u a b fell r : ℕ) (on : Bool) (next₀ row₀ next₁ row₁ next₂ row₂ next row : List ℕ) → 1 ≤ d → on ≡ true
     → Turns n (λ v f. offered (bit (getD arcs u 0) v) (d - 1) u f) next₀ row₀ fell next₁ row₁ a
-    → Turns n (λ v f. offered (bit (getD arcs (32 + u) 0) v) d u f) next₁ row₁ a next₂ row₂ b
-    → Turns n (λ v f. offered (bit (getD arcs (64 + u) 0) v) (d + 1) u f) next₂ row₂ b next row r
+    → Turns n (λ v f. offered (bit (getD arcs (mostNodes + u) 0) v) d u f) next₁ row₁ a next₂ row₂ b
+    → Turns n (λ v f. offered (bit (getD arcs (2 * mostNodes + u) 0) v) (d + 1) u f) next₂ row₂ b next row r
     → Turns n (λ v f. relax (graphOf arcs n) (λ _. d) v u on f) next₀ row₀ fell next row r
 look-turns arcs n d u a b fell r on next₀ row₀ next₁ row₁ next₂ row₂ next row p o s t w v e f l g h =
     subst (λ (k : Fall). Held e k (getD next v 0) (getD row v 0) (bit r v)) (look-offers arcs n d v u f p ∙ ap (λ (i : Bool). relax (graphOf arcs n) (λ _. d) v u i f) (sym o))
-    (w v e (offered (bit (getD arcs (32 + u) 0) v) d u (offered (bit (getD arcs u 0) v) (d - 1) u f)) l g
+    (w v e (offered (bit (getD arcs (mostNodes + u) 0) v) d u (offered (bit (getD arcs u 0) v) (d - 1) u f)) l g
     (t v e (offered (bit (getD arcs u 0) v) (d - 1) u f) l g (s v e f l g h)))
 
 -- The fall of v by the arcs from the members of a set below u, where nodes stand at the cells of d.
@@ -92,7 +93,7 @@ sweep-start arcs n mask d next row v e =
     record { low = omega arith; dist = e; from = λ l. absurd (omega arith); mark = bit-zero v ∙ ap one-if (sym (le-ltb (getD d v 0) (getD d v 0) (omega arith))) }
 
 -- One look more.
-pub sweep-more : (arcs : List ℕ) (n mask u fell r : ℕ) (d next row next' row' : List ℕ) (v : ℕ) → v < 32 → getD d v 0 ≤ n
+pub sweep-more : (arcs : List ℕ) (n mask u fell r : ℕ) (d next row next' row' : List ℕ) (v : ℕ) → v < mostNodes → getD d v 0 ≤ n
     → Turns n (λ v f. relax (graphOf arcs n) (λ _. getD d u 0) v u (memberOf mask u) f) next row fell next' row' r
     → Held (getD d v 0) (fallTo arcs n mask d v u) (getD next v 0) (getD row v 0) (bit fell v)
     → Held (getD d v 0) (fallTo arcs n mask d v (u + 1)) (getD next' v 0) (getD row' v 0) (bit r v)
@@ -112,13 +113,13 @@ part-in a v xs ys rest h l =
     ∙ (getD-append-add (take a xs) (ys ++ rest) v 0 ∙ List·getD-append ys rest 0 v l)
 
 -- A sweep into row k + 1 of the table is one level down.
-pub descended : (arcs : List ℕ) (n k mask swept r : ℕ) (d next table row rest : List ℕ) → n ≤ 32 → (k + 1) * 32 ≤ length table → 32 ≤ length row
+pub descended : (arcs : List ℕ) (n k mask swept r : ℕ) (d next table row rest : List ℕ) → n ≤ mostNodes → (k + 1) * mostNodes ≤ length table → mostNodes ≤ length row
     → r ≡ meetOf swept (belowOf n) → Swept arcs n mask d next row swept
-    → Descended arcs n k mask d next table (take ((k + 1) * 32) table ++ (row ++ rest)) r
+    → Descended arcs n k mask d next table (take ((k + 1) * mostNodes) table ++ (row ++ rest)) r
 descended arcs n k mask swept r d next table row rest small h g e s =
     record {
-      swept = λ v l. rw (part-in ((k + 1) * 32) v table row rest h (omega arith), kept v l) (s v l);
-      kept = λ i l. part-before ((k + 1) * 32) i table row rest h l;
+      swept = λ v l. rw (part-in ((k + 1) * mostNodes) v table row rest h (omega arith), kept v l) (s v l);
+      kept = λ i l. part-before ((k + 1) * mostNodes) i table row rest h l;
       nodes = λ v l m. omega (arith, ap (λ (i : ℕ). bit i v) e, bit-meet swept (belowOf n) v l, bit-below-not n v m);
     }
   where

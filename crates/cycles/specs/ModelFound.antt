@@ -5,13 +5,14 @@ use mathlib.Core.Bool.{Bool, cond, _&&_}
 use mathlib.Core.List.{List}
 use lib.Dec.{leb}
 use lib.ListN.{length}
+use Rattle.cluster.specs.Terms.{mostNodes}
 use Rattle.cells.specs.ModelCells.{put}
 use Rattle.exchange.specs.ModelLevels.{Graph, Outcome, Potential, Cycle, back, outcome, cycleLength}
-use Rattle.cycles.specs.ModelGraph.{graphOf}
+use Rattle.cycles.specs.ModelGraph.{walkCells, arcCells, graphOf}
 
 -- Whether there is something to search, and room for the walk.
 unfoldable pub searchable : List ℕ → ℕ → List ℕ → Bool
-searchable arcs n walk = leb 1 n && (leb n 32 && (leb 96 (length arcs) && leb 33 (length walk)))
+searchable arcs n walk = leb 1 n && (leb n mostNodes && (leb arcCells (length arcs) && leb walkCells (length walk)))
 
 -- The length of the cycle that a search ended with; 0 where it ended with a potential.
 unfoldable pub endLength : Graph → Outcome → ℕ

@@ -7,9 +7,11 @@ use mathlib.Core.Bool.{cond, _&&_}
 use mathlib.Core.List.{List}
 use lib.Dec.{ltb, eqb}
 use lib.ListN.{getD}
+use Rattle.cluster.specs.Terms.{mostNodes}
 use Rattle.sums.specs.TermsSums.{one-if}
 use Rattle.sets.specs.ModelBits.{bit, memberOf, withoutOf}
-use Rattle.exchange.specs.ModelLevels.{Fall, scan, firstFrom}
+use Rattle.exchange.specs.ModelLevels.{Fall, scan}
+use Rattle.sums.specs.ModelSums.{firstFrom}
 use Rattle.cycles.specs.ModelGraph.{graphOf}
 
 -- The fall f of a node that stood at d is held in cells: its distance x, the node y it came from, where it fell, and its mark b.
@@ -26,7 +28,7 @@ offered b c u f = cond (eqb b 1 && ltb c (f .dist)) (record { dist = c; from = u
 -- The cells of each node that stood at top or below hold its fall after t, where they held one before.
 abbrev pub Turns : ℕ → (ℕ → Fall → Fall) → List ℕ → List ℕ → ℕ → List ℕ → List ℕ → ℕ → Type 0
 Turns top t next row fell next' row' fell' =
-    (v d : ℕ) (f : Fall) → v < 32 → d ≤ top → Held d f (getD next v 0) (getD row v 0) (bit fell v)
+    (v d : ℕ) (f : Fall) → v < mostNodes → d ≤ top → Held d f (getD next v 0) (getD row v 0) (bit fell v)
     → Held d (t v f) (getD next' v 0) (getD row' v 0) (bit fell' v)
 
 -- The cells of each node below n hold its fall after a scan of the arcs from the members of a set, where nodes stand at d.
@@ -39,9 +41,9 @@ Swept arcs n mask d next row fell =
 -- before it stay.
 pub record Descended (arcs : List ℕ) (n k mask : ℕ) (d next table₀ table : List ℕ) (fell : ℕ) : Type 0 where
   pub swept : (v : ℕ) → v < n
-      → Held (getD d v 0) (scan (graphOf arcs n) (memberOf mask) (λ u. getD d u 0) v n) (getD next v 0) (getD table ((k + 1) * 32 + v) 0) (bit fell v)
-  pub kept : (i : ℕ) → i < (k + 1) * 32 → getD table i 0 ≡ getD table₀ i 0
-  pub nodes : (v : ℕ) → v < 32 → n ≤ v → bit fell v ≡ 0
+      → Held (getD d v 0) (scan (graphOf arcs n) (memberOf mask) (λ u. getD d u 0) v n) (getD next v 0) (getD table ((k + 1) * mostNodes + v) 0) (bit fell v)
+  pub kept : (i : ℕ) → i < (k + 1) * mostNodes → getD table i 0 ≡ getD table₀ i 0
+  pub nodes : (v : ℕ) → v < mostNodes → n ≤ v → bit fell v ≡ 0
 
 -- The way that v's way grows from: that of the node it came from, where it fell, else its own way but v.
 unfoldable pub before : ℕ → List ℕ → List ℕ → ℕ → ℕ
@@ -51,10 +53,10 @@ before fell row way v = cond (memberOf fell v) (getD way (getD row v 0) 0) (with
 unfoldable pub closer : ℕ → ℕ → List ℕ → List ℕ → ℕ
 closer n fell row way = firstFrom (λ v. memberOf (before fell row way v) v) n 0
 
--- The node t steps back from v at level k, by a table with a row of 32 for each level.
+-- The node t steps back from v at level k, by a table with a row of nodes for each level.
 unfoldable pub trail : List ℕ → ℕ → ℕ → ℕ → ℕ
 trail table k v zero = v
-trail table k v (suc t) = getD table ((k - t) * 32 + trail table k v t) 0
+trail table k v (suc t) = getD table ((k - t) * mostNodes + trail table k v t) 0
 
 -- The first step back, from 1 on, that is at v again.
 unfoldable pub trailLength : List ℕ → ℕ → ℕ → ℕ

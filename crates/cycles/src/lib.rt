@@ -1,18 +1,31 @@
-// A search for a simple negative cycle in a graph of at most 32 nodes with weights −1, 0 and +1, level by level.
+// A search for a simple negative cycle in a graph of at most NODES nodes with weights −1, 0 and +1, level by level.
 ghost use mathlib.Core.Path.{_≡_};
 ghost use mathlib.Core.Bool.{true};
 ghost use Prim.Native.Nat.{ℕ, _+_, _≤_, _<_};
 ghost use lib.ListN.{length, getD};
 ghost use Rattle.cells.specs.ModelCells.{put};
+ghost use Rattle.cluster.specs.Terms.{mostNodes};
 ghost use Rattle.sets.specs.ModelBits.{bit, memberOf, withOf};
 ghost use Rattle.exchange.specs.ModelLevels.{relax, outcome};
 ghost use Rattle.cycles.specs.ModelFound.{endLength, endWalk, foundLength, foundWalk};
-ghost use Rattle.cycles.specs.ModelGraph.{graphOf};
+ghost use Rattle.cycles.specs.ModelGraph.{arcCells, walkCells, tableCells, graphOf};
 ghost use Rattle.cycles.specs.ModelTurns.{offered, Turns, Swept, Descended, before, closer, trail, trailLength};
+use cluster::Cluster;
+
+// The most nodes of a graph, as nodes are numbered.
+const NODES: u32 = Cluster::NODES as u32;
+// The cells of a graph's arcs: three sets for each node.
+pub const ARCS: usize = 3 * Cluster::NODES;
+// Where the sets of weight +1 begin; those of weight 0 begin at Cluster::NODES.
+const HIGHER: usize = 2 * Cluster::NODES;
+// The cells of a walk: the nodes of a cycle, and its first one again.
+pub const WALK: usize = Cluster::NODES + 1;
+// The cells of a search's table: a row of nodes for each level, from 0 on.
+const TABLE: usize = (Cluster::NODES + 1) * Cluster::NODES;
 
 // Offers distance c from node u to the members of m, where all stand at top or below. The members that take it are set in fell, which is returned.
 fn offer(top: u32, m: u32, c: u32, u: u32, fell: u32, next: &mut [u32], row: &mut [u32]) -> u32
-    requires { ⌜ (32 ≤ length (now next)) × (32 ≤ length (now row)) ⌝ }
+    requires { ⌜ (mostNodes ≤ length (now next)) × (mostNodes ≤ length (now row)) ⌝ }
     ensures { λ r. ⌜ Turns top (λ v f. offered (bit m v) c u f) (now (next .entry)) (now (row .entry)) fell (now (next .exit)) (now (row .exit)) r ⌝ }
 {
     if top <= c {
@@ -44,14 +57,14 @@ fn look(
     next: &mut [u32],
     row: &mut [u32],
 ) -> u32
-    requires { ⌜ (96 ≤ length (now arcs)) × (u < 32) × (1 ≤ d) × (d ≤ 32) × (32 ≤ length (now next)) × (32 ≤ length (now row)) ⌝ }
+    requires { ⌜ (arcCells ≤ length (now arcs)) × (u < mostNodes) × (1 ≤ d) × (d ≤ mostNodes) × (mostNodes ≤ length (now next)) × (mostNodes ≤ length (now row)) ⌝ }
     ensures { λ r. ⌜ Turns n (λ v f. relax (graphOf (now (arcs .entry)) n) (λ _. d) v u (memberOf mask u) f) (now (next .entry)) (now (row .entry)) fell (now (next .exit)) (now (row .exit)) r ⌝ }
 {
     if sets::member(mask, u) {
         let i = u as usize;
         let a = offer(n, arcs[i], d - 1, u, fell, next, row);
-        let b = offer(n, arcs[32 + i], d, u, a, next, row);
-        offer(n, arcs[64 + i], d + 1, u, b, next, row)
+        let b = offer(n, arcs[Cluster::NODES + i], d, u, a, next, row);
+        offer(n, arcs[HIGHER + i], d + 1, u, b, next, row)
     } else {
         fell
     }
@@ -59,7 +72,7 @@ fn look(
 
 // Looks at the arcs of the members of mask, from their distances dist, which next holds too. The set of the nodes that fall is returned.
 fn sweep(arcs: &[u32], n: u32, mask: u32, dist: &[u32], next: &mut [u32], row: &mut [u32]) -> u32
-    requires { ⌜ (n ≤ 32) × (96 ≤ length (now arcs)) × (32 ≤ length (now dist)) × (32 ≤ length (now next)) × (32 ≤ length (now row)) × ((v : ℕ) → v < n → (1 ≤ getD (now dist) v 0) × (getD (now dist) v 0 ≤ n) × (getD (now next) v 0 ≡ getD (now dist) v 0)) ⌝ }
+    requires { ⌜ (n ≤ mostNodes) × (arcCells ≤ length (now arcs)) × (mostNodes ≤ length (now dist)) × (mostNodes ≤ length (now next)) × (mostNodes ≤ length (now row)) × ((v : ℕ) → v < n → (1 ≤ getD (now dist) v 0) × (getD (now dist) v 0 ≤ n) × (getD (now next) v 0 ≡ getD (now dist) v 0)) ⌝ }
     ensures { λ r. ⌜ Swept (now (arcs .entry)) n mask (now (dist .entry)) (now (next .exit)) (now (row .exit)) r ⌝ }
 {
     let mut fell = 0;
@@ -82,17 +95,17 @@ fn descend(
     next: &mut [u32],
     table: &mut [u32],
 ) -> u32
-    requires { ⌜ (k < 32) × (n ≤ 32) × (96 ≤ length (now arcs)) × (32 ≤ length (now dist)) × (32 ≤ length (now next)) × (1056 ≤ length (now table)) × ((v : ℕ) → v < n → (1 ≤ getD (now dist) v 0) × (getD (now dist) v 0 ≤ n) × (getD (now next) v 0 ≡ getD (now dist) v 0)) ⌝ }
+    requires { ⌜ (k < mostNodes) × (n ≤ mostNodes) × (arcCells ≤ length (now arcs)) × (mostNodes ≤ length (now dist)) × (mostNodes ≤ length (now next)) × (tableCells ≤ length (now table)) × ((v : ℕ) → v < n → (1 ≤ getD (now dist) v 0) × (getD (now dist) v 0 ≤ n) × (getD (now next) v 0 ≡ getD (now dist) v 0)) ⌝ }
     ensures { λ r. ⌜ Descended (now (arcs .entry)) n k mask (now (dist .entry)) (now (next .exit)) (now (table .entry)) (now (table .exit)) r ⌝ }
 {
-    let a = ((k + 1) * 32) as usize;
-    let swept = sweep(arcs, n, mask, dist, next, &mut table[a..a + 32]);
+    let a = ((k + 1) * NODES) as usize;
+    let swept = sweep(arcs, n, mask, dist, next, &mut table[a..a + Cluster::NODES]);
     sets::meet(swept, sets::below(n))
 }
 
 // The way that v's way grows from: that of the node it came from, where it fell, else its own way but v.
 fn grown_from(fell: u32, v: u32, row: &[u32], way: &[u32]) -> u32
-    requires { ⌜ (v < 32) × (32 ≤ length (now row)) × (32 ≤ length (now way)) × (memberOf fell v ≡ true → getD (now row) v 0 < 32) ⌝ }
+    requires { ⌜ (v < mostNodes) × (mostNodes ≤ length (now row)) × (mostNodes ≤ length (now way)) × (memberOf fell v ≡ true → getD (now row) v 0 < mostNodes) ⌝ }
     ensures { λ r. ⌜ r ≡ before fell (now (row .entry)) (now (way .entry)) v ⌝ }
 {
     let i = v as usize;
@@ -105,7 +118,7 @@ fn grown_from(fell: u32, v: u32, row: &[u32], way: &[u32]) -> u32
 
 // The first node that its way comes to again; n where there is none, and then grown has the ways with one level more.
 fn close(n: u32, fell: u32, row: &[u32], way: &[u32], grown: &mut [u32]) -> u32
-    requires { ⌜ (n ≤ 32) × (32 ≤ length (now row)) × (32 ≤ length (now way)) × (32 ≤ length (now grown)) × ((v : ℕ) → v < n → memberOf fell v ≡ true → getD (now row) v 0 < 32) ⌝ }
+    requires { ⌜ (n ≤ mostNodes) × (mostNodes ≤ length (now row)) × (mostNodes ≤ length (now way)) × (mostNodes ≤ length (now grown)) × ((v : ℕ) → v < n → memberOf fell v ≡ true → getD (now row) v 0 < mostNodes) ⌝ }
     ensures first { λ r. ⌜ r ≡ closer n fell (now (row .entry)) (now (way .entry)) ⌝ }
     ensures grows { λ r. ⌜ (r ≡ n → now (grown .exit) ≡ put 0 (λ v. withOf (before fell (now (row .entry)) (now (way .entry)) v) v) n (now (grown .entry))) ⌝ }
 {
@@ -123,14 +136,14 @@ fn close(n: u32, fell: u32, row: &[u32], way: &[u32], grown: &mut [u32]) -> u32
 
 // Writes the walk back from v at level k, through the rows of the table, until it is at v again. Its length is returned.
 fn trace(table: &[u32], k: u32, v: u32, walk: &mut [u32]) -> u32
-    requires { ⌜ (k ≤ 32) × (1056 ≤ length (now table)) × (33 ≤ length (now walk)) × (trailLength (now table) k v ≤ k) × ((t : ℕ) → t < k → trail (now table) k v t < 32) ⌝ }
+    requires { ⌜ (k ≤ mostNodes) × (tableCells ≤ length (now table)) × (walkCells ≤ length (now walk)) × (trailLength (now table) k v ≤ k) × ((t : ℕ) → t < k → trail (now table) k v t < mostNodes) ⌝ }
     ensures { λ r. ⌜ (r ≡ trailLength (now (table .entry)) k v) × (now (walk .exit) ≡ put 0 (trail (now (table .entry)) k v) (trailLength (now (table .entry)) k v + 1) (now (walk .entry))) ⌝ }
 {
     let mut x = v;
     let mut t = 0;
     while t < k {
         walk[t as usize] = x;
-        x = table[((k - t) * 32 + x) as usize];
+        x = table[((k - t) * NODES + x) as usize];
         t += 1;
         if x == v {
             walk[t as usize] = x;
@@ -142,11 +155,11 @@ fn trace(table: &[u32], k: u32, v: u32, walk: &mut [u32]) -> u32
 
 // Fills in the way of each node at level 0: the node itself.
 fn begin(way: &mut [u32])
-    requires { ⌜ 32 ≤ length (now way) ⌝ }
-    ensures { λ _. ⌜ now (way .exit) ≡ put 0 (λ v. withOf 0 v) 32 (now (way .entry)) ⌝ }
+    requires { ⌜ mostNodes ≤ length (now way) ⌝ }
+    ensures { λ _. ⌜ now (way .exit) ≡ put 0 (λ v. withOf 0 v) mostNodes (now (way .entry)) ⌝ }
 {
     let mut v = 0;
-    while v < 32 {
+    while v < NODES {
         way[v as usize] = sets::with(0, v);
         v += 1;
     }
@@ -154,14 +167,14 @@ fn begin(way: &mut [u32])
 
 // The search, level by level.
 fn search(arcs: &[u32], n: u32, walk: &mut [u32]) -> u32
-    requires { ⌜ (1 ≤ n) × (n ≤ 32) × (96 ≤ length (now arcs)) × (33 ≤ length (now walk)) ⌝ }
+    requires { ⌜ (1 ≤ n) × (n ≤ mostNodes) × (arcCells ≤ length (now arcs)) × (walkCells ≤ length (now walk)) ⌝ }
     ensures { λ r. ⌜ (r ≡ endLength (graphOf (now (arcs .entry)) n) (outcome (graphOf (now (arcs .entry)) n))) × (now (walk .exit) ≡ endWalk (graphOf (now (arcs .entry)) n) (outcome (graphOf (now (arcs .entry)) n)) (now (walk .entry))) ⌝ }
 {
-    let mut dist = [n; 32];
-    let mut next = [n; 32];
-    let mut way = [0u32; 32];
-    let mut grown = [0u32; 32];
-    let mut table = [0u32; 1056];
+    let mut dist = [n; Cluster::NODES];
+    let mut next = [n; Cluster::NODES];
+    let mut way = [0u32; Cluster::NODES];
+    let mut grown = [0u32; Cluster::NODES];
+    let mut table = [0u32; TABLE];
     begin(&mut way);
     let mut mask = sets::below(n);
     let mut k = 0;
@@ -170,8 +183,8 @@ fn search(arcs: &[u32], n: u32, walk: &mut [u32]) -> u32
         if fell == 0 {
             return 0;
         }
-        let a = ((k + 1) * 32) as usize;
-        let v = close(n, fell, &table[a..a + 32], &way, &mut grown);
+        let a = ((k + 1) * NODES) as usize;
+        let v = close(n, fell, &table[a..a + Cluster::NODES], &way, &mut grown);
         if v < n {
             return trace(&table, k + 1, v, walk);
         }
@@ -184,20 +197,20 @@ fn search(arcs: &[u32], n: u32, walk: &mut [u32]) -> u32
 }
 
 // Searches the graph of arcs on n nodes for a simple negative cycle: its length, and the walk back around it in walk, whose first node comes again
-// at its end. 0, and walk as it is, where there is none, n is 0 or above 32, arcs is shorter than 96 or walk shorter than 33.
+// at its end. 0, and walk as it is, where there is none, n is 0 or above NODES, arcs is shorter than ARCS or walk shorter than WALK.
 pub fn find(arcs: &[u32], n: u32, walk: &mut [u32]) -> u32
     ensures { λ r. ⌜ (r ≡ foundLength (now (arcs .entry)) n (now (walk .entry))) × (now (walk .exit) ≡ foundWalk (now (arcs .entry)) n (now (walk .entry))) ⌝ }
 {
     if n == 0 {
         return 0;
     }
-    if 32 < n {
+    if NODES < n {
         return 0;
     }
-    if arcs.len() < 96 {
+    if arcs.len() < ARCS {
         return 0;
     }
-    if walk.len() < 33 {
+    if walk.len() < WALK {
         return 0;
     }
     search(arcs, n, walk)

@@ -1,12 +1,13 @@
 -- A layout within given caps exists exactly where the caps fit, and the dealt layout is one.
 -- Assumes nothing.
-use Prim.Native.Nat.{ℕ, _+_, _*_, _≤_, _<_, min}
-use mathlib.Core.Path.{_≡_, refl, ap, _∙_}
-use mathlib.Core.Bool.{Bool, true, false, _&&_, false≢true}
+use Prim.Native.Nat.{ℕ, _*_, _≤_, _<_, min}
+use mathlib.Core.Path.{_≡_, ap, _∙_}
+use mathlib.Core.Bool.{true}
 use native.Mathlib.Nat.{mul-comm, mul-one}
 use native.Mathlib.Omega.{arith}
 use lib.Dec.{leb}
 use borrow.Author.Tests.{leb-true, le-leb}
+use Rattle.sums.proofs.Tests.{both}
 use Rattle.sums.specs.TermsSums.{sumTo}
 use Rattle.sums.specs.ModelSums.{is}
 use Rattle.sums.proofs.Sum.{sum-cong, sum-le, sum-const, sum-scale, sum-swap}
@@ -14,7 +15,7 @@ use Rattle.exchange.specs.ModelRow.{zoneCount, cover, Within, copies}
 use Rattle.dealing.specs.ModelDeal.{inZone, Fits, fits, given, start, dealt}
 use Rattle.dealing.proofs.Climb.{inZone-le}
 use Rattle.dealing.proofs.Turns.{turns, turns-whole}
-use Rattle.dealing.proofs.Line.{among-le, zoneCount-inZone, line, line-copies, line-row, line-cover, line-end}
+use Rattle.dealing.proofs.Line.{among-le, zoneCount-inZone, line, line-copies, line-row, line-cover}
 use Rattle.dealing.proofs.Given.{given-le, given-sum, given-zones}
 
 -- ---- the test
@@ -24,15 +25,11 @@ pub fits-true : (P N R Z : ℕ) (zone cap : ℕ → ℕ) → Fits P N R Z zone c
 unfolding fits
 fits-true P N R Z zone cap h = simp (le-leb _ _ (h .0), le-leb _ _ (h .1))
 
-both-true : (a b : Bool) → (a && b) ≡ true → (a ≡ true) × (b ≡ true)
-both-true true b e = (refl, e)
-both-true false b e = absurd (false≢true e)
-
 -- Where the test passes, the caps fit.
 pub true-fits : (P N R Z : ℕ) (zone cap : ℕ → ℕ) → fits P N R Z zone cap ≡ true → Fits P N R Z zone cap
 unfolding fits
 true-fits P N R Z zone cap e =
-    let b = both-true (leb (R * P) (sumTo N cap)) (leb (Z * P) (sumTo N (λ z. min P (inZone zone cap z N)))) e in
+    let b = both (leb (R * P) (sumTo N cap)) (leb (Z * P) (sumTo N (λ z. min P (inZone zone cap z N)))) e in
     (leb-true _ _ (b .0), leb-true _ _ (b .1))
 
 -- Larger caps fit too.
@@ -99,8 +96,3 @@ enough P N R Z zone cap some zones caps le h =
 pub dealt-le : (P N R : ℕ) (zone cap : ℕ → ℕ) (p b : ℕ) → dealt P N R zone cap p b ≤ 1
 unfolding dealt
 dealt-le P N R zone cap p b = among-le P (start P N zone (given P N R zone cap) b) (given P N R zone cap b) p
-
--- A node's copies end within the R * P places of the line, whether the caps fit or not.
-pub given-end : (P N R : ℕ) (zone cap : ℕ → ℕ) → ((x : ℕ) → x < N → zone x < N) → (b : ℕ) → b < N
-    → start P N zone (given P N R zone cap) b + given P N R zone cap b ≤ R * P
-given-end P N R zone cap zones b l = omega (arith, line-end P N zone (given P N R zone cap) zones b l, given-sum P N R zone cap)

@@ -2,18 +2,18 @@
 -- the zones that it must.
 -- Assumes nothing.
 use Prim.Native.Nat.{ℕ, _+_, _-_, _*_, _/_, _%_, _≤_, _<_, min}
-use mathlib.Core.Path.{_≡_, refl, sym, ap, ap₂, _∙_}
+use mathlib.Core.Path.{_≡_, sym, ap, ap₂, _∙_}
 use mathlib.Core.Bool.{Bool, true, false, cond}
 use mathlib.Core.Logic.{_⊎_, inl, inr, ⊎-elim}
 use native.Mathlib.Nat.{zero-add, mul-zero, mul-one, mul-comm, add-mul-div-right, le-div-iff-mul-le}
 use native.Mathlib.Omega.{arith}
 use lib.Dec.{ltb}
-use borrow.Author.Tests.{ltb-true, ltb-false}
+use borrow.Author.Tests.{lt-ltb, le-ltb}
 use Rattle.sums.specs.TermsSums.{sumTo, one-if}
 use Rattle.sums.specs.ModelSums.{is}
-use Rattle.sums.proofs.Sum.{eq-or-ne, is-times, not-times, sum-cong, sum-le, sum-add, sum-scale, sum-upto}
+use Rattle.sums.proofs.Sum.{lt-or-ge, eq-or-ne, is-times, not-times, sum-cong, sum-le, sum-add, sum-scale}
 use Rattle.exchange.specs.ModelRow.{zoneCount, cover, copies}
-use Rattle.dealing.specs.ModelDeal.{inZone, light, heavy, zoneStart, start, among}
+use Rattle.dealing.specs.ModelDeal.{inZone, light, heavy, zoneStart, totals, start, among}
 use Rattle.dealing.proofs.Climb.{climb, climb-sum, climb-none, zones-sum}
 use Rattle.dealing.proofs.Turns.{turns, turns-rising, turns-none, turns-round, turns-among, turns-sum, turns-ge}
 
@@ -31,63 +31,62 @@ pub zoneCount-inZone : (N : ℕ) (zone S : ℕ → ℕ) (z : ℕ) → zoneCount 
 unfolding zoneCount inZone
 zoneCount-inZone N zone S z = sum-cong N (λ x. S x * is (zone x) z) (λ x. is (zone x) z * S x) (λ x l. mul-comm (S x) (is (zone x) z))
 
-module _ (P N : ℕ) (zone n : ℕ → ℕ) where
-  -- 1 for a heavy zone, else 0.
-  unfoldable weighty : ℕ → ℕ
-  weighty z = cond (ltb (inZone zone n z N) P) 0 1
+-- 1 for a heavy zone, else 0.
+unfoldable pub weighty : ℕ → (ℕ → ℕ) → ℕ → ℕ
+weighty P t z = cond (ltb (t z) P) 0 1
 
+module _ (P N : ℕ) (t : ℕ → ℕ) (z : ℕ) where
   -- A light zone, and all that hangs on it.
-  record Light (z : ℕ) : Type 0 where
-    few : inZone zone n z N < P
-    lights : light P N zone n z ≡ inZone zone n z N
-    heavies : heavy P N zone n z ≡ 0
-    weights : weighty z ≡ 0
-    begins : zoneStart P N zone n z ≡ sumTo z (light P N zone n)
+  pub record Light : Type 0 where
+    pub few : t z < P
+    pub lights : light P t z ≡ t z
+    pub heavies : heavy P t z ≡ 0
+    pub weights : weighty P t z ≡ 0
+    pub begins : zoneStart P N t z ≡ sumTo z (light P t)
 
   -- A heavy zone, in the same way.
-  record Heavy (z : ℕ) : Type 0 where
-    many : P ≤ inZone zone n z N
-    lights : light P N zone n z ≡ 0
-    heavies : heavy P N zone n z ≡ inZone zone n z N
-    weights : weighty z ≡ 1
-    begins : zoneStart P N zone n z ≡ sumTo N (light P N zone n) + sumTo z (heavy P N zone n)
+  pub record Heavy : Type 0 where
+    pub many : P ≤ t z
+    pub lights : light P t z ≡ 0
+    pub heavies : heavy P t z ≡ t z
+    pub weights : weighty P t z ≡ 1
+    pub begins : zoneStart P N t z ≡ sumTo N (light P t) + sumTo z (heavy P t)
 
-  light-or-heavy : (z : ℕ) → Light z ⊎ Heavy z
+  -- A zone with fewer than P copies is light,
+  pub light-zone : t z < P → Light
   unfolding light heavy weighty zoneStart
-  light-or-heavy z = go (ltb (inZone zone n z N) P) refl
-    where
-      go : (t : Bool) → ltb (inZone zone n z N) P ≡ t → Light z ⊎ Heavy z
-      go true e =
-          inl record { few = ltb-true _ _ e; lights = rw e; heavies = rw e; weights = rw e; begins = rw e }
-      go false e =
-          inr record { many = ltb-false _ _ e; lights = rw e; heavies = rw e; weights = rw e; begins = rw e }
+  light-zone h = let e = lt-ltb (t z) P h in record { few = h; lights = rw e; heavies = rw e; weights = rw e; begins = rw e }
 
+  -- and another one is heavy.
+  pub heavy-zone : P ≤ t z → Heavy
+  unfolding light heavy weighty zoneStart
+  heavy-zone h = let e = le-ltb (t z) P h in record { many = h; lights = rw e; heavies = rw e; weights = rw e; begins = rw e }
+
+  light-or-heavy : Light ⊎ Heavy
+  light-or-heavy = ⊎-elim (λ h. inl (light-zone h)) (λ h. inr (heavy-zone h)) (lt-or-ge (t z) P)
+
+  -- The two parts are the whole zone.
+  light-heavy : light P t z + heavy P t z ≡ t z
+  light-heavy = ⊎-elim (λ (a : Light). omega arith) (λ (b : Heavy). omega arith) light-or-heavy
+
+-- The light zones and the heavy ones have all copies.
+pub lights-heavies : (P : ℕ) (t : ℕ → ℕ) (n : ℕ) → sumTo n (light P t) + sumTo n (heavy P t) ≡ sumTo n t
+lights-heavies P t n =
+    sym (sum-add n (light P t) (heavy P t)) ∙ sum-cong n (λ z. light P t z + heavy P t z) t (λ z l. light-heavy P n t z)
+
+module _ (P N : ℕ) (zone n : ℕ → ℕ) where
   -- The light and the heavy zones are the whole line.
-  pub line-length : ((x : ℕ) → x < N → zone x < N) → sumTo N (light P N zone n) + sumTo N (heavy P N zone n) ≡ sumTo N n
-  line-length zones =
-      sym (sum-add N (light P N zone n) (heavy P N zone n))
-      ∙ (sum-cong N (λ z. light P N zone n z + heavy P N zone n z) (λ z. inZone zone n z N)
-      (λ z l. ⊎-elim (λ (a : Light z). omega arith) (λ (b : Heavy z). omega arith) (light-or-heavy z))
-      ∙ zones-sum zone N n N zones)
-
-  -- A node's copies end within the line.
-  pub line-end : ((x : ℕ) → x < N → zone x < N) → (b : ℕ) → b < N → start P N zone n b + n b ≤ sumTo N n
-  unfolding start inZone
-  line-end zones b l =
-      let z = zone b in
-      let w = sum-upto N b (λ x. is (zone x) z * n x) l in
-      ⊎-elim (λ (a : Light z). omega (arith, w, is-times {a = z} {b = z} refl (n b), line-length zones, sum-upto N z (light P N zone n) (zones b l)))
-      (λ (a : Heavy z). omega (arith, w, is-times {a = z} {b = z} refl (n b), line-length zones, sum-upto N z (heavy P N zone n) (zones b l)))
-      (light-or-heavy z)
+  pub line-length : ((x : ℕ) → x < N → zone x < N) → sumTo N (light P (totals zone n N)) + sumTo N (heavy P (totals zone n N)) ≡ sumTo N n
+  line-length zones = lights-heavies P (totals zone n N) N ∙ zones-sum zone N n N zones
 
   -- What the zones count, at most P each: the light copies, and P for each heavy zone.
-  zones-count : sumTo N (λ z. min P (inZone zone n z N)) ≡ sumTo N (light P N zone n) + sumTo N weighty * P
+  zones-count : sumTo N (λ z. min P (inZone zone n z N)) ≡ sumTo N (light P (totals zone n N)) + sumTo N (weighty P (totals zone n N)) * P
   zones-count =
-      sum-cong N (λ z. min P (inZone zone n z N)) (λ z. light P N zone n z + P * weighty z)
-      (λ z l. ⊎-elim (λ (a : Light z). omega (arith, ap (λ (t : ℕ). P * t) (a .weights), mul-zero P))
-      (λ (b : Heavy z). omega (arith, ap (λ (t : ℕ). P * t) (b .weights), mul-one P)) (light-or-heavy z))
-      ∙ (sum-add N (light P N zone n) (λ z. P * weighty z)
-      ∙ ap (λ (t : ℕ). sumTo N (light P N zone n) + t) (sum-scale N P weighty ∙ mul-comm P (sumTo N weighty)))
+      sum-cong N (λ z. min P (inZone zone n z N)) (λ z. light P (totals zone n N) z + P * weighty P (totals zone n N) z)
+      (λ z l. ⊎-elim (λ (a : Light P N (totals zone n N) z). omega (arith, ap (λ (t : ℕ). P * t) (a .weights), mul-zero P))
+      (λ (b : Heavy P N (totals zone n N) z). omega (arith, ap (λ (t : ℕ). P * t) (b .weights), mul-one P)) (light-or-heavy P N (totals zone n N) z))
+      ∙ (sum-add N (light P (totals zone n N)) (λ z. P * weighty P (totals zone n N) z)
+      ∙ ap (λ (t : ℕ). sumTo N (light P (totals zone n N)) + t) (sum-scale N P (weighty P (totals zone n N)) ∙ mul-comm P (sumTo N (weighty P (totals zone n N)))))
 
 -- The row of partition p, where the copies n of the nodes stand in the line and are dealt.
 unfoldable pub line : (P N : ℕ) (zone n : ℕ → ℕ) → ℕ → ℕ → ℕ
@@ -108,11 +107,11 @@ module _ (P N : ℕ) (zone n : ℕ → ℕ) (some : 1 ≤ P) (zones : (x : ℕ) 
 
   module _ (p : ℕ) (small : p < P) where
     -- The nodes of a zone that come into the row: as often as the zone's part of the line comes round.
-    zone-turns : (z : ℕ) → turns P p (zoneStart P N zone n z) + inZone zone (line P N zone n p) z N
-        ≡ turns P p (zoneStart P N zone n z + inZone zone n z N)
+    zone-turns : (z : ℕ) → turns P p (zoneStart P N (totals zone n N) z) + inZone zone (line P N zone n p) z N
+        ≡ turns P p (zoneStart P N (totals zone n N) z + inZone zone n z N)
     unfolding inZone line start climb
     zone-turns z =
-        let a = zoneStart P N zone n z in
+        let a = zoneStart P N (totals zone n N) z in
         ap (λ (t : ℕ). turns P p a + t)
         (sum-cong N (λ b. is (zone b) z * line P N zone n p b) (climb (turns P p) a (λ x. is (zone x) z * n x))
         (λ b l. ⊎-elim
@@ -120,7 +119,7 @@ module _ (P N : ℕ) (zone n : ℕ → ℕ) (some : 1 ≤ P) (zones : (x : ℕ) 
         omega (
           arith,
           is-times e (line P N zone n p b),
-          ap (λ (w : ℕ). among P (zoneStart P N zone n w + inZone zone n w b) (n b) p) e,
+          ap (λ (w : ℕ). among P (zoneStart P N (totals zone n N) w + inZone zone n w b) (n b) p) e,
           turns-among P some p x (n b) small (few b l),
           ap (λ (t : ℕ). turns P p (x + t)) (is-times e (n b)),
         ))
@@ -130,43 +129,43 @@ module _ (P N : ℕ) (zone n : ℕ → ℕ) (some : 1 ≤ P) (zones : (x : ℕ) 
 
     -- A zone's part of the row, as a step through the light zones and a step through the heavy ones.
     lighter : ℕ → ℕ
-    lighter = climb (turns P p) 0 (light P N zone n)
+    lighter = climb (turns P p) 0 (light P (totals zone n N))
 
     heavier : ℕ → ℕ
-    heavier = climb (turns P p) (sumTo N (light P N zone n)) (heavy P N zone n)
+    heavier = climb (turns P p) (sumTo N (light P (totals zone n N))) (heavy P (totals zone n N))
 
-    light-steps : sumTo N lighter ≡ turns P p (sumTo N (light P N zone n))
+    light-steps : sumTo N lighter ≡ turns P p (sumTo N (light P (totals zone n N)))
     unfolding lighter
     light-steps =
         omega (
           arith,
-          climb-sum (turns P p) (turns-rising P some p) 0 (light P N zone n) N,
+          climb-sum (turns P p) (turns-rising P some p) 0 (light P (totals zone n N)) N,
           turns-none P some p,
-          ap (turns P p) (zero-add (sumTo N (light P N zone n))),
+          ap (turns P p) (zero-add (sumTo N (light P (totals zone n N)))),
         )
 
-    zone-step : (a : ℕ) (f : ℕ → ℕ) (z : ℕ) → a + sumTo z f ≡ zoneStart P N zone n z → f z ≡ inZone zone n z N
+    zone-step : (a : ℕ) (f : ℕ → ℕ) (z : ℕ) → a + sumTo z f ≡ zoneStart P N (totals zone n N) z → f z ≡ inZone zone n z N
         → inZone zone (line P N zone n p) z N ≡ climb (turns P p) a f z
     unfolding climb
     zone-step a f z e d = omega (arith, zone-turns z, ap (turns P p) e, ap (turns P p) (ap₂ _+_ e d))
 
-    zone-light : (z : ℕ) → Light P N zone n z → (inZone zone (line P N zone n p) z N ≡ lighter z) × (heavier z ≡ 0) × (lighter z ≤ 1)
+    zone-light : (z : ℕ) → Light P N (totals zone n N) z → (inZone zone (line P N zone n p) z N ≡ lighter z) × (heavier z ≡ 0) × (lighter z ≤ 1)
     unfolding lighter heavier
     zone-light z a =
-        let x = zoneStart P N zone n z in
-        let e = zone-step 0 (light P N zone n) z (omega arith) (a .lights) in (
+        let x = zoneStart P N (totals zone n N) z in
+        let e = zone-step 0 (light P (totals zone n N)) z (omega arith) (a .lights) in (
           e,
-          climb-none (turns P p) (sumTo N (light P N zone n)) (heavy P N zone n) z (a .heavies),
+          climb-none (turns P p) (sumTo N (light P (totals zone n N))) (heavy P (totals zone n N)) z (a .heavies),
           omega (arith, zone-turns z, turns-round P some p x, turns-rising P some p (x + inZone zone n z N) (x + P) (omega arith)),
         )
 
-    zone-heavy : (z : ℕ) → Heavy P N zone n z → (inZone zone (line P N zone n p) z N ≡ heavier z) × (lighter z ≡ 0) × (1 ≤ heavier z)
+    zone-heavy : (z : ℕ) → Heavy P N (totals zone n N) z → (inZone zone (line P N zone n p) z N ≡ heavier z) × (lighter z ≡ 0) × (1 ≤ heavier z)
     unfolding lighter heavier
     zone-heavy z b =
-        let x = zoneStart P N zone n z in
-        let e = zone-step (sumTo N (light P N zone n)) (heavy P N zone n) z (sym (b .begins)) (b .heavies) in (
+        let x = zoneStart P N (totals zone n N) z in
+        let e = zone-step (sumTo N (light P (totals zone n N))) (heavy P (totals zone n N)) z (sym (b .begins)) (b .heavies) in (
           e,
-          climb-none (turns P p) 0 (light P N zone n) z (b .lights),
+          climb-none (turns P p) 0 (light P (totals zone n N)) z (b .lights),
           omega (arith, zone-turns z, turns-round P some p x, turns-rising P some p (x + P) (x + inZone zone n z N) (omega arith)),
         )
 
@@ -176,12 +175,12 @@ module _ (P N : ℕ) (zone n : ℕ → ℕ) (some : 1 ≤ P) (zones : (x : ℕ) 
     line-row =
         sym (zones-sum zone N (line P N zone n p) N zones)
         ∙ (sum-cong N (λ z. inZone zone (line P N zone n p) z N) (λ z. lighter z + heavier z)
-        (λ z l. ⊎-elim (λ (a : Light P N zone n z). omega (arith, zone-light z a)) (λ (b : Heavy P N zone n z). omega (arith, zone-heavy z b)) (light-or-heavy P N zone n z))
+        (λ z l. ⊎-elim (λ (a : Light P N (totals zone n N) z). omega (arith, zone-light z a)) (λ (b : Heavy P N (totals zone n N) z). omega (arith, zone-heavy z b)) (light-or-heavy P N (totals zone n N) z))
         ∙ omega (
           arith,
           sum-add N lighter heavier,
           light-steps,
-          climb-sum (turns P p) (turns-rising P some p) (sumTo N (light P N zone n)) (heavy P N zone n) N,
+          climb-sum (turns P p) (turns-rising P some p) (sumTo N (light P (totals zone n N))) (heavy P (totals zone n N)) N,
           ap (turns P p) (line-length P N zone n zones),
         ))
 
@@ -189,16 +188,16 @@ module _ (P N : ℕ) (zone n : ℕ → ℕ) (some : 1 ≤ P) (zones : (x : ℕ) 
     pub line-cover : (Z : ℕ) → Z * P ≤ sumTo N (λ z. min P (inZone zone n z N)) → Z ≤ cover N zone (line P N zone n p)
     unfolding cover
     line-cover Z h =
-        let wide : sumTo N (λ z. lighter z + weighty P N zone n z) ≤ cover N zone (line P N zone n p) =
-        sum-le N (λ z. lighter z + weighty P N zone n z) (λ z. min 1 (zoneCount N zone (line P N zone n p) z))
-        (λ z l. ⊎-elim (λ (a : Light P N zone n z). omega (arith, zone-light z a, zoneCount-inZone N zone (line P N zone n p) z))
-        (λ (b : Heavy P N zone n z). omega (arith, zone-heavy z b, zoneCount-inZone N zone (line P N zone n p) z)) (light-or-heavy P N zone n z)) in
-        let long : Z ≤ (sumTo N (light P N zone n) + sumTo N (weighty P N zone n) * P) / P =
+        let wide : sumTo N (λ z. lighter z + weighty P (totals zone n N) z) ≤ cover N zone (line P N zone n p) =
+        sum-le N (λ z. lighter z + weighty P (totals zone n N) z) (λ z. min 1 (zoneCount N zone (line P N zone n p) z))
+        (λ z l. ⊎-elim (λ (a : Light P N (totals zone n N) z). omega (arith, zone-light z a, zoneCount-inZone N zone (line P N zone n p) z))
+        (λ (b : Heavy P N (totals zone n N) z). omega (arith, zone-heavy z b, zoneCount-inZone N zone (line P N zone n p) z)) (light-or-heavy P N (totals zone n N) z)) in
+        let long : Z ≤ (sumTo N (light P (totals zone n N)) + sumTo N (weighty P (totals zone n N)) * P) / P =
         le-div-iff-mul-le some .1 (omega (arith, zones-count P N zone n)) in
         omega (
           arith,
-          sum-add N lighter (weighty P N zone n),
+          sum-add N lighter (weighty P (totals zone n N)),
           light-steps,
-          turns-ge P some p (sumTo N (light P N zone n)),
-          add-mul-div-right (sumTo N (light P N zone n)) (sumTo N (weighty P N zone n)) some,
+          turns-ge P some p (sumTo N (light P (totals zone n N))),
+          add-mul-div-right (sumTo N (light P (totals zone n N))) (sumTo N (weighty P (totals zone n N))) some,
         )

@@ -43,24 +43,27 @@ more P N R zone cap b = pour (R * P - sumTo N (first P R zone cap)) (λ c. cap c
 unfoldable pub given : (P N R : ℕ) (zone cap : ℕ → ℕ) → ℕ → ℕ
 given P N R zone cap b = first P R zone cap b + more P N R zone cap b
 
--- ---- the line of all copies, for any numbers n of copies
+-- ---- the line of all copies, from the copies t of the zones
 
 -- The copies of a zone that has fewer than P, else 0.
-unfoldable pub light : (P N : ℕ) (zone n : ℕ → ℕ) → ℕ → ℕ
-light P N zone n z = cond (ltb (inZone zone n z N) P) (inZone zone n z N) 0
+unfoldable pub light : ℕ → (ℕ → ℕ) → ℕ → ℕ
+light P t z = cond (ltb (t z) P) (t z) 0
 
 -- The copies of a zone that has P or more, else 0.
-unfoldable pub heavy : (P N : ℕ) (zone n : ℕ → ℕ) → ℕ → ℕ
-heavy P N zone n z = cond (ltb (inZone zone n z N) P) 0 (inZone zone n z N)
+unfoldable pub heavy : ℕ → (ℕ → ℕ) → ℕ → ℕ
+heavy P t z = cond (ltb (t z) P) 0 (t z)
 
--- Where a zone begins in the line: the light zones in their order, then the heavy ones.
-unfoldable pub zoneStart : (P N : ℕ) (zone n : ℕ → ℕ) → ℕ → ℕ
-zoneStart P N zone n z =
-    cond (ltb (inZone zone n z N) P) (sumTo z (light P N zone n)) (sumTo N (light P N zone n) + sumTo z (heavy P N zone n))
+-- Where a zone begins in the line of N zones: the light zones in their order, then the heavy ones.
+unfoldable pub zoneStart : (P N : ℕ) → (ℕ → ℕ) → ℕ → ℕ
+zoneStart P N t z = cond (ltb (t z) P) (sumTo z (light P t)) (sumTo N (light P t) + sumTo z (heavy P t))
+
+-- The copies of each zone, for any numbers n of copies of the N nodes.
+abbrev pub totals : (zone n : ℕ → ℕ) → ℕ → ℕ → ℕ
+totals zone n N z = inZone zone n z N
 
 -- Where a node's copies begin: after those of the nodes of its zone that stand before it.
 unfoldable pub start : (P N : ℕ) (zone n : ℕ → ℕ) → ℕ → ℕ
-start P N zone n b = zoneStart P N zone n (zone b) + inZone zone n (zone b) b
+start P N zone n b = zoneStart P N (totals zone n N) (zone b) + inZone zone n (zone b) b
 
 -- ---- dealing
 

@@ -1,6 +1,6 @@
 -- The tests mean the terms: validity, both ways; acceptance, former layouts and named rows, from the test to the term.
 -- Assumes nothing.
-use Prim.Native.Nat.{ℕ, zero, suc, _*_, _≤_, _<_}
+use Prim.Native.Nat.{ℕ, zero, suc, _≤_, _<_}
 use mathlib.Core.Path.{_≡_, refl, ap, ap₂, _∙_}
 use mathlib.Core.Bool.{Bool, true, _&&_, false≢true}
 use mathlib.Core.Logic.{⊎-elim}
@@ -10,6 +10,7 @@ use native.Mathlib.Omega.{arith}
 use lib.Dec.{ltb, leb, eqb}
 use lib.ListN.{length, getD}
 use borrow.Author.Tests.{ltb-true, lt-ltb, leb-true, le-leb, eqb-true, eq-eqb}
+use Rattle.cluster.proofs.Taking.{takes-held}
 use Rattle.cluster.specs.Terms.{mostBits, mostCopies, mostNodes, Topology, partitions, noNode, nodeAt, idsOf, mem, rising, zonesOf, Layout, row, copiesIn, ValidRow, ValidAt, IsFormer}
 use Rattle.cluster.specs.TermsReading.{Accepted}
 use Rattle.sums.proofs.Tests.{both}
@@ -80,7 +81,7 @@ test-valid t L s h =
       partition-rows = e;
       rows = λ p l. row-valid t (row L p) (every-at (rowTest t) L [] (c .0) p (omega (arith, e)));
       capacities = λ b l.
-          leb-true (copiesIn L (nodeAt t b .id) * s) (nodeAt t b .capacity) (every-at (nodeTest L s) (t .nodes) noNode (c .1) b l);
+          takes-held (nodeAt t b) (copiesIn L (nodeAt t b .id)) s .0 (every-at (nodeTest L s) (t .nodes) noNode (c .1) b l);
     }
 
 -- and what is valid passes it.
@@ -91,7 +92,7 @@ valid-test t L s v =
     (ap₂ _&&_ (eq-eqb (length L) (partitions t) (v .partition-rows))
     (ap₂ _&&_ (at-every (rowTest t) L [] (λ p l. valid-row t (row L p) (v .rows p (omega (arith, v .partition-rows)))))
     (at-every (nodeTest L s) (t .nodes) noNode
-    (λ b l. le-leb (copiesIn L (nodeAt t b .id) * s) (nodeAt t b .capacity) (v .capacities b l)))))
+    (λ b l. takes-held (nodeAt t b) (copiesIn L (nodeAt t b .id)) s .1 (v .capacities b l)))))
 
 -- What is valid at a size is valid at each smaller one.
 pub valid-below : (t : Topology) (L : Layout) (s s′ : ℕ) → 1 ≤ s → s ≤ s′ → ValidAt t L s′ → ValidAt t L s

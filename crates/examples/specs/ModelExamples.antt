@@ -1,12 +1,12 @@
 -- A test of an example that computes: it lists every layout that could be valid, and looks at each. Nobody has to believe this file: that an
 -- example which passes holds is a theorem (proofs/Table.antt).
 -- Assumes nothing.
-use Prim.Native.Nat.{ℕ, zero, suc, _*_}
+use Prim.Native.Nat.{ℕ, zero, suc}
 use mathlib.Core.Bool.{Bool, true, false, not, _&&_, _||_}
 use mathlib.Core.List.{List, [], _∷_, _++_, map}
 use lib.Dec.{ltb, leb, eqb}
 use lib.ListN.{length}
-use Rattle.cluster.specs.Terms.{mostBits, mostCopies, mostNodes, Topology, partitions, idsOf, mem, rising, zonesOf, Layout, copiesIn, distance}
+use Rattle.cluster.specs.Terms.{takes, mostBits, mostCopies, mostNodes, Topology, partitions, idsOf, mem, rising, zonesOf, Layout, copiesIn, distance}
 use Rattle.cluster.specs.declared.Node.{Node}
 use Rattle.examples.specs.TermsExamples.{Rows, unnamed, named, Outcome, no-layout, planned, Example}
 
@@ -59,7 +59,7 @@ rowTest t r =
 
 -- What ValidAt asks of a node.
 unfoldable pub nodeTest : Layout → ℕ → Node → Bool
-nodeTest L s n = leb (copiesIn L (n .id) * s) (n .capacity)
+nodeTest L s n = takes n (copiesIn L (n .id)) s
 
 -- ValidAt.
 unfoldable pub validTest : Topology → Layout → ℕ → Bool

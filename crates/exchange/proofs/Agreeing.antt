@@ -1,20 +1,14 @@
 -- Rows and layouts are read at the nodes below N and the partitions below P only: two that have the same values there have the same counts, covers,
--- copies and weights, are valid, within the caps, best or better alike, and allow the same exchanges.
+-- copies and weights, and are valid, within the caps or better alike.
 -- Assumes nothing.
-use Prim.Native.Nat.{ℕ, suc, _+_, _-_, _*_, _<_, min}
+use Prim.Native.Nat.{ℕ, _+_, _-_, _*_, _<_, min}
 use mathlib.Core.Path.{_≡_, refl, sym, ap, ap₂, _∙_}
-use mathlib.Core.Bool.{Bool}
-use mathlib.Core.Logic.{inl, inr, ⊎-elim}
 use native.Mathlib.Omega.{arith}
 use Rattle.sums.specs.TermsSums.{sumTo}
 use Rattle.sums.specs.ModelSums.{is}
 use Rattle.sums.proofs.Sum.{sum-cong}
-use Rattle.exchange.specs.ModelRow.{zoneCount, cover, Valid, swap, copies, weigh, Within, Agree, Exchange}
-use Rattle.exchange.specs.ModelSwap.{fits}
-use Rattle.exchange.specs.ModelCircuit.{Allowed, Better, turn}
-use Rattle.exchange.specs.ModelUncross.{Walk, uncross, improved, Right}
-use Rattle.exchange.specs.ModelJoin.{Heaviest, ExchangeGraph}
-use Rattle.exchange.specs.ModelLevels.{Graph}
+use Rattle.exchange.specs.ModelRow.{zoneCount, cover, Valid, swap, copies, weigh, Within, Agree}
+use Rattle.exchange.specs.ModelCircuit.{Better}
 
 -- Rows with the same bits.
 abbrev pub SameRow : ℕ → (ℕ → ℕ) → (ℕ → ℕ) → Type 0
@@ -25,9 +19,6 @@ abbrev pub SameLayout : ℕ → ℕ → (ℕ → ℕ → ℕ) → (ℕ → ℕ �
 SameLayout P N S T = (p : ℕ) → p < P → (b : ℕ) → b < N → S p b ≡ T p b
 
 -- Sameness goes both ways.
-pub same-row-sym : {N : ℕ} {S T : ℕ → ℕ} → SameRow N S T → SameRow N T S
-same-row-sym h b k = sym (h b k)
-
 pub same-layout-sym : {P N : ℕ} {S T : ℕ → ℕ → ℕ} → SameLayout P N S T → SameLayout P N T S
 same-layout-sym h p l b k = sym (h p l b k)
 
@@ -45,11 +36,6 @@ module _ (N : ℕ) (zone S T : ℕ → ℕ) (h : SameRow N S T) where
   unfolding cover
   cover-cong =
       sum-cong N (λ z. min 1 (zoneCount N zone S z)) (λ z. min 1 (zoneCount N zone T z)) (λ z k. ap (min 1) (zoneCount-cong z))
-
-  -- The same nodes fit into them.
-  pub fits-cong : (Z z b : ℕ) → fits N Z zone S z b ≡ fits N Z zone T z b
-  unfolding fits
-  fits-cong Z z b = rw (zoneCount-cong z, zoneCount-cong (zone b), cover-cong)
 
   -- One is valid where the other is.
   pub valid-cong : (R Z : ℕ) → Valid N R Z zone S → Valid N R Z zone T
@@ -92,49 +78,7 @@ module _ (P N : ℕ) (S T : ℕ → ℕ → ℕ) (h : SameLayout P N S T) where
         caps = λ b k. omega (arith, copies-cong b k, w .caps b k);
       }
 
-  -- They allow the same exchanges.
-  pub exchange-cong : (R Z : ℕ) (zone : ℕ → ℕ) (free : ℕ → ℕ → ℕ) (p a b : ℕ) → p < P → Exchange N R Z zone free S p a b
-      → Exchange N R Z zone free T p a b
-  exchange-cong R Z zone free p a b l e =
-      record {
-        a-node = e .a-node;
-        b-node = e .b-node;
-        a-in = sym (h p l a (e .a-node)) ∙ e .a-in;
-        b-out = sym (h p l b (e .b-node)) ∙ e .b-out;
-        a-free = e .a-free;
-        b-free = e .b-free;
-        valid = valid-cong N zone (swap (S p) a b) (swap (T p) a b) (swap-cong N zone (S p) (T p) (h p l) a b) R Z (e .valid);
-      }
-
-  -- They allow the same arcs.
-  pub allowed-cong : (R Z : ℕ) (zone cap : ℕ → ℕ) (free : ℕ → ℕ → ℕ) (q a b : ℕ) → Allowed P N R Z zone cap free S q a b
-      → Allowed P N R Z zone cap free T q a b
-  allowed-cong R Z zone cap free q a b e =
-      ⊎-elim (λ x. inl (x .0, exchange-cong R Z zone free q a b (x .0) (x .1)))
-      (λ s. inr (s .0, s .1, s .2, omega (arith, copies-cong a (s .1), s .3))) e
-
-  -- One turn leads to layouts with the same bits.
-  pub turn-cong : (m : ℕ) (y q : ℕ → ℕ) → SameLayout P N (turn m y q S) (turn m y q T)
-  unfolding turn
-  turn-cong m y q p l b k =
-      ap (λ (n : ℕ). n + sumTo m (λ i. is (q i) p * is (y i) b) - sumTo m (λ i. is (q i) p * is (y (suc i)) b)) (h p l b k)
-
-  -- So does one circuit, freed of crossed pairs and turned.
-  pub improved-cong : (C : ℕ) (g : ℕ → ℕ → ℕ) (ok : ℕ → ℕ → ℕ → Bool) (w : Walk) → SameLayout P N (improved P C g ok w S) (improved P C g ok w T)
-  unfolding improved
-  improved-cong C g ok w = let u = uncross (w .len) P C g ok w in turn-cong (u .len) (u .node) (u .partition)
-
 -- ---- best and better
-
--- A layout is one of most weight where one with the same bits is.
-pub heaviest-cong : (P N R Z : ℕ) (zone cap : ℕ → ℕ) (g free S T : ℕ → ℕ → ℕ) → SameLayout P N S T → Heaviest P N R Z zone cap g free S
-    → Heaviest P N R Z zone cap g free T
-heaviest-cong P N R Z zone cap g free S T h most U w a =
-    omega (
-      arith,
-      most U w (agree-cong P N free T U S U (same-layout-sym h) (λ p l b k. refl) a),
-      weigh-cong P N g g S T (λ p l b k. refl) h,
-    )
 
 -- A layout is better than another where those with the same bits are.
 pub better-cong : (P N R Z C : ℕ) (zone cap : ℕ → ℕ) (g free S T S′ T′ : ℕ → ℕ → ℕ) → SameLayout P N S S′ → SameLayout P N T T′
@@ -152,25 +96,3 @@ better-cong P N R Z C zone cap g free S T S′ T′ h k b =
 
     to : weigh P N g T ≡ weigh P N g T′
     to = weigh-cong P N g g T T′ (λ p l x m. refl) k
-
--- A test that is right for a layout is right for one with the same bits.
-pub right-cong : (P N R Z : ℕ) (zone : ℕ → ℕ) (free S T : ℕ → ℕ → ℕ) (ok : ℕ → ℕ → ℕ → Bool) → SameLayout P N S T
-    → Right P N R Z zone free S ok → Right P N R Z zone free T ok
-right-cong P N R Z zone free S T ok h r =
-    record {
-      sound = λ p a b l j k i o t.
-          exchange-cong P N S T h R Z zone free p a b l (r .sound p a b l j k (h p l a j ∙ i) (h p l b k ∙ o) t);
-      complete = λ p a b l e. r .complete p a b l (exchange-cong P N T S (same-layout-sym h) R Z zone free p a b l e);
-    }
-
--- An exchange graph of a layout is one of a layout with the same bits.
-pub graph-cong : (P N R Z C : ℕ) (zone cap : ℕ → ℕ) (g free S T : ℕ → ℕ → ℕ) (G : Graph) (q : ℕ → ℕ → ℕ) → SameLayout P N S T
-    → ExchangeGraph P N R Z C zone cap g free S G q → ExchangeGraph P N R Z C zone cap g free T G q
-graph-cong P N R Z C zone cap g free S T G q h x =
-    record {
-      nodes = x .nodes;
-      shift = x .shift;
-      exchanges = λ p a b l e. x .exchanges p a b l (exchange-cong P N T S (same-layout-sym h) R Z zone free p a b l e);
-      room = λ u v k m r. x .room u v k m (omega (arith, copies-cong P N S T h u k));
-      witness = λ u v k m a. let w = x .witness u v k m a in (allowed-cong P N S T h R Z zone cap free (q u v) u v (w .0), w .1);
-    }

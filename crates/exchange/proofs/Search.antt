@@ -4,68 +4,17 @@
 use Prim.Native.Nat.{ℕ, zero, suc, _+_, _-_, _*_, _≤_, _<_, max}
 use mathlib.Core.Path.{_≡_, refl, sym, ap, _∙_, subst}
 use mathlib.Core.Bool.{Bool, true, false, cond, _&&_, false≢true}
-use mathlib.Core.Logic.{_⊎_, inl, inr, ⊎-elim}
+use mathlib.Core.Logic.{_⊎_, ⊎-elim}
 use native.Mathlib.Omega.{arith}
 use lib.Dec.{ltb, eqb}
-use borrow.Author.Tests.{ltb-true, ltb-false, eqb-true, eqb-false, eq-eqb}
+use borrow.Author.Tests.{eqb-true, eqb-false, eq-eqb}
+use Rattle.sums.proofs.First.{first-none, first-some, first-cases}
 use Rattle.sums.specs.TermsSums.{sumTo}
-use Rattle.sums.specs.ModelSums.{is}
+use Rattle.sums.specs.ModelSums.{is, firstFrom}
 use Rattle.sums.proofs.Sum.{lt-or-ge, is-eq, is-one, is-le}
 use Rattle.sums.proofs.Count.{pigeonhole}
-use Rattle.exchange.specs.ModelLevels.{Graph, Outcome, Potential, Cycle, level, dist, from, fell, back, way, closes, firstFrom, search-from, outcome, cycleLength, IsPotential, IsCycle}
+use Rattle.exchange.specs.ModelLevels.{Graph, Outcome, Potential, Cycle, level, dist, from, fell, back, way, closes, search-from, outcome, cycleLength, IsPotential, IsCycle}
 use Rattle.exchange.proofs.Levels.{Parent, parent, relaxed, from-node, fell-lt, stayed-eq, stayed-from, dist-mono}
-
--- ---- the first index that passes a test
-
--- Of n indices from i on, r is the first that passes; or none passes, and r comes after them.
-abbrev pub First : (ℕ → Bool) → ℕ → ℕ → ℕ → Type 0
-First t n i r =
-    ((i ≤ r) × (r < i + n) × (t r ≡ true) × ((j : ℕ) → i ≤ j → j < r → t j ≡ false))
-    ⊎ ((r ≡ i + n) × ((j : ℕ) → i ≤ j → j < i + n → t j ≡ false))
-
--- What is found is that.
-pub first-cases : (t : ℕ → Bool) (n i : ℕ) → First t n i (firstFrom t n i)
-unfolding firstFrom
-first-cases t zero i = inr (omega arith, λ j a b. absurd (omega arith))
-first-cases t (suc n) i = go (first-cases t n (suc i)) (t i) refl
-  where
-    more : {m : ℕ} → t i ≡ false → ((j : ℕ) → suc i ≤ j → j < m → t j ≡ false) → (j : ℕ) → i ≤ j → j < m → t j ≡ false
-    more e h j a b = ⊎-elim (λ l. h j l b) (λ g. let q : i ≡ j = omega arith in subst (λ (k : ℕ). t k ≡ false) q e) (lt-or-ge i j)
-
-    go : {r : ℕ} → First t n (suc i) r → (b : Bool) → t i ≡ b → First t (suc n) i (cond b i r)
-    go h true e = inl (omega arith, omega arith, e, λ j a b. absurd (omega arith))
-    go (inl h) false e = inl (omega (arith, h .0), omega (arith, h .1), h .2, more e (h .3))
-    go (inr h) false e = inr (omega (arith, h .0), λ j a b. more e (h .1) j a (omega arith))
-
--- A first index below the bound is one that passes.
-pub first-some : (t : ℕ → Bool) (N : ℕ) → ltb (firstFrom t N 0) N ≡ true → (firstFrom t N 0 < N) × (t (firstFrom t N 0) ≡ true)
-first-some t N e =
-    let l : firstFrom t N 0 < N = ltb-true (firstFrom t N 0) N e in
-    ⊎-elim (λ h. (l, h .2)) (λ h. absurd (omega (arith, h .0))) (first-cases t N 0)
-
--- Where the first index is not below the bound, none passes.
-pub first-none : (t : ℕ → Bool) (N : ℕ) → ltb (firstFrom t N 0) N ≡ false → (j : ℕ) → j < N → t j ≡ false
-first-none t N e j l =
-    ⊎-elim (λ h. absurd (omega (arith, h .1, ltb-false (firstFrom t N 0) N e))) (λ h. h .1 j (omega arith) (omega arith))
-    (first-cases t N 0)
-
--- The first index that passes is the one that is found.
-pub first-is : (t : ℕ → Bool) (N i : ℕ) → i < N → t i ≡ true → ((j : ℕ) → j < i → t j ≡ false) → firstFrom t N 0 ≡ i
-first-is t N i l e h = go (first-cases t N 0) (lt-or-ge r i) (lt-or-ge i r)
-  where
-    r : ℕ
-    r = firstFrom t N 0
-
-    go : First t N 0 r → (r < i) ⊎ (i ≤ r) → (i < r) ⊎ (r ≤ i) → r ≡ i
-    go (inr s) a b = absurd (false≢true (sym (s .1 i (omega arith) (omega arith)) ∙ e))
-    go (inl s) (inl a) b = absurd (false≢true (sym (h r a) ∙ s .2))
-    go (inl s) (inr a) (inl b) = absurd (false≢true (sym (s .3 i (omega arith) b) ∙ e))
-    go (inl s) (inr a) (inr b) = omega arith
-
--- Where none passes, the bound is found.
-pub first-is-none : (t : ℕ → Bool) (N : ℕ) → ((j : ℕ) → j < N → t j ≡ false) → firstFrom t N 0 ≡ N
-first-is-none t N h =
-    ⊎-elim (λ s. absurd (false≢true (sym (h (firstFrom t N 0) (omega (arith, s .1))) ∙ s .2))) (λ s. omega (arith, s .0)) (first-cases t N 0)
 
 -- ---- ways back
 
@@ -147,10 +96,6 @@ module _ (G : Graph) where
       ⊎-elim (λ a. let w = way-back k (from G (suc k) v) x (omega (arith, way-le k (from G (suc k) v) x)) in (suc (w .0), omega (arith, w .1), w .2))
       (λ b. (0, omega arith, is-one v x (omega (arith, is-le v x)))) (lt-or-ge 0 (way G k (from G (suc k) v) x))
 
-  -- Nothing but nodes is on the way of a node.
-  pub way-node : (k v x : ℕ) → k ≤ G .N → v < G .N → way G k v x ≡ 1 → x < G .N
-  way-node k v x l m e = let w = way-back k v x e in omega (arith, w .2, back-node k v (w .0) l m)
-
 -- ---- no way back comes to its start again
 
 -- No node closes a cycle up to level k.
@@ -231,8 +176,6 @@ cycle-to G k v m l n o f some few e first =
 
 -- What the search has when it ends with a cycle.
 pub record Closing (G : Graph) (k v : ℕ) : Type 0 where
-  pub level-some : 1 ≤ k
-  pub level-few : k ≤ G .N
   pub node : v < G .N
   pub fallen : fell G k v ≡ true
   pub length-le : cycleLength G k v ≤ k
@@ -256,8 +199,6 @@ closing G k v l n o c = ⊎-elim found none (first-cases at (suc k) 1)
     found : (1 ≤ m) × (m < 1 + suc k) × (at m ≡ true) × ((j : ℕ) → 1 ≤ j → j < m → at j ≡ false) → Closing G (suc k) v
     found h =
         record {
-          level-some = omega arith;
-          level-few = l;
           node = n;
           fallen = w .0;
           length-le = omega (arith, h .1);
@@ -306,7 +247,7 @@ search-stands G (suc n) k v e m f o =
 -- The search ends with a potential or with a simple negative cycle; it never runs out of levels.
 pub outcome-stands : (G : Graph) → 1 ≤ G .N → Stands G (outcome G)
 unfolding outcome fell
-outcome-stands G h = search-stands G (G .N) 0 0 (omega arith) h refl (open-zero G)
+outcome-stands G h = search-stands G _ 0 0 (omega arith) h refl (open-zero G)
 
 -- The end with a potential.
 pub outcome-potential : (G : Graph) (k : ℕ) → 1 ≤ G .N → outcome G ≡ Potential k → (k < G .N) × IsPotential G (dist G k)

@@ -13,7 +13,7 @@ use Rattle.sums.proofs.Sum.{lt-or-ge, eq-or-ne, sum-cong, sum-part, sum-but-one
 use Rattle.exchange.specs.ModelRow.{Within}
 use Rattle.exchange.specs.ModelCircuit.{cost, Allowed, Crossed, Uncrossed, Better}
 use Rattle.exchange.specs.ModelUncross.{Walk, crosses, partner, first, skip, wrap, part, inner, outer, walk-costs, split, uncross, improved, Round, Right}
-use Rattle.exchange.proofs.Search.{first-cases, first-some, first-none}
+use Rattle.sums.proofs.First.{first-cases, first-some, first-none}
 use Rattle.exchange.proofs.Circuit.{cost-row, exchange, turn-better}
 
 -- ---- where the entries of the two parts stand

@@ -1,19 +1,19 @@
 -- Freeing a walk of crossed pairs, step by step, as a program runs it; it reads the entries of a walk up to its length only, so that a program may
 -- hold them in arrays.
 -- Assumes nothing.
-use Prim.Native.Nat.{ℕ, zero, suc, _+_, _-_, _*_, _%_, _≤_, _<_}
+use Prim.Native.Nat.{ℕ, zero, suc, _+_, _-_, _*_, _≤_, _<_}
 use mathlib.Core.Path.{_≡_, refl, ap, ap₂, _∙_, subst}
 use mathlib.Core.Bool.{Bool, true, false, cond}
 use mathlib.Core.Logic.{⊎-elim}
 use native.Mathlib.Omega.{arith}
-use lib.Dec.{ltb, eqb}
+use lib.Dec.{ltb}
 use borrow.Author.Tests.{lt-ltb, le-ltb}
-use Rattle.sums.specs.TermsSums.{sumTo, one-if}
-use Rattle.sums.specs.ModelSums.{is}
+use Rattle.sums.proofs.First.{first-cong}
+use Rattle.sums.specs.TermsSums.{sumTo}
+use Rattle.sums.specs.ModelSums.{is, firstFrom}
 use Rattle.sums.proofs.Sum.{lt-or-ge, sum-cong}
-use Rattle.exchange.specs.ModelLevels.{firstFrom}
 use Rattle.exchange.specs.ModelCircuit.{cost, turn}
-use Rattle.exchange.specs.ModelUncross.{Walk, walk, Same, crosses, partner, first, skip, wrap, part, inner, outer, walk-costs, split, uncross, improved}
+use Rattle.exchange.specs.ModelUncross.{Walk, Same, crosses, partner, first, skip, wrap, part, inner, outer, walk-costs, split, uncross, improved}
 use Rattle.exchange.proofs.Uncross.{skip-le, wrap-low, wrap-end, first-pair}
 
 -- ---- the steps
@@ -46,13 +46,6 @@ same-trans {w} {u} {v} a b =
       nodes = λ t l. a .nodes t l ∙ b .nodes t (omega arith);
       partitions = λ t l. a .partitions t l ∙ b .partitions t (omega arith);
     }
-
--- Tests that agree find the same.
-firstFrom-same : (f h : ℕ → Bool) (n t : ℕ) → ((u : ℕ) → t ≤ u → u < t + n → f u ≡ h u) → firstFrom f n t ≡ firstFrom h n t
-unfolding firstFrom
-firstFrom-same f h zero t e = refl
-firstFrom-same f h (suc n) t e =
-    ap₂ (λ (b : Bool) (r : ℕ). cond b t r) (e t (omega arith) (omega arith)) (firstFrom-same f h n (suc t) (λ u l k. e u (omega arith) (omega arith)))
 
 -- A sum over the arcs.
 sum-same : {w u : Walk} (f : ℕ → ℕ → ℕ → ℕ) → Same w u
@@ -87,13 +80,13 @@ module _ (P C : ℕ) (g : ℕ → ℕ → ℕ) (ok : ℕ → ℕ → ℕ → Boo
   unfolding partner
   partner-same {w} {u} s i l =
       ap (λ (m : ℕ). firstFrom (crosses P ok (w .node) (w .partition) i) (m - suc i) (suc i)) (s .lens)
-      ∙ firstFrom-same (crosses P ok (w .node) (w .partition) i) (crosses P ok (u .node) (u .partition) i) (u .len - suc i) (suc i)
+      ∙ first-cong (crosses P ok (w .node) (w .partition) i) (crosses P ok (u .node) (u .partition) i) (u .len - suc i) (suc i)
       (λ j a b. crosses-same s i j a (omega arith))
 
   first-same : {w u : Walk} → Same w u → first P ok w ≡ first P ok u
   unfolding first
   first-same {w} {u} s =
-      firstFrom-same (λ i. ltb (partner P ok w i) (w .len)) (λ i. ltb (partner P ok u i) (u .len)) (w .len) 0
+      first-cong (λ i. ltb (partner P ok w i) (w .len)) (λ i. ltb (partner P ok u i) (u .len)) (w .len) 0
       (λ i a b. ap₂ ltb (partner-same s i (omega arith)) (s .lens))
       ∙ ap (λ (m : ℕ). firstFrom (λ i. ltb (partner P ok u i) (u .len)) m 0) (s .lens)
 
@@ -147,21 +140,3 @@ module _ (P C : ℕ) (g : ℕ → ℕ → ℕ) (ok : ℕ → ℕ → ℕ → Boo
   improved-same {w} {u} s S p x =
       turn-same (uncross-same (w .len) s) S p x
       ∙ ap (λ (n : ℕ). let v = uncross n P C g ok u in turn (v .len) (v .node) (v .partition) S p x) (s .lens)
-
--- ---- an example
-
--- The nodes 0, 3, 1, 2 and 0 again.
-around : ℕ → ℕ
-around t = 3 * is t 1 + is t 2 + 2 * is t 3
-
--- The exchanges 0 → 2 and 1 → 3 of partition 0 can be crossed, those of partition 1 not. The inner part, over 1 and 2, is taken if it gains ..
-inner-taken : let w = uncross 4 2 1 (λ p b. is p 0 * is b 2) (λ p a b. eqb p 0) (walk 4 around (λ t. (suc t) % 2)) in
-    (w .len ≡ 2) × (w .node 0 ≡ 1) × (w .node 1 ≡ 2) × (w .node 2 ≡ 1) × (w .partition 0 ≡ 1) × (w .partition 1 ≡ 0)
-unfolding uncross first partner firstFrom crosses split skip wrap cost sumTo is one-if around
-inner-taken = (refl, refl, refl, refl, refl, refl)
-
--- .. and else the outer part, over 0 and 3.
-outer-taken : let w = uncross 4 2 1 (λ p b. is p 0 * is b 3) (λ p a b. eqb p 0) (walk 4 around (λ t. (suc t) % 2)) in
-    (w .len ≡ 2) × (w .node 0 ≡ 0) × (w .node 1 ≡ 3) × (w .node 2 ≡ 0) × (w .partition 0 ≡ 1) × (w .partition 1 ≡ 0)
-unfolding uncross first partner firstFrom crosses split skip wrap cost sumTo is one-if around
-outer-taken = (refl, refl, refl, refl, refl, refl)

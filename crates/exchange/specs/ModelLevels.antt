@@ -8,7 +8,7 @@ use mathlib.Core.Path.{_≡_}
 use mathlib.Core.Bool.{Bool, true, false, cond, _&&_}
 use lib.Dec.{ltb, eqb}
 use Rattle.sums.specs.TermsSums.{sumTo}
-use Rattle.sums.specs.ModelSums.{is}
+use Rattle.sums.specs.ModelSums.{firstFrom, is}
 
 -- A graph on the nodes below N: an arc from u to v where arc u v is 1; its weight is W u v less C.
 pub record Graph : Type 0 where
@@ -65,11 +65,6 @@ way G (suc k) v x = max (is v x) (way G k (from G (suc k) v) x)
 unfoldable pub closes : Graph → ℕ → ℕ → Bool
 closes G zero v = false
 closes G (suc k) v = fell G (suc k) v && eqb (way G k (from G (suc k) v) v) 1
-
--- The first of i, i + 1, .., i + n - 1 that passes the test; i + n if none does.
-unfoldable pub firstFrom : (ℕ → Bool) → ℕ → ℕ → ℕ
-firstFrom t zero i = i
-firstFrom t (suc n) i = cond (t i) i (firstFrom t n (suc i))
 
 -- How the search ends: the level whose distances are a potential, or the level and the node that close a cycle.
 pub data Outcome : Type 0 where

@@ -7,7 +7,7 @@ use mathlib.Core.Path.{_≡_}
 use mathlib.Core.Bool.{Bool, true, _&&_, cond}
 use lib.Dec.{ltb, leb, eqb}
 use Rattle.exchange.specs.ModelRow.{Exchange}
-use Rattle.exchange.specs.ModelLevels.{firstFrom}
+use Rattle.sums.specs.ModelSums.{firstFrom}
 use Rattle.exchange.specs.ModelCircuit.{costs, turn, Circuit}
 
 -- A closed walk: its length, its nodes and the partitions of its arcs.

@@ -1,4 +1,7 @@
 pub mod Numbers
+pub mod Tags
 pub mod RecordField
 pub mod Written
-pub mod Ids
+pub mod IdBytes
+pub mod Nodes
+pub mod Cut

@@ -196,3 +196,9 @@ number-here s rest at w n e h =
 -- The same behind any bytes.
 pub number-front : (p rest : List ℕ) (w n : ℕ) → n < 256 ^ w → numberAt (p ++ (bytesOf w n ++ rest)) (length p) w ≡ n
 number-front p rest w n h = number-here (p ++ (bytesOf w n ++ rest)) rest (length p) w n (drop-append-seam p (bytesOf w n ++ rest)) h
+
+-- After the w bytes of a number stands what stands after them.
+pub after-number : (s rest : List ℕ) (at w n : ℕ) → drop at s ≡ bytesOf w n ++ rest → drop (at + w) s ≡ rest
+after-number s rest at w n e =
+    sym (drop-drop w at s)
+    ∙ (ap (drop w) e ∙ (ap (λ (k : ℕ). drop k (bytesOf w n ++ rest)) (sym (length-bytes w n)) ∙ drop-append-seam (bytesOf w n) rest))

@@ -5,7 +5,7 @@ use Prim.Native.Nat.{ℕ, zero, suc, _+_, _-_, _%_, _≤_, _<_}
 use mathlib.Core.Path.{_≡_, refl, sym, ap, ap₂, _∙_, subst}
 use mathlib.Core.Bool.{Bool, true, false, _&&_, _||_, and-true, or-true}
 use mathlib.Core.List.{List, [], _∷_, _++_, append-assoc}
-use mathlib.Core.Logic.{_⊎_, inl, inr, ⊎-elim}
+use mathlib.Core.Logic.{_⊎_, ⊎-elim}
 use native.Mathlib.Nat.{add-zero, div-one, mod-eq-of-lt}
 use native.Mathlib.Numerals.{add-one}
 use native.Mathlib.Omega.{arith}
@@ -13,11 +13,11 @@ use lib.Dec.{leb, ltb, eqb}
 use lib.ListN.{length, take, drop, getD, length-append, length-drop, take-append-drop, List·getD-eq-default}
 use lib.Seq.{drop-cons, drop-drop, getD-drop, drop-append-seam, drop-at}
 use borrow.Author.Tests.{leb-true, le-leb, ltb-true, eqb-true, ne-eqb, eq-eqb}
-use Rattle.sums.proofs.Sum.{lt-or-ge, is-cases}
-use Rattle.sets.specs.ModelBits.{bit, memberOf, withOf}
-use Rattle.sets.proofs.Laws.{bit-high, bit-zero, bit-with, bit-true, member-true, with-lt}
+use Rattle.sums.proofs.Sum.{lt-or-ge}
+use Rattle.cluster.specs.Terms.{mem}
+use Rattle.cluster.proofs.Lists.{mem-none, mem-cases}
 use Rattle.sums.proofs.Tests.{true-or-false, both}
-use Rattle.fields.specs.RecordField.{bytesOf, Bytes, part, numberAt, field, noLength, rules, ruleOf, legal, legalAs, judged, fieldAt, Whole, Within}
+use Rattle.fields.specs.RecordField.{bytesOf, Bytes, part, numberAt, headWidth, longestField, field, noLength, rules, ruleOf, legal, legalAs, judged, fieldAt, Whole, Within}
 use Rattle.fields.specs.declared.Rule.{Rule}
 use Rattle.fields.specs.declared.Field.{Field}
 use Rattle.fields.specs.declared.Field.the-variants.{Body, Refused}
@@ -51,6 +51,12 @@ step-pos tag = ltb-true 0 (ruleOf tag .step) (passes (λ r. ltb 0 (r .step)) rul
 pub greatest-lt : (tag : ℕ) → ruleOf tag .greatest < 65536
 unfolding ruleOf
 greatest-lt tag = ltb-true (ruleOf tag .greatest) 65536 (passes (λ r. ltb (r .greatest) 65536) rules noLength refl refl tag)
+
+-- No field is longer than the longest.
+pub greatest-le : (tag : ℕ) → headWidth + ruleOf tag .greatest ≤ longestField
+unfolding ruleOf
+greatest-le tag =
+    leb-true (headWidth + ruleOf tag .greatest) longestField (passes (λ r. leb (headWidth + r .greatest) longestField) rules noLength refl refl tag)
 
 -- The rule of a tag that the table has, whatever is said of other tags.
 pub rule-there : (tag : ℕ) (d : Rule) → tag < length rules → getD rules tag d ≡ ruleOf tag
@@ -117,46 +123,31 @@ only exact tag len h k =
     eqb-true len exact
     (sym (ap (λ (t : Bool). t || eqb len exact) (ne-eqb exact 0 k)) ∙ and-right (legal tag len) (eqb exact 0 || eqb len exact) h)
 
--- ---- sets of tags
+-- ---- tags allowed next
 
--- A tag of a set with one tag more is that one, or a tag of the set.
-pub with-tag : (m a t : ℕ) → memberOf (withOf m a) t ≡ true → (t ≡ a) ⊎ (memberOf m t ≡ true)
-with-tag m a t h =
-    let one : bit (withOf m a) t ≡ 1 = member-true (withOf m a) t h in
-    ⊎-elim (λ l. ⊎-elim (λ y. inl (sym (y .0))) (λ n. inr (bit-true m t (omega (arith, bit-with m a t l, n .1)))) (is-cases a t))
-    (λ g. absurd (omega (arith, bit-high 32 (withOf m a) t (with-lt m a) g)))
-    (lt-or-ge t 32)
-
--- The empty set has no tag.
-pub no-tag : (t : ℕ) → memberOf 0 t ≡ true → ⊥
-no-tag t h = omega (arith, member-true 0 t h, bit-zero t)
-
--- The tag of a set of one, and of a set of two.
-pub one-tag : (a t : ℕ) → memberOf (withOf 0 a) t ≡ true → t ≡ a
-one-tag a t h = ⊎-elim (λ e. e) (λ z. absurd (no-tag t z)) (with-tag 0 a t h)
-
-pub two-tags : (a b t : ℕ) → memberOf (withOf (withOf 0 a) b) t ≡ true → (t ≡ a) ⊎ (t ≡ b)
-two-tags a b t h = ⊎-elim (λ e. inr e) (λ r. inl (one-tag a t r)) (with-tag (withOf 0 a) b t h)
+-- The tag of a list of one.
+pub one-tag : (a t : ℕ) → mem t (a ∷ []) ≡ true → t ≡ a
+one-tag a t h = ⊎-elim (λ e. e) (λ z. absurd (mem-none t z)) (mem-cases t a [] h)
 
 -- ---- the field at a byte
 
--- What is known of a field's answer, with the bytes that its tag and length are read from.
+-- What is known of a field's answer: its tag and length are read from the first bytes; a refusal is not 0, and its byte is where the field begins.
 abbrev Read : List ℕ → ℕ → Field → Type 0
 Read s at (Body tag start len) = (tag ≡ numberAt s at 1) × (len ≡ numberAt s (at + 1) 2)
-Read s at (Refused refusal byte) = Unit
+Read s at (Refused refusal byte) = (1 ≤ refusal) × (byte ≡ at)
 
-module _ (s : List ℕ) (at allowed exact : ℕ) where
+module _ (s : List ℕ) (at : ℕ) (allowed : List ℕ) (exact : ℕ) where
   -- The first fault decides, in the order of the paper; with none the field is whole.
   pub field-cut : length s < at + 3 → fieldAt s at allowed exact ≡ Refused 1 at
   unfolding fieldAt
   field-cut h = simp (has-false (length s) at 3 h)
 
   module _ (head : at + 3 ≤ length s) where
-    pub field-tag : memberOf allowed (numberAt s at 1) ≡ false → fieldAt s at allowed exact ≡ Refused 2 at
+    pub field-tag : mem (numberAt s at 1) allowed ≡ false → fieldAt s at allowed exact ≡ Refused 2 at
     unfolding fieldAt judged
     field-tag h = simp (has-true (length s) at 3 head, h)
 
-    module _ (tagged : memberOf allowed (numberAt s at 1) ≡ true) where
+    module _ (tagged : mem (numberAt s at 1) allowed ≡ true) where
       pub field-length : legalAs exact (numberAt s at 1) (numberAt s (at + 1) 2) ≡ false → fieldAt s at allowed exact ≡ Refused 3 at
       unfolding fieldAt judged
       field-length h = simp (has-true (length s) at 3 head, tagged, h)
@@ -170,34 +161,39 @@ module _ (s : List ℕ) (at allowed exact : ℕ) where
         unfolding fieldAt judged
         field-whole h = simp (has-true (length s) at 3 head, tagged, long, has-true (length s) (at + 3) (numberAt s (at + 1) 2) h)
 
-abbrev Known : List ℕ → ℕ → ℕ → ℕ → Field → Type 0
+abbrev Known : List ℕ → ℕ → List ℕ → ℕ → Field → Type 0
 Known s at allowed exact f = Within (length s) at allowed exact f × Read s at f
 
 -- The answer of a field has what is known of it.
-known : (s : List ℕ) (at allowed exact : ℕ) → Known s at allowed exact (fieldAt s at allowed exact)
+known : (s : List ℕ) (at : ℕ) (allowed : List ℕ) (exact : ℕ) → Known s at allowed exact (fieldAt s at allowed exact)
 known s at allowed exact =
     let tag = numberAt s at 1 in
     let len = numberAt s (at + 1) 2 in
-    ⊎-elim (λ cut. subst (Known s at allowed exact) (sym (field-cut s at allowed exact cut)) (tt, tt))
+    ⊎-elim (λ cut. subst (Known s at allowed exact) (sym (field-cut s at allowed exact cut)) (tt, (omega arith, refl)))
     (λ head. ⊎-elim
     (λ t. ⊎-elim
-    (λ l. ⊎-elim (λ short. subst (Known s at allowed exact) (sym (field-body s at allowed exact head t l short)) (tt, tt))
+    (λ l. ⊎-elim (λ short. subst (Known s at allowed exact) (sym (field-body s at allowed exact head t l short)) (tt, (omega arith, refl)))
     (λ long. subst (Known s at allowed exact) (sym (field-whole s at allowed exact head t l long)) (whole-is tag len t l long, (refl, refl)))
     (lt-or-ge (length s) (at + 3 + len)))
-    (λ l. subst (Known s at allowed exact) (sym (field-length s at allowed exact head t l)) (tt, tt)) (true-or-false (legalAs exact tag len)))
-    (λ t. subst (Known s at allowed exact) (sym (field-tag s at allowed exact head t)) (tt, tt)) (true-or-false (memberOf allowed tag)))
+    (λ l. subst (Known s at allowed exact) (sym (field-length s at allowed exact head t l)) (tt, (omega arith, refl))) (true-or-false (legalAs exact tag len)))
+    (λ t. subst (Known s at allowed exact) (sym (field-tag s at allowed exact head t)) (tt, (omega arith, refl))) (true-or-false (mem tag allowed)))
     (lt-or-ge (length s) (at + 3))
   where
-    whole-is : (tag len : ℕ) → memberOf allowed tag ≡ true → legalAs exact tag len ≡ true → at + 3 + len ≤ length s → Whole (length s) at allowed exact tag (at + 3) len
+    whole-is : (tag len : ℕ) → mem tag allowed ≡ true → legalAs exact tag len ≡ true → at + 3 + len ≤ length s → Whole (length s) at allowed exact tag (at + 3) len
     whole-is tag len t l long =
         let k = lawful exact tag len l in
         record { begins = refl; ends = long; member = t; least = legal-least tag len k; greatest = legal-greatest tag len k; step = legal-step tag len k; only = only exact tag len l }
 
 -- What is known of a whole field.
-pub within : (s : List ℕ) (at allowed exact : ℕ) → Within (length s) at allowed exact (fieldAt s at allowed exact)
+pub within : (s : List ℕ) (at : ℕ) (allowed : List ℕ) (exact : ℕ) → Within (length s) at allowed exact (fieldAt s at allowed exact)
 within s at allowed exact = known s at allowed exact .0
 
-module _ (s : List ℕ) (at allowed exact tag start len : ℕ) (e : fieldAt s at allowed exact ≡ Body tag start len) where
+-- What is known of a refused one.
+pub refused-some : (s : List ℕ) (at : ℕ) (allowed : List ℕ) (exact refusal byte : ℕ) → fieldAt s at allowed exact ≡ Refused refusal byte
+    → (1 ≤ refusal) × (byte ≡ at)
+refused-some s at allowed exact refusal byte e = subst (Read s at) e (known s at allowed exact .1)
+
+module _ (s : List ℕ) (at : ℕ) (allowed : List ℕ) (exact tag start len : ℕ) (e : fieldAt s at allowed exact ≡ Body tag start len) where
   pub whole : Whole (length s) at allowed exact tag start len
   whole = subst (Within (length s) at allowed exact) e (within s at allowed exact)
 
@@ -265,7 +261,7 @@ module _ (s rest body : List ℕ) (at tag : ℕ) (e : drop at s ≡ field tag bo
   rest-here = sym (drop-drop (length body) (at + 3) s) ∙ (ap (drop (length body)) body-here ∙ drop-append-seam body rest)
 
   -- Writing and reading again: where a field stands that is allowed and has a legal length, it is read whole.
-  pub field-here : (allowed exact : ℕ) → memberOf allowed tag ≡ true → legalAs exact tag (length body) ≡ true
+  pub field-here : (allowed : List ℕ) (exact : ℕ) → mem tag allowed ≡ true → legalAs exact tag (length body) ≡ true
       → fieldAt s at allowed exact ≡ Body tag (at + 3) (length body)
   unfolding field
   field-here allowed exact t l =
@@ -274,11 +270,11 @@ module _ (s rest body : List ℕ) (at tag : ℕ) (e : drop at s ≡ field tag bo
       let a : numberAt s at 1 ≡ tag =
       number-byte s at ∙ (ap (λ (k : ℕ). getD s k 0) (sym (add-zero at)) ∙ (sym (getD-drop at s 0 0) ∙ ap (λ (r : List ℕ). getD r 0 0) e)) in
       let n : numberAt s (at + 1) 2 ≡ length body = number-here s (body ++ rest) (at + 1) 2 (length body) head-here short in
-      field-whole s at allowed exact (omega arith) (ap (memberOf allowed) a ∙ t) (ap₂ (legalAs exact) a n ∙ l) (omega arith)
+      field-whole s at allowed exact (omega arith) (ap (λ (k : ℕ). mem k allowed) a ∙ t) (ap₂ (legalAs exact) a n ∙ l) (omega arith)
       ∙ ap₂ (λ (x y : ℕ). Body x (at + 3) y) a n
 
 -- The same behind any bytes.
-pub field-front : (before body rest : List ℕ) (tag allowed exact : ℕ) → memberOf allowed tag ≡ true → legalAs exact tag (length body) ≡ true
+pub field-front : (before body rest : List ℕ) (tag : ℕ) (allowed : List ℕ) (exact : ℕ) → mem tag allowed ≡ true → legalAs exact tag (length body) ≡ true
     → fieldAt (before ++ (field tag body ++ rest)) (length before) allowed exact ≡ Body tag (length before + 3) (length body)
 field-front before body rest tag allowed exact t l =
     field-here (before ++ (field tag body ++ rest)) rest body (length before) tag (drop-append-seam before (field tag body ++ rest)) allowed exact t l

@@ -1,1 +1,2 @@
+pub mod ModelTags
 pub mod RecordField

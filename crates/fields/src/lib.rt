@@ -2,10 +2,16 @@
 ghost use mathlib.Core.Path.{_≡_};
 ghost use Prim.Native.Nat.{_<_, _^_};
 ghost use lib.ListN.{length};
-ghost use Rattle.fields.specs.RecordField.{has, bytesOf, numberAt, written, ruleOf, legalAs, fieldAt, Within, refusalOf, placeOf};
+ghost use Rattle.fields.specs.ModelTags.{tagsOf};
+ghost use Rattle.fields.specs.RecordField.{has, bytesOf, numberAt, written, nodeAtByte, ruleOf, legalAs, fieldAt, Within, refusalOf, placeOf};
+use cluster::Node;
 use reader::Reader;
 
+pub mod ids;
 mod reader;
+
+// The bytes of a node: id 4, zone 2, capacity 4.
+const NODE: usize = 10;
 
 // The legal lengths of a body: from the least to the greatest, in steps.
 pub struct Rule {
@@ -40,10 +46,10 @@ const LEGAL: [Rule; 11] = [
         greatest: 1,
         step: 1,
     },
-    // 4 node: id 4, zone 2, capacity 4.
+    // 4 node.
     Rule {
-        least: 10,
-        greatest: 10,
+        least: NODE,
+        greatest: NODE,
         step: 1,
     },
     // 5 former row: partition 2, one to eight ids.
@@ -129,6 +135,25 @@ pub fn word_at(s: &[u8], at: usize) -> u32
     }
 }
 
+// The node in ten bytes; all its numbers are 0 where the record does not have them all.
+pub fn node_at(s: &[u8], at: usize) -> Node
+    ensures { λ r. ⌜ r ≡ nodeAtByte (now (s .entry)) at ⌝ }
+{
+    if reaches(s.len(), at, NODE) {
+        Node {
+            id: word_at(s, at),
+            zone: pair_at(s, at + 4) as u16,
+            capacity: word_at(s, at + 6),
+        }
+    } else {
+        Node {
+            id: 0,
+            zone: 0,
+            capacity: 0,
+        }
+    }
+}
+
 // Writes the lowest byte of a number; nothing where the buffer has no such byte.
 pub fn put_byte(out: &mut [u8], at: usize, value: u32)
     ensures { λ _. ⌜ now (out .exit) ≡ written (now (out .entry)) at (bytesOf 1 value) ⌝ }
@@ -189,7 +214,7 @@ fn is_legal(exact: usize, tag: usize, len: usize) -> bool
 // The field at byte `at`, where the tags of the set `allowed` are allowed next; where `exact` is not 0, no other length is legal.
 // It looks in this order: three bytes of tag and length, the tag, the length, the body.
 fn field_in(s: &[u8], at: usize, allowed: u32, exact: usize) -> Field
-    ensures { λ r. ⌜ (r ≡ fieldAt (now (s .entry)) at allowed exact) × Within (length (now (s .entry))) at allowed exact r ⌝ }
+    ensures { λ r. ⌜ (r ≡ fieldAt (now (s .entry)) at (tagsOf allowed) exact) × Within (length (now (s .entry))) at (tagsOf allowed) exact r ⌝ }
 {
     if !reaches(s.len(), at, 3) {
         return Field::Refused {
@@ -227,7 +252,7 @@ fn field_in(s: &[u8], at: usize, allowed: u32, exact: usize) -> Field
 
 // The same by a reader that stands at byte `at`. Its parameters are plain, so that whoever calls it needs no proof by hand.
 pub fn field_at(s: &[u8], at: usize, allowed: u32, exact: usize) -> Field
-    ensures { λ r. ⌜ (r ≡ fieldAt (now (s .entry)) at allowed exact) × Within (length (now (s .entry))) at allowed exact r ⌝ }
+    ensures { λ r. ⌜ (r ≡ fieldAt (now (s .entry)) at (tagsOf allowed) exact) × Within (length (now (s .entry))) at (tagsOf allowed) exact r ⌝ }
 {
     reader::next(Reader { src: s, at }, allowed, exact)
 }

@@ -3,6 +3,7 @@
 // slice and number.
 ghost use mathlib.Core.Path.{_≡_};
 ghost use lib.ListN.{length};
+ghost use Rattle.fields.specs.ModelTags.{tagsOf};
 ghost use Rattle.fields.specs.RecordField.{fieldAt, Within};
 use super::Field;
 use super::field_in;
@@ -15,8 +16,8 @@ pub struct Reader<'a> {
 
 // The field at which the reader stands; `allowed` and `exact` as for `field_in`.
 pub fn next<'a>(r: Reader<'a>, allowed: u32, exact: usize) -> Field
-    ensures { λ f. ⌜ (f ≡ fieldAt (now (r .entry .src)) (r .entry .at) allowed exact)
-        × Within (length (now (r .entry .src))) (r .entry .at) allowed exact f ⌝ }
+    ensures { λ f. ⌜ (f ≡ fieldAt (now (r .entry .src)) (r .entry .at) (tagsOf allowed) exact)
+        × Within (length (now (r .entry .src))) (r .entry .at) (tagsOf allowed) exact f ⌝ }
 {
     field_in(r.src, r.at, allowed, exact)
 }

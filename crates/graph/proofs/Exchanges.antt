@@ -1,44 +1,36 @@
--- The graph that the 96 sets of a layout stand for is its exchange graph: each exchange has an arc that weighs no more, each node with room an arc
+-- The graph that the sets of a layout stand for is its exchange graph: each exchange has an arc that weighs no more, each node with room an arc
 -- to every node at weight 0, and each arc is an exchange of its weight, or such a step.
 -- Assumes nothing.
-use Prim.Native.Nat.{ℕ, zero, suc, _+_, _*_, _%_, _^_, _≤_, _<_, max}
+use Prim.Native.Nat.{ℕ, zero, suc, _+_, _*_, _^_, _≤_, _<_, max}
 use mathlib.Core.Path.{_≡_, sym, ap, _∙_}
 use mathlib.Core.List.{List}
 use mathlib.Core.Logic.{_⊎_, inl, inr, ⊎-elim}
 use native.Mathlib.Omega.{arith}
 use lib.ListN.{length, getD, drop, List·getD-append}
-use lib.Seq.{drop-at}
-use borrow.Author.Tests.{lt-ltb, le-ltb}
+use borrow.Author.Tests.{le-ltb}
+use Rattle.cluster.specs.Terms.{mostNodes}
 use Rattle.sums.proofs.Sum.{lt-or-ge}
-use Rattle.sets.specs.ModelBits.{bit, belowOf}
+use Rattle.sets.specs.ModelBits.{bitsAt, bit, belowOf}
 use Rattle.sets.proofs.Laws.{bit-le, bit-true, bit-false}
 use Rattle.sums.specs.TermsSums.{tab}
 use Rattle.cells.proofs.Cells.{length-tab, getD-tab}
 use Rattle.exchange.specs.ModelRow.{Valid, Exchange, copies}
 use Rattle.swaps.specs.ModelMates.{Mates}
-use Rattle.cycles.specs.ModelGraph.{arcOf, weightOf}
+use Rattle.cycles.specs.ModelGraph.{arcCells, arcOf, weightOf}
 use Rattle.graph.specs.ModelArcs.{cellOf, arcsOf}
-use Rattle.graph.proofs.Members.{any, rowsOf, setOf, exchange-set, room-set, set-witness, cell-high, cell-none}
+use Rattle.graph.proofs.Members.{any, setOf, exchange-set, room-set, set-witness}
 
 -- ---- cells
 
 module _ (rows former : List ℕ) (P : ℕ) (mates caps : List ℕ) (all z : ℕ) (l : List ℕ) where
-  -- A cell of the 96.
-  pub arcs-cell : (j : ℕ) → 96 ≤ length l → j < 96
+  -- A cell of the graph.
+  pub arcs-cell : (j : ℕ) → arcCells ≤ length l → j < arcCells
       → getD (arcsOf rows former P mates caps all z l) j 0 ≡ cellOf rows former P mates caps all z j
   unfolding arcsOf
   arcs-cell j g h =
       let f = cellOf rows former P mates caps all z in
-      rw (le-ltb (length l) 96 g)
-      (List·getD-append (tab f 96) (drop 96 l) 0 j (omega (arith, length-tab f 96)) ∙ getD-tab f 96 j 0 h)
-
-  -- The other cells are kept.
-  pub arcs-rest : drop 96 (arcsOf rows former P mates caps all z l) ≡ drop 96 l
-  unfolding arcsOf
-  arcs-rest =
-      let f = cellOf rows former P mates caps all z in
-      ⊎-elim (λ h. rw (lt-ltb (length l) 96 h)) (λ g. rw (le-ltb (length l) 96 g) (drop-at (tab f 96) (drop 96 l) 96 (length-tab f 96)))
-      (lt-or-ge (length l) 96)
+      rw (le-ltb (length l) arcCells g)
+      (List·getD-append (tab f arcCells) (drop arcCells l) 0 j (omega (arith, length-tab f arcCells)) ∙ getD-tab f arcCells j 0 h)
 
 -- ---- arcs and their weights
 
@@ -49,16 +41,16 @@ one-or-none m v = ⊎-elim (λ l. inr (omega arith)) (λ g. inl (omega (arith, b
 module _ (arcs : List ℕ) (u v : ℕ) where
   -- 1 where v is in the set of u at weight h - 1.
   unfoldable pub within : ℕ → ℕ
-  within h = bit (getD arcs (32 * h + u) 0) v
+  within h = bit (getD arcs (mostNodes * h + u) 0) v
 
   -- It is a bit.
   within-le : (h : ℕ) → within h ≤ 1
   unfolding within
-  within-le h = bit-le (getD arcs (32 * h + u) 0) v
+  within-le h = bit-le (getD arcs (mostNodes * h + u) 0) v
 
   within-zero : bit (getD arcs u 0) v ≡ within 0
   unfolding within
-  within-zero = let e : u ≡ 32 * 0 + u = omega arith in ap (λ (k : ℕ). bit (getD arcs k 0) v) e
+  within-zero = let e : u ≡ mostNodes * 0 + u = omega arith in ap (λ (k : ℕ). bit (getD arcs k 0) v) e
 
   -- An arc is in one of three sets.
   arc-sets : arcOf arcs u v ≡ max (within 0) (max (within 1) (within 2))
@@ -71,7 +63,7 @@ module _ (arcs : List ℕ) (u v : ℕ) where
   unfolding weightOf within
   first-set =
       let m = getD arcs u 0 in
-      let k = getD arcs (32 + u) 0 in
+      let k = getD arcs (mostNodes + u) 0 in
       ⊎-elim (λ e. inl (sym within-zero ∙ e, rw (bit-true m v e)))
       (λ n. ⊎-elim (λ e. inr (inl (sym within-zero ∙ n, e, rw (bit-false m v n, bit-true k v e))))
       (λ o. inr (inr (sym within-zero ∙ n, o, rw (bit-false m v n, bit-false k v o)))) (one-or-none k v))
@@ -101,19 +93,19 @@ module _ (arcs : List ℕ) (u v : ℕ) where
 -- ---- the exchange graph
 
 module _ (P N R Z : ℕ) (zone : ℕ → ℕ) (rows former mates caps l : List ℕ) (M : Mates N zone mates) (small : (p : ℕ) → p < P → getD rows p 0 < 2 ^ N)
-    (valid : (p : ℕ) → p < P → Valid N R Z zone (rowsOf rows p)) (long : 96 ≤ length l) where
+    (valid : (p : ℕ) → p < P → Valid N R Z zone (bitsAt rows p)) (long : arcCells ≤ length l) where
   -- The sets that are written.
   arcs : List ℕ
   arcs = arcsOf rows former P mates caps (belowOf N) Z l
 
   within-set : (h u v : ℕ) → h < 3 → u < N → within arcs u v h ≡ bit (setOf rows former P mates caps N Z h u) v
   unfolding within arcs
-  within-set h u v k lu = ap (λ (x : ℕ). bit x v) (arcs-cell rows former P mates caps (belowOf N) Z l (32 * h + u) long (omega (arith, M .few)))
+  within-set h u v k lu = ap (λ (x : ℕ). bit x v) (arcs-cell rows former P mates caps (belowOf N) Z l (mostNodes * h + u) long (omega (arith, M .few)))
 
   -- Every exchange that leaves its row valid has an arc that weighs no more.
-  pub graph-exchange : (p a b : ℕ) → p < P → Exchange N R Z zone any (rowsOf rows) p a b
+  pub graph-exchange : (p a b : ℕ) → p < P → Exchange N R Z zone any (bitsAt rows) p a b
       → (arcOf (arcsOf rows former P mates caps (belowOf N) Z l) a b ≡ 1)
-      × (weightOf (arcsOf rows former P mates caps (belowOf N) Z l) a b + rowsOf former p b ≤ 1 + rowsOf former p a)
+      × (weightOf (arcsOf rows former P mates caps (belowOf N) Z l) a b + bitsAt former p b ≤ 1 + bitsAt former p a)
   unfolding arcs
   graph-exchange p a b k E =
       let s = exchange-set P N R Z zone rows former mates caps M small valid p a b k E in
@@ -121,7 +113,7 @@ module _ (P N R Z : ℕ) (zone : ℕ → ℕ) (rows former mates caps l : List �
       (w .0, omega (arith, w .1, s .2))
 
   -- A node with room has an arc to every node, of weight 0 at most.
-  pub graph-room : (u v : ℕ) → u < N → v < N → copies P (rowsOf rows) u < getD caps u 0
+  pub graph-room : (u v : ℕ) → u < N → v < N → copies P (bitsAt rows) u < getD caps u 0
       → (arcOf (arcsOf rows former P mates caps (belowOf N) Z l) u v ≡ 1) × (weightOf (arcsOf rows former P mates caps (belowOf N) Z l) u v ≤ 1)
   unfolding arcs
   graph-room u v lu lv c =
@@ -130,20 +122,11 @@ module _ (P N R Z : ℕ) (zone : ℕ → ℕ) (rows former mates caps l : List �
 
   -- Every arc is an exchange of its weight in some row, or, at weight 0, a step of a node with room.
   pub graph-witness : (u v : ℕ) → u < N → v < N → arcOf (arcsOf rows former P mates caps (belowOf N) Z l) u v ≡ 1
-      → ((p : ℕ) × (p < P) × Exchange N R Z zone any (rowsOf rows) p u v
-      × (weightOf (arcsOf rows former P mates caps (belowOf N) Z l) u v + rowsOf former p v ≡ 1 + rowsOf former p u))
-      ⊎ ((weightOf (arcsOf rows former P mates caps (belowOf N) Z l) u v ≡ 1) × (copies P (rowsOf rows) u < getD caps u 0))
+      → ((p : ℕ) × (p < P) × Exchange N R Z zone any (bitsAt rows) p u v
+      × (weightOf (arcsOf rows former P mates caps (belowOf N) Z l) u v + bitsAt former p v ≡ 1 + bitsAt former p u))
+      ⊎ ((weightOf (arcsOf rows former P mates caps (belowOf N) Z l) u v ≡ 1) × (copies P (bitsAt rows) u < getD caps u 0))
   unfolding arcs
   graph-witness u v lu lv e =
       let w = within-arc arcs u v e in
       set-witness P N R Z zone rows former mates caps M small valid (weightOf arcs u v) u v lu lv
       (sym (within-set (weightOf arcs u v) u v (w .0) lu) ∙ w .1)
-
-  -- No set has a node from N on, and the sets of such nodes are empty.
-  pub graph-high : (j v : ℕ) → j < 96 → N ≤ v → bit (getD (arcsOf rows former P mates caps (belowOf N) Z l) j 0) v ≡ 0
-  graph-high j v k g =
-      ap (λ (x : ℕ). bit x v) (arcs-cell rows former P mates caps (belowOf N) Z l j long k) ∙ cell-high rows former P mates caps N Z (M .few) j v g
-
-  pub graph-none : (j : ℕ) → j < 96 → N ≤ j % 32 → getD (arcsOf rows former P mates caps (belowOf N) Z l) j 0 ≡ 0
-  graph-none j k g =
-      arcs-cell rows former P mates caps (belowOf N) Z l j long k ∙ cell-none rows former P mates caps N Z (M .few) small j g

@@ -1,28 +1,31 @@
 -- The laws of sets that grow and numbers that are added to, and one turn of each loop, over plain numbers and lists.
 -- Assumes nothing.
-use Prim.Native.Nat.{ℕ, zero, suc, _+_, _-_, _*_, _/_, _%_, _^_, _≤_, _<_, min, max}
+use Prim.Native.Nat.{ℕ, zero, suc, _+_, _-_, _*_, _/_, _%_, _≤_, _<_, min, max}
 use mathlib.Core.Path.{_≡_, refl, sym, ap, ap₂, _∙_}
 use mathlib.Core.List.{List}
 use mathlib.Core.Logic.{⊎-elim}
 use native.Mathlib.Omega.{arith}
 use lib.ListN.{length, getD, set, length-set}
 use lib.Seq.{getD-set-same, getD-set-other, drop-set-lt}
+use Rattle.sets.proofs.Scan.{done-more, Left}
+use Rattle.cluster.specs.Terms.{mostNodes}
+use Rattle.cycles.specs.ModelGraph.{arcCells}
 use Rattle.sums.specs.ModelSums.{is}
 use Rattle.sums.proofs.Sum.{is-eq, is-ne, is-le, is-cases}
 use Rattle.sets.specs.ModelBits.{bit, withoutOf, unionOf, meetOf, differenceOf, leastOf}
-use Rattle.sets.proofs.Laws.{bit-le, bit-zero, bit-union, bit-meet, bit-difference, bit-without, without-lt, least-some, least-at}
+use Rattle.sets.proofs.Laws.{bit-le, bit-union, bit-meet, bit-difference}
 use Rattle.graph.specs.ModelArcs.{weighs, joined, noted}
 use Rattle.graph.specs.ModelGrowth.{Grown, Added}
 
 -- ---- sets that grow
 
 -- Nothing added.
-pub grown-same : (f : ℕ → ℕ → ℕ) (l : List ℕ) → ((j b : ℕ) → j < 96 → b < 32 → f j b ≡ 0) → Grown f l l
+pub grown-same : (f : ℕ → ℕ → ℕ) (l : List ℕ) → ((j b : ℕ) → j < arcCells → b < mostNodes → f j b ≡ 0) → Grown f l l
 grown-same f l h = record { long = refl; bits = λ j b p q. omega (arith, h j b p q); rest = refl }
 
 -- First f, then g is added: together what has the members of both.
 pub grown-then : (f g h : ℕ → ℕ → ℕ) (l m n : List ℕ) → Grown f l m → Grown g m n
-    → ((j b : ℕ) → j < 96 → b < 32 → max (f j b) (g j b) ≡ h j b) → Grown h l n
+    → ((j b : ℕ) → j < arcCells → b < mostNodes → max (f j b) (g j b) ≡ h j b) → Grown h l n
 grown-then f g h l m n F G e =
     record {
       long = G .long ∙ F .long;
@@ -31,7 +34,7 @@ grown-then f g h l m n F G e =
     }
 
 -- One set of a list joined by another.
-pub grown-joined : (l : List ℕ) (k s : ℕ) → k < 96 → 96 ≤ length l → Grown (λ j b. min (is k j) (bit s b)) l (joined l k s)
+pub grown-joined : (l : List ℕ) (k s : ℕ) → k < arcCells → arcCells ≤ length l → Grown (λ j b. min (is k j) (bit s b)) l (joined l k s)
 unfolding joined
 grown-joined l k s h g =
     record {
@@ -49,7 +52,7 @@ grown-joined l k s h g =
           ))
           (λ w. omega (arith, w .1, ap (λ (x : ℕ). bit x b) (getD-set-other l k j (unionOf (getD l k 0) s) 0 (λ e. w .0 (sym e)))))
           (is-cases k j);
-      rest = drop-set-lt 96 l k (unionOf (getD l k 0) s) h;
+      rest = drop-set-lt arcCells l k (unionOf (getD l k 0) s) h;
     }
 
 -- ---- weights
@@ -75,18 +78,18 @@ weighs-none F h a b m n = is-ne (λ e. go (bit F b) (bit-le F b) e)
     go zero l e = n (omega arith)
     go (suc x) l e = m (omega arith)
 
--- The cell 32 * h + a, among the cells of a.
-pub slot : (a k j : ℕ) → a < 32 → is (a + k * 32) j ≡ min (is a (j % 32)) (is k (j / 32))
+-- The cell of a at weight k - 1, among the cells of a.
+pub slot : (a k j : ℕ) → a < mostNodes → is (a + k * mostNodes) j ≡ min (is a (j % mostNodes)) (is k (j / mostNodes))
 slot a k j l =
     ⊎-elim
-    (λ w. omega (arith, w .1, is-eq {a = a} {b = j % 32} (omega (arith, w .0)), is-eq {a = k} {b = j / 32} (omega (arith, w .0))))
+    (λ w. omega (arith, w .1, is-eq {a = a} {b = j % mostNodes} (omega (arith, w .0)), is-eq {a = k} {b = j / mostNodes} (omega (arith, w .0))))
     (λ w. ⊎-elim
-    (λ u. ⊎-elim (λ v. absurd (w .0 (omega (arith, u .0, v .0)))) (λ v. omega (arith, w .1, v .1)) (is-cases k (j / 32)))
-    (λ u. omega (arith, w .1, u .1)) (is-cases a (j % 32)))
-    (is-cases (a + k * 32) j)
+    (λ u. ⊎-elim (λ v. absurd (w .0 (omega (arith, u .0, v .0)))) (λ v. omega (arith, w .1, v .1)) (is-cases k (j / mostNodes)))
+    (λ u. omega (arith, w .1, u .1)) (is-cases a (j % mostNodes)))
+    (is-cases (a + k * mostNodes) j)
 
 -- The sets at the two weights of a, as one condition on the weight.
-by-weight : (a F T h A s u b : ℕ) → b < 32 → A ≤ 1 → s ≡ min A (is (bit F a) h) → u ≡ min A (is (1 + bit F a) h)
+by-weight : (a F T h A s u b : ℕ) → b < mostNodes → A ≤ 1 → s ≡ min A (is (bit F a) h) → u ≡ min A (is (1 + bit F a) h)
     → max (min s (bit (meetOf T F) b)) (min u (bit (differenceOf T F) b)) ≡ min A (min (bit T b) (weighs F h a b))
 by-weight a F T h A s u b l o p q =
     ⊎-elim
@@ -117,27 +120,27 @@ by-weight a F T h A s u b l o p q =
     none A t m d = omega arith
 
 -- The targets of one node in one row, in its sets.
-pub grown-noted : (l : List ℕ) (a F T : ℕ) → a < 32 → 96 ≤ length l
-    → Grown (λ j b. min (is a (j % 32)) (min (bit T b) (weighs F (j / 32) a b))) l (noted l a F T)
+pub grown-noted : (l : List ℕ) (a F T : ℕ) → a < mostNodes → arcCells ≤ length l
+    → Grown (λ j b. min (is a (j % mostNodes)) (min (bit T b) (weighs F (j / mostNodes) a b))) l (noted l a F T)
 unfolding noted
 grown-noted l a F T h g =
-    let i = a + bit F a * 32 in
+    let i = a + bit F a * mostNodes in
     let first = joined l i (meetOf T F) in
     let G = grown-joined l i (meetOf T F) (omega (arith, bit-le F a)) g in
-    grown-then (λ j b. min (is i j) (bit (meetOf T F) b)) (λ j b. min (is (i + 32) j) (bit (differenceOf T F) b))
-    (λ j b. min (is a (j % 32)) (min (bit T b) (weighs F (j / 32) a b))) l first (joined first (i + 32) (differenceOf T F)) G
-    (grown-joined first (i + 32) (differenceOf T F) (omega (arith, bit-le F a)) (omega (arith, G .long)))
-    (λ j b p q. by-weight a F T (j / 32) (is a (j % 32)) (is i j) (is (i + 32) j) b q (is-le a (j % 32)) (slot a (bit F a) j h)
+    grown-then (λ j b. min (is i j) (bit (meetOf T F) b)) (λ j b. min (is (i + mostNodes) j) (bit (differenceOf T F) b))
+    (λ j b. min (is a (j % mostNodes)) (min (bit T b) (weighs F (j / mostNodes) a b))) l first (joined first (i + mostNodes) (differenceOf T F)) G
+    (grown-joined first (i + mostNodes) (differenceOf T F) (omega (arith, bit-le F a)) (omega (arith, G .long)))
+    (λ j b p q. by-weight a F T (j / mostNodes) (is a (j % mostNodes)) (is i j) (is (i + mostNodes) j) b q (is-le a (j % mostNodes)) (slot a (bit F a) j h)
     (ap (λ (x : ℕ). is x j) (omega arith) ∙ slot a (1 + bit F a) j h))
 
 -- ---- numbers that are added to
 
 -- Nothing added.
-pub added-same : (f : ℕ → ℕ) (l : List ℕ) → ((c : ℕ) → c < 32 → f c ≡ 0) → Added f l l
+pub added-same : (f : ℕ → ℕ) (l : List ℕ) → ((c : ℕ) → c < mostNodes → f c ≡ 0) → Added f l l
 added-same f l h = record { long = refl; cells = λ c p. omega (arith, h c p) }
 
 -- First f, then g.
-pub added-then : (f g h : ℕ → ℕ) (l m n : List ℕ) → Added f l m → Added g m n → ((c : ℕ) → c < 32 → f c + g c ≡ h c) → Added h l n
+pub added-then : (f g h : ℕ → ℕ) (l m n : List ℕ) → Added f l m → Added g m n → ((c : ℕ) → c < mostNodes → f c + g c ≡ h c) → Added h l n
 added-then f g h l m n F G e =
     record { long = G .long ∙ F .long; cells = λ c p. omega (arith, G .cells c p, F .cells c p, e c p) }
 
@@ -160,66 +163,25 @@ added-one l a h =
 
 -- ---- the members of a set, one after the other
 
--- What is left is a set of members of s.
-pub record Left (s left : ℕ) : Type 0 where
-  pub word : left < 2 ^ 32
-  pub part : (c : ℕ) → c < 32 → bit left c ≤ bit s c
+-- A condition y of the members that are done grows by the next one, where x is the condition of that one.
+pub done-grows : (s left : ℕ) → Left s left → (left ≡ 0 → ⊥) → (c i x y : ℕ) → c < mostNodes → i ≡ is (leastOf left) c → (leastOf left ≡ c → x ≡ y)
+    → max (min (bit s c - bit left c) y) (min i x) ≡ min (bit s c - bit (withoutOf left (leastOf left)) c) y
+done-grows s left L some c i x y l e h =
+    ⊎-elim (λ w. both (bit s c - bit left c) i x y (bit s c - bit (withoutOf left (leastOf left)) c) (omega (arith, w .1)) (omega (arith, w .1, done-more s left L some c l)) (omega (arith, bit-le s c)) (h (w .0)))
+    (λ w. others (bit s c - bit left c) i x y (bit s c - bit (withoutOf left (leastOf left)) c) (omega (arith, w .1)) (omega (arith, w .1, done-more s left L some c l)))
+    (is-cases (leastOf left) c)
+  where
+    both : (d i x y d′ : ℕ) → i ≡ 1 → d + 1 ≡ d′ → d′ ≤ 1 → x ≡ y → max (min d y) (min i x) ≡ min d′ y
+    both d i x y d′ e q o p = omega arith
 
--- At first all is left.
-pub left-all : (s : ℕ) → s < 2 ^ 32 → Left s s
-left-all s h = record { word = h; part = λ c l. omega arith }
-
-module _ (s left : ℕ) (L : Left s left) (some : left ≡ 0 → ⊥) where
-  -- The least that is left is a number below 32.
-  pub least-word : leastOf left < 32
-  least-word = least-some left (L .word) some
-
-  -- Without it the others are left.
-  pub left-less : Left s (withoutOf left (leastOf left))
-  left-less =
-      record {
-        word = without-lt left (leastOf left);
-        part = λ c l. omega (arith, L .part c l, bit-without left (leastOf left) c l);
-      }
-
-  -- It is done now, beside those that were done.
-  pub done-more : (c : ℕ) → c < 32 → bit s c - bit left c + is (leastOf left) c ≡ bit s c - bit (withoutOf left (leastOf left)) c
-  done-more c l =
-      ⊎-elim
-      (λ w. omega (
-        arith,
-        w .1,
-        L .part c l,
-        bit-le s c,
-        bit-without left (leastOf left) c l,
-        least-at left least-word,
-        ap (bit left) (w .0),
-      ))
-      (λ w. omega (arith, w .1, bit-without left (leastOf left) c l)) (is-cases (leastOf left) c)
-
-  -- The same, of conditions w that hold where the member is done.
-  pub done-grows : (c i x y : ℕ) → c < 32 → i ≡ is (leastOf left) c → (leastOf left ≡ c → x ≡ y)
-      → max (min (bit s c - bit left c) y) (min i x) ≡ min (bit s c - bit (withoutOf left (leastOf left)) c) y
-  done-grows c i x y l e h =
-      ⊎-elim (λ w. both (bit s c - bit left c) i x y (bit s c - bit (withoutOf left (leastOf left)) c) (omega (arith, w .1)) (omega (arith, w .1, done-more c l)) (omega (arith, bit-le s c)) (h (w .0)))
-      (λ w. others (bit s c - bit left c) i x y (bit s c - bit (withoutOf left (leastOf left)) c) (omega (arith, w .1)) (omega (arith, w .1, done-more c l)))
-      (is-cases (leastOf left) c)
-    where
-      both : (d i x y d′ : ℕ) → i ≡ 1 → d + 1 ≡ d′ → d′ ≤ 1 → x ≡ y → max (min d y) (min i x) ≡ min d′ y
-      both d i x y d′ e q o p = omega arith
-
-      others : (d i x y d′ : ℕ) → i ≡ 0 → d ≡ d′ → max (min d y) (min i x) ≡ min d′ y
-      others d i x y d′ e q = omega arith
-
--- At last all are done.
-pub done-all : (s left c : ℕ) → left ≡ 0 → bit s c - bit left c ≡ bit s c
-done-all s left c e = omega (arith, ap (λ (x : ℕ). bit x c) e, bit-zero c)
+    others : (d i x y d′ : ℕ) → i ≡ 0 → d ≡ d′ → max (min d y) (min i x) ≡ min d′ y
+    others d i x y d′ e q = omega arith
 
 -- ---- what the code computes, step by step
 
 -- The nodes `to` in a's sets: h is a's digit of the former row, x and y are the nodes of `to` in the former row and outside.
 pub noted-is : (l : List ℕ) (a former to h x y : ℕ) (m n : List ℕ) → h ≡ bit former a → x ≡ meetOf to former → y ≡ differenceOf to former
-    → m ≡ joined l (a + h * 32) x → n ≡ joined m (a + h * 32 + 32) y → n ≡ noted l a former to
+    → m ≡ joined l (a + h * mostNodes) x → n ≡ joined m (a + h * mostNodes + mostNodes) y → n ≡ noted l a former to
 unfolding noted
 noted-is l a former to h x y m n eh ex ey em en =
-    en ∙ ((λ i. joined (em i) (a + h * 32 + 32) (ey i)) ∙ (λ i. joined (joined l (a + eh i * 32) (ex i)) (a + eh i * 32 + 32) (differenceOf to former)))
+    en ∙ ((λ i. joined (em i) (a + h * mostNodes + mostNodes) (ey i)) ∙ (λ i. joined (joined l (a + eh i * mostNodes) (ex i)) (a + eh i * mostNodes + mostNodes) (differenceOf to former)))

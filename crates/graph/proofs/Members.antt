@@ -1,4 +1,4 @@
--- What the 96 sets of a layout hold: in a layout of valid rows, each exchange that leaves its row valid is in the set of its weight, each node
+-- What the sets of a layout hold: in a layout of valid rows, each exchange that leaves its row valid is in the set of its weight, each node
 -- with room leads to every node at weight 0, and nothing else is in a set.
 -- Assumes nothing.
 use Prim.Native.Nat.{ℕ, _+_, _-_, _*_, _/_, _%_, _^_, _≤_, _<_, min, max}
@@ -10,16 +10,17 @@ use native.Mathlib.Omega.{arith}
 use lib.ListN.{getD}
 use lib.Dec.{ltb}
 use borrow.Author.Tests.{lt-ltb, ltb-true}
+use Rattle.cluster.specs.Terms.{mostNodes}
 use Rattle.sums.specs.ModelSums.{maxTo, is}
 use Rattle.sums.specs.TermsSums.{one-if}
 use Rattle.sums.proofs.Sum.{lt-or-ge, is-eq, is-le, is-one}
 use Rattle.sums.proofs.Count.{max-ge, max-le, max-at}
-use Rattle.sets.specs.ModelBits.{bit, belowOf}
-use Rattle.sets.proofs.Laws.{bit-le, bit-high, bit-none, bit-maskOf, bit-mask-high, mask-lt, bit-below, bit-below-not}
+use Rattle.sets.specs.ModelBits.{maskBits, bitsAt, bit, belowOf}
+use Rattle.sets.proofs.Laws.{bit-le, bit-maskOf, bit-below}
 use Rattle.exchange.specs.ModelRow.{Valid, Exchange, copies}
 use Rattle.swaps.specs.ModelSwaps.{targetsOf}
 use Rattle.swaps.specs.ModelMates.{Mates}
-use Rattle.swaps.proofs.Fitting.{targets-high, target-valid, valid-target}
+use Rattle.swaps.proofs.Fitting.{target-valid, valid-target}
 use Rattle.graph.specs.ModelArcs.{weighs, moves, movesTo, copiesTo, roomy, cellOf}
 
 -- From 1 back to the test.
@@ -37,29 +38,25 @@ some-or-none n f =
 abbrev pub any : ℕ → ℕ → ℕ
 any p b = 1
 
--- The rows that masks stand for.
-abbrev pub rowsOf : List ℕ → ℕ → ℕ → ℕ
-rowsOf rows p b = bit (getD rows p 0) b
-
 module _ (rows former : List ℕ) (P : ℕ) (mates caps : List ℕ) (all z : ℕ) where
   -- The bits of a cell: some row allows the exchange, or there is room.
-  bit-cell : (j b : ℕ) → b < 32
+  bit-cell : (j b : ℕ) → b < mostNodes
       → bit (cellOf rows former P mates caps all z j) b
       ≡ max (movesTo rows former P mates all z j b) (roomy (copiesTo rows P) caps all j b)
   unfolding cellOf movesTo moves roomy
   bit-cell j b l =
-      bit-maskOf (λ b. max (movesTo rows former P mates all z j b) (roomy (copiesTo rows P) caps all j b)) 32 b l
+      bit-maskOf (λ b. max (movesTo rows former P mates all z j b) (roomy (copiesTo rows P) caps all j b)) maskBits b l
       (omega (
         arith,
-        bit-le all (j % 32),
-        max-le P 1 (λ q. moves mates all z (getD rows q 0) (getD former q 0) j b) (λ q h. omega (arith, bit-le (getD rows q 0) (j % 32))),
+        bit-le all (j % mostNodes),
+        max-le P 1 (λ q. moves mates all z (getD rows q 0) (getD former q 0) j b) (λ q h. omega (arith, bit-le (getD rows q 0) (j % mostNodes))),
       ))
 
 -- The set of the node u at weight h - 1, over the nodes below N.
 abbrev pub setOf : List ℕ → List ℕ → ℕ → List ℕ → List ℕ → ℕ → ℕ → ℕ → ℕ → ℕ
-setOf rows former P mates caps N Z h u = cellOf rows former P mates caps (belowOf N) Z (32 * h + u)
+setOf rows former P mates caps N Z h u = cellOf rows former P mates caps (belowOf N) Z (mostNodes * h + u)
 
-module _ (rows former : List ℕ) (P : ℕ) (mates caps : List ℕ) (N Z : ℕ) (few : N ≤ 32) where
+module _ (rows former : List ℕ) (P : ℕ) (mates caps : List ℕ) (N Z : ℕ) (few : N ≤ mostNodes) where
   -- What row q allows at weight h - 1.
   step : ℕ → ℕ → ℕ → ℕ → ℕ
   step h u v q =
@@ -72,9 +69,9 @@ module _ (rows former : List ℕ) (P : ℕ) (mates caps : List ℕ) (N Z : ℕ) 
   unfolding step movesTo moves roomy
   bit-set h u v lu lv =
       let all = belowOf N in
-      let j = 32 * h + u in
-      let eu : j % 32 ≡ u = omega arith in
-      let eh : j / 32 ≡ h = omega arith in
+      let j = mostNodes * h + u in
+      let eu : j % mostNodes ≡ u = omega arith in
+      let eh : j / mostNodes ≡ h = omega arith in
       bit-cell rows former P mates caps all Z j v (omega arith)
       ∙ ap₂ max
       (ap₂
@@ -83,45 +80,16 @@ module _ (rows former : List ℕ) (P : ℕ) (mates caps : List ℕ) (N Z : ℕ) 
       (ap₂ (λ (a k : ℕ). min (bit all a) (min (is 1 k) (min (one-if (ltb (copiesTo rows P a) (getD caps a 0))) (bit all v)))) eu eh
       ∙ omega (arith, is-le 1 h, bit-below N u (omega arith) lu, bit-below N v (omega arith) lv))
 
-  -- No set has a node from N on.
-  pub cell-high : (j v : ℕ) → N ≤ v → bit (cellOf rows former P mates caps (belowOf N) Z j) v ≡ 0
-  unfolding cellOf movesTo moves roomy
-  cell-high j v g =
-      ⊎-elim
-      (λ l. bit-cell rows former P mates caps (belowOf N) Z j v l
-      ∙ omega (
-        arith,
-        bit-below-not N v g,
-        max-le P 0 (λ q. moves mates (belowOf N) Z (getD rows q 0) (getD former q 0) j v)
-            (λ q h. omega (arith, targets-high mates N Z (getD rows q 0) (j % 32) v g)),
-      ))
-      (λ m. bit-mask-high (λ b. max (movesTo rows former P mates (belowOf N) Z j b) (roomy (copiesTo rows P) caps (belowOf N) j b)) 32 v m)
-      (lt-or-ge v 32)
-
-  -- The sets of nodes from N on are empty, where the rows have none of them.
-  pub cell-none : ((p : ℕ) → p < P → getD rows p 0 < 2 ^ N) → (j : ℕ) → N ≤ j % 32 → cellOf rows former P mates caps (belowOf N) Z j ≡ 0
-  unfolding cellOf movesTo moves roomy
-  cell-none small j g =
-      bit-none 32 (cellOf rows former P mates caps (belowOf N) Z j)
-      (mask-lt (λ b. max (movesTo rows former P mates (belowOf N) Z j b) (roomy (copiesTo rows P) caps (belowOf N) j b)) 32)
-      (λ v l. bit-cell rows former P mates caps (belowOf N) Z j v l
-      ∙ omega (
-        arith,
-        bit-below-not N (j % 32) g,
-        max-le P 0 (λ q. moves mates (belowOf N) Z (getD rows q 0) (getD former q 0) j v)
-            (λ q h. omega (arith, bit-high N (getD rows q 0) (j % 32) (small q h) g)),
-      ))
-
 module _ (P N R Z : ℕ) (zone : ℕ → ℕ) (rows former mates caps : List ℕ) (M : Mates N zone mates) (small : (p : ℕ) → p < P → getD rows p 0 < 2 ^ N)
-    (valid : (p : ℕ) → p < P → Valid N R Z zone (rowsOf rows p)) where
+    (valid : (p : ℕ) → p < P → Valid N R Z zone (bitsAt rows p)) where
   -- An exchange that leaves its row valid is in the set of its weight.
-  pub exchange-set : (p a b : ℕ) → p < P → Exchange N R Z zone any (rowsOf rows) p a b
-      → (h : ℕ) × (h < 3) × (h + rowsOf former p b ≡ 1 + rowsOf former p a) × (bit (setOf rows former P mates caps N Z h a) b ≡ 1)
+  pub exchange-set : (p a b : ℕ) → p < P → Exchange N R Z zone any (bitsAt rows) p a b
+      → (h : ℕ) × (h < 3) × (h + bitsAt former p b ≡ 1 + bitsAt former p a) × (bit (setOf rows former P mates caps N Z h a) b ≡ 1)
   unfolding step weighs
   exchange-set p a b l E =
       let row = getD rows p 0 in
-      let fa = rowsOf former p a in
-      let fb = rowsOf former p b in
+      let fa = bitsAt former p a in
+      let fb = bitsAt former p b in
       let h = 1 + fa - fb in
       let la = bit-le (getD former p 0) a in
       let lb = bit-le (getD former p 0) b in
@@ -142,7 +110,7 @@ module _ (P N R Z : ℕ) (zone : ℕ → ℕ) (rows former mates caps : List ℕ
       )
 
   -- A node with room leads to every node at weight 0.
-  pub room-set : (u v : ℕ) → u < N → v < N → copies P (rowsOf rows) u < getD caps u 0 → bit (setOf rows former P mates caps N Z 1 u) v ≡ 1
+  pub room-set : (u v : ℕ) → u < N → v < N → copies P (bitsAt rows) u < getD caps u 0 → bit (setOf rows former P mates caps N Z 1 u) v ≡ 1
   unfolding copies copiesTo one-if
   room-set u v lu lv c =
       omega (
@@ -155,21 +123,21 @@ module _ (P N R Z : ℕ) (zone : ℕ → ℕ) (rows former mates caps : List ℕ
 
   -- What row p allows is an exchange.
   step-exchange : (h u v p : ℕ) → u < N → v < N → p < P → 1 ≤ step rows former P mates caps N Z (M .few) h u v p
-      → Exchange N R Z zone any (rowsOf rows) p u v × (h + rowsOf former p v ≡ 1 + rowsOf former p u)
+      → Exchange N R Z zone any (bitsAt rows) p u v × (h + bitsAt former p v ≡ 1 + bitsAt former p u)
   unfolding step weighs
   step-exchange h u v p lu lv l s =
       let row = getD rows p 0 in
       let T = targetsOf mates (belowOf N) Z row u in
       let i : bit row u ≡ 1 = omega (arith, bit-le row u) in
       let t = target-valid N zone mates M Z row u (small p l) lu i R (valid p l) v lv (omega (arith, bit-le T v)) in
-      let w : rowsOf former p v + h ≡ 1 + rowsOf former p u =
-      is-one (rowsOf former p v + h) (1 + rowsOf former p u) (omega (arith, is-le (rowsOf former p v + h) (1 + rowsOf former p u))) in
+      let w : bitsAt former p v + h ≡ 1 + bitsAt former p u =
+      is-one (bitsAt former p v + h) (1 + bitsAt former p u) (omega (arith, is-le (bitsAt former p v + h) (1 + bitsAt former p u))) in
       (record { a-node = lu; b-node = lv; a-in = i; b-out = t .0; a-free = refl; b-free = refl; valid = t .1 }, omega arith)
 
   -- What is in a set is an exchange of that weight in some row, or, at weight 0, a step of a node with room.
   pub set-witness : (h u v : ℕ) → u < N → v < N → bit (setOf rows former P mates caps N Z h u) v ≡ 1
-      → ((p : ℕ) × (p < P) × Exchange N R Z zone any (rowsOf rows) p u v × (h + rowsOf former p v ≡ 1 + rowsOf former p u))
-      ⊎ ((h ≡ 1) × (copies P (rowsOf rows) u < getD caps u 0))
+      → ((p : ℕ) × (p < P) × Exchange N R Z zone any (bitsAt rows) p u v × (h + bitsAt former p v ≡ 1 + bitsAt former p u))
+      ⊎ ((h ≡ 1) × (copies P (bitsAt rows) u < getD caps u 0))
   unfolding copies copiesTo
   set-witness h u v lu lv e =
       let f = step rows former P mates caps N Z (M .few) h u v in

@@ -10,22 +10,25 @@ use lib.ListN.{length, getD, set, drop, take, replicate, length-append, length-d
 use lib.Seq.{ext-getD, drop-at, length-take-le, getD-take}
 use lib.Dec.{ltb}
 use borrow.Author.Tests.{lt-ltb, le-ltb}
+use Rattle.cluster.specs.Terms.{mostNodes}
+use Rattle.cycles.specs.ModelGraph.{arcCells}
 use Rattle.sums.specs.TermsSums.{sumTo, one-if, tab}
 use Rattle.sums.specs.ModelSums.{maxTo, is}
-use Rattle.sets.specs.ModelBits.{bit, withoutOf, leastOf}
+use Rattle.sets.specs.ModelBits.{maskBits, bit, withoutOf, leastOf}
 use Rattle.sets.proofs.Laws.{bit-le, bit-zero, mask-unique}
 use Rattle.cells.proofs.Cells.{length-tab, getD-tab}
 use Rattle.swaps.specs.ModelSwaps.{targetsOf}
 use Rattle.graph.specs.ModelArcs.{weighs, moves, movesTo, copiesTo, roomy, cellOf, arcsOf, joined, noted}
 use Rattle.graph.specs.ModelGrowth.{Grown, Added}
-use Rattle.graph.proofs.Growing.{grown-same, grown-then, grown-joined, grown-noted, slot, added-same, added-then, added-one, Left, least-word, done-more, done-grows, done-all}
+use Rattle.graph.proofs.Growing.{grown-same, grown-then, grown-joined, grown-noted, slot, added-same, added-then, added-one, done-grows}
+use Rattle.sets.proofs.Scan.{Left, least-word, done-more, done-all}
 
 -- ---- the nodes of a row
 
 -- What the nodes of a row that are no more left add.
 unfoldable pub doing : List ℕ → ℕ → ℕ → ℕ → ℕ → ℕ → ℕ → ℕ → ℕ
 doing mates all z row former left j b =
-    min (bit row (j % 32) - bit left (j % 32)) (min (bit (targetsOf mates all z row (j % 32)) b) (weighs former (j / 32) (j % 32) b))
+    min (bit row (j % mostNodes) - bit left (j % mostNodes)) (min (bit (targetsOf mates all z row (j % mostNodes)) b) (weighs former (j / mostNodes) (j % mostNodes) b))
 
 module _ (mates : List ℕ) (all z row former : ℕ) (l₀ : List ℕ) where
   -- At first nothing is added.
@@ -34,7 +37,7 @@ module _ (mates : List ℕ) (all z row former : ℕ) (l₀ : List ℕ) where
   row-none = grown-same (doing mates all z row former row) l₀ (λ j b p q. omega arith)
 
   -- A turn.
-  pub row-turn : (left a next to : ℕ) (l m : List ℕ) → Left row left → (left ≡ 0 → ⊥) → 96 ≤ length l₀
+  pub row-turn : (left a next to : ℕ) (l m : List ℕ) → Left row left → (left ≡ 0 → ⊥) → arcCells ≤ length l₀
       → a ≡ leastOf left → next ≡ withoutOf left a → to ≡ targetsOf mates all z row a → m ≡ noted l a former to
       → Grown (doing mates all z row former left) l₀ l → Grown (doing mates all z row former next) l₀ m
   unfolding doing
@@ -42,12 +45,12 @@ module _ (mates : List ℕ) (all z row former : ℕ) (l₀ : List ℕ) where
       let k = leastOf left in
       let T = targetsOf mates all z row k in
       rw (em, et, en, ea)
-      (grown-then (doing mates all z row former left) (λ j b. min (is k (j % 32)) (min (bit T b) (weighs former (j / 32) k b)))
+      (grown-then (doing mates all z row former left) (λ j b. min (is k (j % mostNodes)) (min (bit T b) (weighs former (j / mostNodes) k b)))
       (doing mates all z row former (withoutOf left k)) l₀ l (noted l k former T) G
       (grown-noted l k former T (least-word row left L s) (omega (arith, G .long)))
-      (λ j b p q. done-grows row left L s (j % 32) (is k (j % 32)) (min (bit T b) (weighs former (j / 32) k b))
-      (min (bit (targetsOf mates all z row (j % 32)) b) (weighs former (j / 32) (j % 32) b)) (omega arith) refl
-      (λ e. ap (λ (i : ℕ). min (bit (targetsOf mates all z row i) b) (weighs former (j / 32) i b)) e)))
+      (λ j b p q. done-grows row left L s (j % mostNodes) (is k (j % mostNodes)) (min (bit T b) (weighs former (j / mostNodes) k b))
+      (min (bit (targetsOf mates all z row (j % mostNodes)) b) (weighs former (j / mostNodes) (j % mostNodes) b)) (omega arith) refl
+      (λ e. ap (λ (i : ℕ). min (bit (targetsOf mates all z row i) b) (weighs former (j / mostNodes) i b)) e)))
 
   -- At last all that the row allows is added.
   pub row-all : (left : ℕ) (l : List ℕ) → left ≡ 0 → Grown (doing mates all z row former left) l₀ l → Grown (moves mates all z row former) l₀ l
@@ -57,13 +60,13 @@ module _ (mates : List ℕ) (all z row former : ℕ) (l₀ : List ℕ) where
         long = G .long;
         bits = λ j b p q.
             G .bits j b p q
-            ∙ ap (λ (d : ℕ). max (bit (getD l₀ j 0) b) (min d (min (bit (targetsOf mates all z row (j % 32)) b) (weighs former (j / 32) (j % 32) b))))
-            (done-all row left (j % 32) e);
+            ∙ ap (λ (d : ℕ). max (bit (getD l₀ j 0) b) (min d (min (bit (targetsOf mates all z row (j % mostNodes)) b) (weighs former (j / mostNodes) (j % mostNodes) b))))
+            (done-all row left (j % mostNodes) e);
         rest = G .rest;
       }
 
 -- A turn of the count.
-pub count-turn : (row left a next : ℕ) (l₀ l : List ℕ) → Left row left → (left ≡ 0 → ⊥) → 32 ≤ length l₀ → a ≡ leastOf left → next ≡ withoutOf left a
+pub count-turn : (row left a next : ℕ) (l₀ l : List ℕ) → Left row left → (left ≡ 0 → ⊥) → mostNodes ≤ length l₀ → a ≡ leastOf left → next ≡ withoutOf left a
     → Added (λ c. bit row c - bit left c) l₀ l → Added (λ c. bit row c - bit next c) l₀ (set l a (getD l a 0 + 1))
 count-turn row left a next l₀ l L s g ea en A =
     rw (en, ea)
@@ -82,7 +85,7 @@ count-all row left l₀ l e A =
 -- What the nodes with room that are no more left add.
 unfoldable pub rooming : (ℕ → ℕ) → List ℕ → ℕ → ℕ → ℕ → ℕ → ℕ
 rooming copies caps all left j b =
-    min (bit all (j % 32) - bit left (j % 32)) (min (is 1 (j / 32)) (min (one-if (ltb (copies (j % 32)) (getD caps (j % 32) 0))) (bit all b)))
+    min (bit all (j % mostNodes) - bit left (j % mostNodes)) (min (is 1 (j / mostNodes)) (min (one-if (ltb (copies (j % mostNodes)) (getD caps (j % mostNodes) 0))) (bit all b)))
 
 module _ (copies : ℕ → ℕ) (caps : List ℕ) (all : ℕ) (l₀ : List ℕ) where
   -- At first nothing is added.
@@ -100,25 +103,25 @@ module _ (copies : ℕ → ℕ) (caps : List ℕ) (all : ℕ) (l₀ : List ℕ) 
       (λ u. omega (arith, ap (λ (x : ℕ). bit x b) (u .1), ap one-if (le-ltb (copies a) (getD caps a 0) (omega (arith, u .0))), bit-zero b)) w
 
   -- A turn.
-  pub room-turn : (left a next s : ℕ) (l m : List ℕ) → Left all left → (left ≡ 0 → ⊥) → 96 ≤ length l₀
+  pub room-turn : (left a next s : ℕ) (l m : List ℕ) → Left all left → (left ≡ 0 → ⊥) → arcCells ≤ length l₀
       → a ≡ leastOf left → next ≡ withoutOf left a → ((b : ℕ) → bit s b ≡ min (one-if (ltb (copies a) (getD caps a 0))) (bit all b))
-      → m ≡ joined l (a + 32) s
+      → m ≡ joined l (a + mostNodes) s
       → Grown (rooming copies caps all left) l₀ l → Grown (rooming copies caps all next) l₀ m
   unfolding rooming
   room-turn left a next s l m L n g ea en es em G =
-      let lt : a < 32 = omega (arith, least-word all left L n) in
+      let lt : a < mostNodes = omega (arith, least-word all left L n) in
       rw (em, en, ap (λ (x : ℕ). withoutOf left x) ea)
-      (grown-then (rooming copies caps all left) (λ j b. min (is (a + 32) j) (bit s b))
-      (rooming copies caps all (withoutOf left (leastOf left))) l₀ l (joined l (a + 32) s) G
-      (grown-joined l (a + 32) s (omega arith) (omega (arith, G .long)))
+      (grown-then (rooming copies caps all left) (λ j b. min (is (a + mostNodes) j) (bit s b))
+      (rooming copies caps all (withoutOf left (leastOf left))) l₀ l (joined l (a + mostNodes) s) G
+      (grown-joined l (a + mostNodes) s (omega arith) (omega (arith, G .long)))
       (λ j b p q.
       ap (λ (x : ℕ). max (rooming copies caps all left j b) x)
       (ap₂ min (slot a 1 j lt) (es b)
-      ∙ regroup (is a (j % 32)) (is 1 (j / 32)) (min (one-if (ltb (copies a) (getD caps a 0))) (bit all b)))
-      ∙ done-grows all left L n (j % 32) (is a (j % 32)) (min (is 1 (j / 32)) (min (one-if (ltb (copies a) (getD caps a 0))) (bit all b)))
-      (min (is 1 (j / 32)) (min (one-if (ltb (copies (j % 32)) (getD caps (j % 32) 0))) (bit all b))) (omega arith)
-      (ap (λ (x : ℕ). is x (j % 32)) ea)
-      (λ e. ap (λ (i : ℕ). min (is 1 (j / 32)) (min (one-if (ltb (copies i) (getD caps i 0))) (bit all b))) (ea ∙ e))))
+      ∙ regroup (is a (j % mostNodes)) (is 1 (j / mostNodes)) (min (one-if (ltb (copies a) (getD caps a 0))) (bit all b)))
+      ∙ done-grows all left L n (j % mostNodes) (is a (j % mostNodes)) (min (is 1 (j / mostNodes)) (min (one-if (ltb (copies a) (getD caps a 0))) (bit all b)))
+      (min (is 1 (j / mostNodes)) (min (one-if (ltb (copies (j % mostNodes)) (getD caps (j % mostNodes) 0))) (bit all b))) (omega arith)
+      (ap (λ (x : ℕ). is x (j % mostNodes)) ea)
+      (λ e. ap (λ (i : ℕ). min (is 1 (j / mostNodes)) (min (one-if (ltb (copies i) (getD caps i 0))) (bit all b))) (ea ∙ e))))
     where
       regroup : (x y z : ℕ) → min (min x y) z ≡ min x (min y z)
       regroup x y z = omega arith
@@ -131,17 +134,17 @@ module _ (copies : ℕ → ℕ) (caps : List ℕ) (all : ℕ) (l₀ : List ℕ) 
         long = G .long;
         bits = λ j b p q.
             G .bits j b p q
-            ∙ ap (λ (d : ℕ). max (bit (getD l₀ j 0) b) (min d (min (is 1 (j / 32)) (min (one-if (ltb (copies (j % 32)) (getD caps (j % 32) 0))) (bit all b)))))
-            (done-all all left (j % 32) e);
+            ∙ ap (λ (d : ℕ). max (bit (getD l₀ j 0) b) (min d (min (is 1 (j / mostNodes)) (min (one-if (ltb (copies (j % mostNodes)) (getD caps (j % mostNodes) 0))) (bit all b)))))
+            (done-all all left (j % mostNodes) e);
         rest = G .rest;
       }
 
 -- ---- the rows
 
 -- Clearing keeps the length.
-pub clear-length : (l m : List ℕ) → 96 ≤ length l → m ≡ tab (λ k. 0) 96 ++ drop 96 l → length m ≡ length l
+pub clear-length : (l m : List ℕ) → arcCells ≤ length l → m ≡ tab (λ k. 0) arcCells ++ drop arcCells l → length m ≡ length l
 clear-length l m g e =
-    omega (arith, ap length e, length-append (tab (λ k. 0) 96) (drop 96 l), length-tab {A = ℕ} (λ k. 0) 96, length-drop 96 l)
+    omega (arith, ap length e, length-append (tab (λ k. 0) arcCells) (drop arcCells l), length-tab {A = ℕ} (λ k. 0) arcCells, length-drop arcCells l)
 
 module _ (rows : List ℕ) where
   -- The counts before the first row.
@@ -178,41 +181,41 @@ module _ (rows former mates caps : List ℕ) (all z : ℕ) where
       ap (λ (x : ℕ). max (movesTo rows former p mates all z j b) x) (ap₂ (λ (x y : ℕ). moves mates all z x y j b) es ef)
       ∙ ap (λ (k : ℕ). movesTo rows former k mates all z j b) (sym (add-one p)))
 
-  -- Where there is room for the 96 sets, they are written.
-  pub arcs-all : (P : ℕ) (l₀ l₁ l₂ l₃ counts : List ℕ) → 96 ≤ length l₀ → l₁ ≡ tab (λ k. 0) 96 ++ drop 96 l₀
-      → Grown (movesTo rows former P mates all z) l₁ l₂ → Added (copiesTo rows P) (replicate 32 0) counts
-      → Grown (roomy (λ a. getD counts a 0) caps all) l₂ l₃ → ((j : ℕ) → getD l₃ j 0 < 2 ^ 32)
+  -- Where there is room for all sets, they are written.
+  pub arcs-all : (P : ℕ) (l₀ l₁ l₂ l₃ counts : List ℕ) → arcCells ≤ length l₀ → l₁ ≡ tab (λ k. 0) arcCells ++ drop arcCells l₀
+      → Grown (movesTo rows former P mates all z) l₁ l₂ → Added (copiesTo rows P) (replicate mostNodes 0) counts
+      → Grown (roomy (λ a. getD counts a 0) caps all) l₂ l₃ → ((j : ℕ) → getD l₃ j 0 < 2 ^ maskBits)
       → l₃ ≡ arcsOf rows former P mates caps all z l₀
   unfolding arcsOf cellOf
   arcs-all P l₀ l₁ l₂ l₃ counts g e G A H word =
-      sym (take-append-drop 96 l₃)
+      sym (take-append-drop arcCells l₃)
       ∙ (ap₂ (λ (x y : List ℕ). x ++ y)
-      (ext-getD 0 (take 96 l₃) (tab (cellOf rows former P mates caps all z) 96) (long ∙ sym (length-tab (cellOf rows former P mates caps all z) 96))
-      (λ j h. let q : j < 96 = omega (arith, long) in
-      getD-take 96 l₃ j 0 q ∙ (cell j q ∙ sym (getD-tab (cellOf rows former P mates caps all z) 96 j 0 q))))
-      (H .rest ∙ (G .rest ∙ (ap (λ (l : List ℕ). drop 96 l) e ∙ drop-at (tab (λ k. 0) 96) (drop 96 l₀) 96 (length-tab (λ k. 0) 96))))
-      ∙ sym (rw (le-ltb (length l₀) 96 g)))
+      (ext-getD 0 (take arcCells l₃) (tab (cellOf rows former P mates caps all z) arcCells) (long ∙ sym (length-tab (cellOf rows former P mates caps all z) arcCells))
+      (λ j h. let q : j < arcCells = omega (arith, long) in
+      getD-take arcCells l₃ j 0 q ∙ (cell j q ∙ sym (getD-tab (cellOf rows former P mates caps all z) arcCells j 0 q))))
+      (H .rest ∙ (G .rest ∙ (ap (λ (l : List ℕ). drop arcCells l) e ∙ drop-at (tab (λ k. 0) arcCells) (drop arcCells l₀) arcCells (length-tab (λ k. 0) arcCells))))
+      ∙ sym (rw (le-ltb (length l₀) arcCells g)))
     where
-      long : length (take 96 l₃) ≡ 96
+      long : length (take arcCells l₃) ≡ arcCells
       long =
-          length-take-le 96 l₃
+          length-take-le arcCells l₃
           (omega (arith, H .long, G .long, clear-length l₀ l₁ g e))
 
-      empty : (j b : ℕ) → j < 96 → bit (getD l₁ j 0) b ≡ 0
+      empty : (j b : ℕ) → j < arcCells → bit (getD l₁ j 0) b ≡ 0
       empty j b q =
           ap (λ (l : List ℕ). bit (getD l j 0) b) e
-          ∙ (ap (λ (x : ℕ). bit x b) (List·getD-append (tab (λ k. 0) 96) (drop 96 l₀) 0 j (omega (arith, length-tab {A = ℕ} (λ k. 0) 96)) ∙ getD-tab (λ k. 0) 96 j 0 q)
+          ∙ (ap (λ (x : ℕ). bit x b) (List·getD-append (tab (λ k. 0) arcCells) (drop arcCells l₀) 0 j (omega (arith, length-tab {A = ℕ} (λ k. 0) arcCells)) ∙ getD-tab (λ k. 0) arcCells j 0 q)
           ∙ bit-zero b)
 
-      counted : (c : ℕ) → c < 32 → getD counts c 0 ≡ copiesTo rows P c
-      counted c l = omega (arith, A .cells c l, getD-replicate {A = ℕ} 32 c 0 0 l)
+      counted : (c : ℕ) → c < mostNodes → getD counts c 0 ≡ copiesTo rows P c
+      counted c l = omega (arith, A .cells c l, getD-replicate {A = ℕ} mostNodes c 0 0 l)
 
       room : (j b : ℕ) → roomy (λ a. getD counts a 0) caps all j b ≡ roomy (copiesTo rows P) caps all j b
       room j b =
           unfold roomy in
-          ap (λ (n : ℕ). min (bit all (j % 32)) (min (is 1 (j / 32)) (min (one-if (ltb n (getD caps (j % 32) 0))) (bit all b)))) (counted (j % 32) (omega arith))
+          ap (λ (n : ℕ). min (bit all (j % mostNodes)) (min (is 1 (j / mostNodes)) (min (one-if (ltb n (getD caps (j % mostNodes) 0))) (bit all b)))) (counted (j % mostNodes) (omega arith))
 
-      cell : (j : ℕ) → j < 96 → getD l₃ j 0 ≡ cellOf rows former P mates caps all z j
+      cell : (j : ℕ) → j < arcCells → getD l₃ j 0 ≡ cellOf rows former P mates caps all z j
       cell j q =
-          mask-unique 32 (getD l₃ j 0) (λ b. max (movesTo rows former P mates all z j b) (roomy (copiesTo rows P) caps all j b)) (word j)
+          mask-unique maskBits (getD l₃ j 0) (λ b. max (movesTo rows former P mates all z j b) (roomy (copiesTo rows P) caps all j b)) (word j)
           (λ b r. omega (arith, bit-le (getD l₃ j 0) b, H .bits j b q r, G .bits j b q r, empty j b q, room j b))

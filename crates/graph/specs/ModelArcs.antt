@@ -1,4 +1,4 @@
--- The exchange graph of a layout as 96 sets: cell 32 * h + a has the nodes that one of a's copies can go to at weight h - 1.
+-- The exchange graph of a layout as three sets for each node: cell `mostNodes` * h + a has the nodes that one of a's copies can go to at weight h - 1.
 -- Assumes nothing.
 use Prim.Native.Nat.{ℕ, _+_, _*_, _/_, _%_, min, max}
 use mathlib.Core.List.{List, _++_}
@@ -7,17 +7,19 @@ use lib.Dec.{ltb}
 use Rattle.sums.specs.TermsSums.{sumTo, one-if, tab}
 use Rattle.sums.specs.ModelSums.{maxTo, is}
 use mathlib.Core.Bool.{cond}
-use Rattle.sets.specs.ModelBits.{bit, maskOf, unionOf, meetOf, differenceOf}
+use Rattle.cluster.specs.Terms.{mostNodes}
+use Rattle.cycles.specs.ModelGraph.{arcCells}
+use Rattle.sets.specs.ModelBits.{maskBits, bit, maskOf, unionOf, meetOf, differenceOf}
 use Rattle.swaps.specs.ModelSwaps.{targetsOf}
 
 -- 1 where the exchange of a for b, in a row that was `former`, has weight h - 1: 1 where a was there, less 1 where b was.
 unfoldable pub weighs : ℕ → ℕ → ℕ → ℕ → ℕ
 weighs former h a b = is (bit former b + h) (1 + bit former a)
 
--- 1 where the row has the node a = j % 32, which may give way to b at weight j / 32 - 1.
+-- 1 where the row has the node a of cell j, which may give way to b at the weight of the cell.
 unfoldable pub moves : List ℕ → ℕ → ℕ → ℕ → ℕ → ℕ → ℕ → ℕ
 moves mates all z row former j b =
-    min (bit row (j % 32)) (min (bit (targetsOf mates all z row (j % 32)) b) (weighs former (j / 32) (j % 32) b))
+    min (bit row (j % mostNodes)) (min (bit (targetsOf mates all z row (j % mostNodes)) b) (weighs former (j / mostNodes) (j % mostNodes) b))
 
 -- 1 where one of the first p rows allows it.
 unfoldable pub movesTo : List ℕ → List ℕ → ℕ → List ℕ → ℕ → ℕ → ℕ → ℕ → ℕ
@@ -30,16 +32,16 @@ copiesTo rows p a = sumTo p (λ q. bit (getD rows q 0) a)
 -- 1 where j is the cell at weight 0 of a node of `all` with fewer copies than its cap, and b is of `all`.
 unfoldable pub roomy : (ℕ → ℕ) → List ℕ → ℕ → ℕ → ℕ → ℕ
 roomy copies caps all j b =
-    min (bit all (j % 32)) (min (is 1 (j / 32)) (min (one-if (ltb (copies (j % 32)) (getD caps (j % 32) 0))) (bit all b)))
+    min (bit all (j % mostNodes)) (min (is 1 (j / mostNodes)) (min (one-if (ltb (copies (j % mostNodes)) (getD caps (j % mostNodes) 0))) (bit all b)))
 
 -- The set in cell j.
 unfoldable pub cellOf : List ℕ → List ℕ → ℕ → List ℕ → List ℕ → ℕ → ℕ → ℕ → ℕ
 cellOf rows former P mates caps all z j =
-    maskOf (λ b. max (movesTo rows former P mates all z j b) (roomy (copiesTo rows P) caps all j b)) 32
+    maskOf (λ b. max (movesTo rows former P mates all z j b) (roomy (copiesTo rows P) caps all j b)) maskBits
 
--- The 96 sets, in a list that has room for them.
+-- All sets, in a list that has room for them.
 unfoldable pub arcsOf : List ℕ → List ℕ → ℕ → List ℕ → List ℕ → ℕ → ℕ → List ℕ → List ℕ
-arcsOf rows former P mates caps all z l = cond (ltb (length l) 96) l (tab (cellOf rows former P mates caps all z) 96 ++ drop 96 l)
+arcsOf rows former P mates caps all z l = cond (ltb (length l) arcCells) l (tab (cellOf rows former P mates caps all z) arcCells ++ drop arcCells l)
 
 -- The list with the members of s added to the set in cell i.
 unfoldable pub joined : List ℕ → ℕ → ℕ → List ℕ
@@ -47,4 +49,4 @@ joined l i s = set l i (unionOf (getD l i 0) s)
 
 -- The list with the nodes `to` in a's sets: those of the former row at the lower weight, the others at the higher.
 unfoldable pub noted : List ℕ → ℕ → ℕ → ℕ → List ℕ
-noted l a former to = joined (joined l (a + bit former a * 32) (meetOf to former)) (a + bit former a * 32 + 32) (differenceOf to former)
+noted l a former to = joined (joined l (a + bit former a * mostNodes) (meetOf to former)) (a + bit former a * mostNodes + mostNodes) (differenceOf to former)

@@ -57,6 +57,39 @@ module _ {A : Type 0} (improves : A → Bool) (next : A → A) where
             early = λ l. e;
           }
 
+  -- Without an allowance the state stays.
+  pub run-none : (s : A) → run improves next 0 s ≡ record { state = s; finished = not (improves s); steps = 0 }
+  unfolding run
+  run-none s = refl
+
+  -- What improvements keep, a run keeps.
+  module _ (Good : A → Type 0) (stays : (x : A) → Good x → improves x ≡ true → Good (next x)) where
+    pub run-keeps : (a : ℕ) (s : A) → Good s → Good (run improves next a s .state)
+    unfolding run
+    run-keeps zero s g = g
+    run-keeps (suc a) s g = go (run-keeps a (next s)) (improves s) refl
+      where
+        go : (Good (next s) → Good (run improves next a (next s) .state)) → (b : Bool) → improves s ≡ b
+            → Good (cond b (later 1 (run improves next a (next s))) (record { state = s; finished = true; steps = 0 }) .state)
+        go more true e = more (stays s g e)
+        go more false e = g
+
+    -- Where each improvement makes good states worth more, and none is worth more than `most`, an allowance of what is missing to it finishes.
+    pub run-ends : (worth : A → ℕ) (most : ℕ) → ((x : A) → Good x → improves x ≡ true → worth x + 1 ≤ worth (next x))
+        → ((x : A) → Good x → worth x ≤ most) → (a : ℕ) (s : A) → Good s → most ≤ worth s + a → run improves next a s .finished ≡ true
+    unfolding run
+    run-ends worth most gains few zero s g l = go (improves s) refl
+      where
+        go : (b : Bool) → improves s ≡ b → not b ≡ true
+        go true e = absurd (omega (arith, gains s g e, few (next s) (stays s g e)))
+        go false e = refl
+    run-ends worth most gains few (suc a) s g l = go (run-ends worth most gains few a (next s)) (improves s) refl
+      where
+        go : (Good (next s) → most ≤ worth (next s) + a → run improves next a (next s) .finished ≡ true) → (b : Bool) → improves s ≡ b
+            → cond b (later 1 (run improves next a (next s))) (record { state = s; finished = true; steps = 0 }) .finished ≡ true
+        go more true e = more (stays s g e) (omega (arith, gains s g e))
+        go more false e = refl
+
   -- The state after one improvement more.
   pub after-next : (n : ℕ) (s : A) → after improves next (suc n) s ≡ next (after improves next n s)
   unfolding after

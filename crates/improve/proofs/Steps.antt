@@ -10,8 +10,9 @@ use native.Mathlib.Nat.{sub-zero}
 use lib.Dec.{eqb}
 use lib.ListN.{length, getD, replicate}
 use borrow.Author.Tests.{eq-eqb, ne-eqb}
+use Rattle.cycles.specs.ModelGraph.{walkCells, arcCells}
 use Rattle.sums.specs.TermsSums.{sumTo}
-use Rattle.sets.specs.ModelBits.{belowOf, countOf, meetOf}
+use Rattle.sets.specs.ModelBits.{maskBits, belowOf, countOf, meetOf}
 use Rattle.sets.proofs.Laws.{count-le, meet-lt}
 use Rattle.graph.specs.ModelArcs.{arcsOf}
 use Rattle.cycles.specs.ModelFound.{foundLength, foundWalk}
@@ -23,16 +24,16 @@ use Rattle.improve.specs.ModelImprove.{arcsIn, cycleIn, improvesIn, next
 -- ---- one step
 
 module _ (rows former : List ℕ) (P : ℕ) (mates caps : List ℕ) (n z : ℕ) (all : ℕ) (arcs walk : List ℕ) (m : ℕ)
-    (e-all : all ≡ belowOf n) (e-arcs : arcs ≡ arcsOf rows former P mates caps all z (replicate 96 0))
-    (e-m : m ≡ foundLength arcs n (replicate 33 0)) (e-walk : walk ≡ foundWalk arcs n (replicate 33 0))
+    (e-all : all ≡ belowOf n) (e-arcs : arcs ≡ arcsOf rows former P mates caps all z (replicate arcCells 0))
+    (e-m : m ≡ foundLength arcs n (replicate walkCells 0)) (e-walk : walk ≡ foundWalk arcs n (replicate walkCells 0))
   where
     the-arcs : arcs ≡ arcsIn former P mates caps n z rows
     unfolding arcsIn
-    the-arcs = e-arcs ∙ ap (λ (x : ℕ). arcsOf rows former P mates caps x z (replicate 96 0)) e-all
+    the-arcs = e-arcs ∙ ap (λ (x : ℕ). arcsOf rows former P mates caps x z (replicate arcCells 0)) e-all
 
     the-length : m ≡ cycleIn former P mates caps n z rows
     unfolding cycleIn
-    the-length = e-m ∙ ap (λ (l : List ℕ). foundLength l n (replicate 33 0)) the-arcs
+    the-length = e-m ∙ ap (λ (l : List ℕ). foundLength l n (replicate walkCells 0)) the-arcs
 
     -- Without a cycle nothing can be improved.
     pub step-none : m ≡ 0 → (allowed : Bool) → (false ≡ improvesIn former P mates caps n z rows) × (rows ≡ steppedIn former P mates caps n z allowed rows)
@@ -54,7 +55,7 @@ module _ (rows former : List ℕ) (P : ℕ) (mates caps : List ℕ) (n z : ℕ) 
         e
             ∙ (ap₂ (λ (l : List ℕ) (x : ℕ). turnedOf rows former P mates l x z walk m) the-arcs e-all
             ∙ (ap₂ (λ (l : List ℕ) (x : ℕ). turnedOf rows former P mates (arcsIn former P mates caps n z rows) (belowOf n) z l x)
-            (e-walk ∙ ap (λ (l : List ℕ). foundWalk l n (replicate 33 0)) the-arcs) the-length
+            (e-walk ∙ ap (λ (l : List ℕ). foundWalk l n (replicate walkCells 0)) the-arcs) the-length
             ∙ ap₂ (λ (b d : Bool). cond (b && d) (nextIn former P mates caps n z rows) rows) can (sym w))),
       )
 
@@ -72,7 +73,7 @@ stepped-length former P mates caps n z allowed rows = go (improvesIn former P ma
     go : (b : Bool) → length (cond b (nextIn former P mates caps n z rows) rows) ≡ length rows
     go true =
         turned-length rows former P mates (arcsIn former P mates caps n z rows) (belowOf n) z
-        (foundWalk (arcsIn former P mates caps n z rows) n (replicate 33 0)) (cycleIn former P mates caps n z rows)
+        (foundWalk (arcsIn former P mates caps n z rows) n (replicate walkCells 0)) (cycleIn former P mates caps n z rows)
     go false = refl
 
 -- ---- the run
@@ -170,8 +171,8 @@ module _ (former : List ℕ) (P : ℕ) (mates caps : List ℕ) (n z a : ℕ) (st
 
 -- ---- the pairs shared
 
-pub few-shared : (x m a b : ℕ) → x ≡ countOf m → m ≡ meetOf a b → x ≤ 32
-few-shared x m a b e f = omega (arith, e, count-le 32 m (omega arith) (subst (λ (y : ℕ). y < 2 ^ 32) (sym f) (meet-lt a b)))
+pub few-shared : (x m a b : ℕ) → x ≡ countOf m → m ≡ meetOf a b → x ≤ maskBits
+few-shared x m a b e f = omega (arith, e, count-le maskBits m (omega arith) (subst (λ (y : ℕ). y < 2 ^ maskBits) (sym f) (meet-lt a b)))
 
 pub agreement-more : (rows former : List ℕ) (p sum x m : ℕ) → sum ≡ agreementIn rows former p → x ≡ countOf m
     → m ≡ meetOf (getD rows p 0) (getD former p 0) → sum + x ≡ agreementIn rows former (p + 1)

@@ -7,6 +7,8 @@ use mathlib.Core.Bool.{Bool, not, cond, _&&_, _||_}
 use mathlib.Core.List.{List}
 use lib.Dec.{eqb, ltb}
 use lib.ListN.{length, getD, replicate}
+use Rattle.cluster.specs.Terms.{bufferRows}
+use Rattle.cycles.specs.ModelGraph.{walkCells, arcCells}
 use Rattle.sums.specs.TermsSums.{sumTo}
 use Rattle.sets.specs.ModelBits.{meetOf, belowOf, countOf}
 use Rattle.graph.specs.ModelArcs.{arcsOf}
@@ -19,11 +21,11 @@ use Rattle.improve.specs.ModelRun.{Ran, run}
 module _ (former : List ℕ) (P : ℕ) (mates caps : List ℕ) (n z : ℕ) where
   -- The masks of the exchange graph of the rows.
   unfoldable pub arcsIn : List ℕ → List ℕ
-  arcsIn rows = arcsOf rows former P mates caps (belowOf n) z (replicate 96 0)
+  arcsIn rows = arcsOf rows former P mates caps (belowOf n) z (replicate arcCells 0)
 
   -- The length of the cycle that is found in it, 0 where there is none.
   unfoldable pub cycleIn : List ℕ → ℕ
-  cycleIn rows = foundLength (arcsIn rows) n (replicate 33 0)
+  cycleIn rows = foundLength (arcsIn rows) n (replicate walkCells 0)
 
   -- Whether the rows can be improved.
   unfoldable pub improvesIn : List ℕ → Bool
@@ -31,7 +33,7 @@ module _ (former : List ℕ) (P : ℕ) (mates caps : List ℕ) (n z : ℕ) where
 
   -- The rows after the exchanges of the cycle.
   unfoldable pub nextIn : List ℕ → List ℕ
-  nextIn rows = turnedOf rows former P mates (arcsIn rows) (belowOf n) z (foundWalk (arcsIn rows) n (replicate 33 0)) (cycleIn rows)
+  nextIn rows = turnedOf rows former P mates (arcsIn rows) (belowOf n) z (foundWalk (arcsIn rows) n (replicate walkCells 0)) (cycleIn rows)
 
   -- The rows after an improvement, if there is one and it is allowed.
   unfoldable pub steppedIn : Bool → List ℕ → List ℕ
@@ -47,4 +49,4 @@ agreementIn rows former P = sumTo P (λ p. countOf (meetOf (getD rows p 0) (getD
 
 -- The same as code answers it: 0 for more partitions than there are rows.
 unfoldable pub sharedIn : List ℕ → List ℕ → ℕ → ℕ
-sharedIn rows former P = cond (ltb 256 P || ltb (length rows) P || ltb (length former) P) 0 (agreementIn rows former P)
+sharedIn rows former P = cond (ltb bufferRows P || ltb (length rows) P || ltb (length former) P) 0 (agreementIn rows former P)

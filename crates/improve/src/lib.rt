@@ -28,9 +28,9 @@ fn step(
         ≡ steppedIn (now (former .entry)) partitions (now (mates .entry)) (now (caps .entry)) nodes z allowed (now (rows .entry))) ⌝ }
 {
     let all = sets::below(nodes);
-    let mut arcs = [0u32; 96];
+    let mut arcs = [0u32; cycles::ARCS];
     graph::build(rows, former, partitions, mates, caps, all, z, &mut arcs);
-    let mut walk = [0u32; 33];
+    let mut walk = [0u32; cycles::WALK];
     let m = cycles::find(&arcs, nodes, &mut walk);
     if m == 0 {
         return false;

@@ -2,10 +2,11 @@
 ghost use mathlib.Core.Path.{_≡_};
 ghost use Prim.Native.Nat.{_≤_};
 ghost use lib.ListN.{length};
+ghost use Rattle.cluster.specs.Terms.{bufferRows};
 ghost use Rattle.improve.specs.ModelImprove.{agreementIn};
 
 pub(crate) fn agreement_of(rows: &[u32], former: &[u32], partitions: usize) -> u32
-    requires { ⌜ (partitions ≤ 256) × (partitions ≤ length (now rows)) × (partitions ≤ length (now former)) ⌝ }
+    requires { ⌜ (partitions ≤ bufferRows) × (partitions ≤ length (now rows)) × (partitions ≤ length (now former)) ⌝ }
     ensures { λ r. ⌜ r ≡ agreementIn (now (rows .entry)) (now (former .entry)) partitions ⌝ }
 {
     let mut sum = 0;

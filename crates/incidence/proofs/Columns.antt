@@ -1,24 +1,19 @@
 -- The laws of columns.
 -- Assumes nothing.
-use Prim.Native.Nat.{ℕ, zero, suc, _+_, _≤_, _<_}
-use mathlib.Core.Path.{_≡_, refl, sym, ap, _∙_}
+use Prim.Native.Nat.{ℕ, _+_, _≤_, _<_}
+use mathlib.Core.Path.{_≡_, sym, ap, _∙_}
 use mathlib.Core.List.{List}
 use native.Mathlib.Nat.{zero-add}
 use native.Mathlib.Omega.{arith}
-use lib.ListN.{length, set, replicate}
+use lib.ListN.{length, set}
 use lib.Seq.{ext-getD}
+use Rattle.cluster.specs.Terms.{mostNodes}
 use Rattle.cells.specs.ModelCells.{put}
-use Rattle.cells.proofs.Cells.{length-put, put-none, put-next, put-cong, getD-put-in, getD-put-out}
+use Rattle.cells.proofs.Cells.{length-put, put-none, put-next, put-cong, getD-put-in}
 use Rattle.incidence.specs.ModelIncidence.{cell, blanks, column}
 
--- A blank cell is 0.
-pub cell-blank : (n b : ℕ) → cell (replicate n 0) b ≡ 0
-cell-blank zero b = refl
-cell-blank (suc n) zero = refl
-cell-blank (suc n) (suc b) = cell-blank n b
-
--- A column has 32 cells.
-pub length-column : (f : ℕ → ℕ) (n : ℕ) → length (column f n) ≡ 32
+-- A column has a cell for each node that there can be.
+pub length-column : (f : ℕ → ℕ) (n : ℕ) → length (column f n) ≡ mostNodes
 unfolding column
 length-column f n = length-put 0 f n blanks
 
@@ -37,15 +32,10 @@ pub column-end : (f : ℕ → ℕ) (l : List ℕ) (b n : ℕ) → l ≡ column f
 column-end f l b n e d = e ∙ ap (column f) d
 
 -- A column's cells hold its numbers.
-pub cell-column : (f : ℕ → ℕ) (n b : ℕ) → n ≤ 32 → b < n → cell (column f n) b ≡ f b
+pub cell-column : (f : ℕ → ℕ) (n b : ℕ) → n ≤ mostNodes → b < n → cell (column f n) b ≡ f b
 unfolding column
 cell-column f n b l h =
     ap (λ (i : ℕ). cell (put 0 f n blanks) i) (sym (zero-add b)) ∙ getD-put-in 0 f n blanks b 0 h (omega arith)
-
--- The other cells are 0.
-pub cell-column-out : (f : ℕ → ℕ) (n b : ℕ) → n ≤ b → cell (column f n) b ≡ 0
-unfolding column
-cell-column-out f n b h = getD-put-out 0 f n blanks b 0 (λ j l e. omega arith) ∙ cell-blank 32 b
 
 -- Equal numbers give equal columns.
 pub column-cong : (f g : ℕ → ℕ) (n : ℕ) → ((b : ℕ) → b < n → f b ≡ g b) → column f n ≡ column g n
@@ -53,7 +43,7 @@ unfolding column
 column-cong f g n h = put-cong 0 f g n blanks h
 
 -- An array is the column of its own cells.
-pub column-cells : (f : ℕ → ℕ) (l : List ℕ) → length l ≡ 32 → ((b : ℕ) → b < 32 → cell l b ≡ f b) → l ≡ column f 32
+pub column-cells : (f : ℕ → ℕ) (l : List ℕ) → length l ≡ mostNodes → ((b : ℕ) → b < mostNodes → cell l b ≡ f b) → l ≡ column f mostNodes
 column-cells f l e h =
-    ext-getD 0 l (column f 32) (e ∙ sym (length-column f 32))
-    (λ b m. let k : b < 32 = omega arith in h b k ∙ sym (cell-column f 32 b (omega arith) k))
+    ext-getD 0 l (column f mostNodes) (e ∙ sym (length-column f mostNodes))
+    (λ b m. let k : b < mostNodes = omega arith in h b k ∙ sym (cell-column f mostNodes b (omega arith) k))

@@ -5,7 +5,7 @@ use mathlib.Core.Path.{_≡_, sym, ap, _∙_}
 use mathlib.Core.List.{List}
 use mathlib.Core.Bool.{true}
 use native.Mathlib.Omega.{arith}
-use lib.ListN.{length, getD, List·getD-eq-default}
+use lib.ListN.{length, getD}
 use Rattle.sums.specs.TermsSums.{sumTo, one-if}
 use Rattle.sums.proofs.Sum.{sum-cong, sum-le, sum-add, sum-scale, sum-const}
 use Rattle.exchange.specs.ModelRow.{weigh}
@@ -13,7 +13,7 @@ use Rattle.cluster.specs.Terms.{mostCopies, Topology, partitions, noNode, idsOf
 use Rattle.incidence.specs.ModelIncidence.{bitsOf, incidence, formerPairs}
 use Rattle.cluster.specs.declared.Node.{Node}
 use Rattle.sums.proofs.Tests.{one-if-le}
-use Rattle.cluster.proofs.Lists.{rising-fresh, over-common, only-or-common}
+use Rattle.cluster.proofs.Lists.{over-common, only-or-common}
 use Rattle.incidence.proofs.TieRows.{row-sum}
 
 -- Of two rows: what stands in one and not in both, and twice what is shared, is all that stands in them.
@@ -28,13 +28,6 @@ row-distance ns r f d e g h =
 pub incidence-le : (t : Topology) (L : Layout) (p b : ℕ) → incidence t L p b ≤ 1
 unfolding incidence
 incidence-le t L p b = one-if-le (mem (getD (t .nodes) b noNode .id) (row L p))
-
--- Beyond the nodes in use a row of rising ids has no bit.
-pub incidence-beyond : (t : Topology) (L : Layout) (p b : ℕ) → rising (row L p) ≡ true → length (t .nodes) ≤ b → incidence t L p b ≡ 0
-unfolding incidence one-if
-incidence-beyond t L p b e h =
-    ap (λ (n : Node). one-if (mem (n .id) (row L p))) (List·getD-eq-default (t .nodes) noNode h)
-    ∙ ap one-if (rising-fresh 0 0 (row L p) e (omega arith))
 
 -- The former pairs are at most eight to a partition.
 pub former-few : (t : Topology) (F : Layout) → IsFormer t F → formerPairs t F ≤ mostCopies * partitions t

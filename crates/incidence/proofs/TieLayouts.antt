@@ -4,9 +4,10 @@ use Prim.Native.Nat.{ℕ, _+_, _*_, _≤_, _<_}
 use mathlib.Core.Path.{_≡_, refl, sym, ap, _∙_, subst}
 use mathlib.Core.List.{List, []}
 use mathlib.Core.Bool.{true}
-use native.Mathlib.Nat.{le-min, le-div-iff-mul-le}
+use native.Mathlib.Nat.{le-min}
 use native.Mathlib.Omega.{arith}
 use lib.ListN.{length, getD}
+use Rattle.cluster.proofs.Taking.{takes-held, takes-few}
 use Rattle.sums.specs.TermsSums.{sumTo, one-if, tab}
 use Rattle.sums.proofs.Sum.{sum-cong, sum-le, sum-const}
 use Rattle.cells.proofs.Cells.{length-tab, getD-tab, tab-cong, tab-getD}
@@ -89,7 +90,7 @@ module _ (t : Topology) (ids : rising (idsOf (t .nodes)) ≡ true) where
   within-of-valid L s v =
       record {
         rows = λ p h. valid-bits (row L p) (v .rows p h);
-        caps = λ b h. le-min (few b) (le-div-iff-mul-le (v .positive) .1 (held b h));
+        caps = λ b h. le-min (few b) (takes-few (nodeAt t b) _ s (v .positive) .0 (takes-held (nodeAt t b) _ s .1 (held b h)));
       }
     where
       few : (b : ℕ) → copies (partitions t) (incidence t L) b ≤ partitions t
@@ -118,7 +119,7 @@ module _ (t : Topology) (ids : rising (idsOf (t .nodes)) ≡ true) where
           (λ p k b h. incidence-layout S p b k h (w .rows p k .bits b h))
 
       held : (b : ℕ) → b < length (t .nodes) → copies (partitions t) S b * s ≤ nodeAt t b .capacity
-      held b h = le-div-iff-mul-le l .0 (unfold capAt in omega (arith, w .caps b h))
+      held b h = takes-held (nodeAt t b) _ s .0 (takes-few (nodeAt t b) (copies (partitions t) S b) s l .1 (unfold capAt in omega (arith, w .caps b h)))
 
   -- The distance of a layout made of valid 0/1 rows, and twice the agreement of its rows with the former layout, is all pairs of both.
   pub distance-bits : (S : ℕ → ℕ → ℕ) (F : Layout)

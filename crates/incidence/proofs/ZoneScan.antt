@@ -7,7 +7,7 @@ use native.Mathlib.Omega.{arith}
 use lib.Dec.{eqb}
 use lib.ListN.{length, getD, length-take}
 use borrow.Author.Tests.{eq-eqb, ne-eqb}
-use Rattle.cluster.specs.Terms.{topology, noNode, nodeAt}
+use Rattle.cluster.specs.Terms.{mostNodes, topology, noNode, nodeAt}
 use Rattle.cluster.specs.declared.Cluster.{Cluster}
 use Rattle.cluster.specs.declared.Node.{Node}
 use Rattle.cluster.proofs.Slots.{node-slot}
@@ -22,7 +22,7 @@ first-is (suc n) f (suc k) l t h =
     ap₂ (λ (b : Bool) (i : ℕ). cond b 0 (suc i)) (h 0 (omega arith)) (first-is n (λ i. f (suc i)) k (omega arith) t (λ j m. h (suc j) (omega arith)))
 
 -- Where a node before b, or b itself, is of b's zone, and none before that is, it is the zone index.
-pub zone-found : (c : Cluster) (b i : ℕ) → length (c .nodes) ≡ 32 → b < c .count → b < 32 → i ≤ b
+pub zone-found : (c : Cluster) (b i : ℕ) → length (c .nodes) ≡ mostNodes → b < c .count → b < mostNodes → i ≤ b
     → getD (c .nodes) i noNode .zone ≡ getD (c .nodes) b noNode .zone
     → ((j : ℕ) → j < i → getD (c .nodes) j noNode .zone ≡ getD (c .nodes) b noNode .zone → ⊥)
     → zoneIndex (topology c) b ≡ i

@@ -45,7 +45,7 @@ layoutOf t S = tab (λ p. idsWhere (t .nodes) (S p)) (partitions t)
 unfoldable pub formerPairs : Topology → Layout → ℕ
 formerPairs t F = sumTo (partitions t) (λ p. length (row F p))
 
--- ---- columns: arrays of 32 cells with one number for each node in use, and zeros beyond
+-- ---- columns: arrays with one number for each node in use, and zeros beyond
 
 -- The number in a cell, as a function of the index.
 abbrev pub cell : List ℕ → ℕ → ℕ

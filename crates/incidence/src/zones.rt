@@ -2,13 +2,13 @@
 ghost use mathlib.Core.Path.{_≡_};
 ghost use Prim.Native.Nat.{_<_, _≤_};
 ghost use lib.ListN.{length};
-ghost use Rattle.cluster.specs.Terms.{topology};
+ghost use Rattle.cluster.specs.Terms.{mostNodes, topology};
 ghost use Rattle.incidence.specs.ModelIncidence.{zoneIndex, zoneCells};
 use cluster::Cluster;
 
 // How many nodes are in use, of a cluster of any count.
 pub fn used(c: Cluster) -> usize
-    ensures { λ r. ⌜ (r ≡ length (topology c .nodes)) × (r ≤ 32) × (r ≤ c .count) ⌝ }
+    ensures { λ r. ⌜ (r ≡ length (topology c .nodes)) × (r ≤ mostNodes) × (r ≤ c .count) ⌝ }
 {
     if c.count < Cluster::NODES {
         c.count
@@ -19,7 +19,7 @@ pub fn used(c: Cluster) -> usize
 
 // The first node of the zone of node b.
 fn zone_index(c: Cluster, b: usize) -> u32
-    requires { ⌜ (b < c .count) × (b < 32) ⌝ }
+    requires { ⌜ (b < c .count) × (b < mostNodes) ⌝ }
     ensures { λ r. ⌜ r ≡ zoneIndex (topology c) b ⌝ }
 {
     let zone = c.nodes[b].zone;

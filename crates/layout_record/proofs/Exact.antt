@@ -18,130 +18,96 @@ use Rattle.fields.specs.RecordField.{Bytes, over}
 use Rattle.layout_record.specs.declared.Numbers.{Numbers}
 use Rattle.layout_record.specs.declared.ReadLayout.{ReadLayout}
 use Rattle.layout_record.specs.declared.Written.{Written}
-use Rattle.layout_record.specs.declared.head.Head.{Head}
-use Rattle.layout_record.specs.declared.head.Head.the-variants.{Read, Halted}
-use Rattle.layout_record.specs.RecordLayout.{InRange, HasLayout, numberFields, rowFields, layoutRecord, recordLength, IsRecord}
-use Rattle.layout_record.specs.RecordLayoutFaults.{Outcome, accepted, headIn, rowsFrom, readLayout, rowFits, rowsFit, writeFault}
-use Rattle.layout_record.specs.RecordLayoutAnswer.{answerOf, readAnswer, assignmentAfter, writeAnswer, outAfter}
+use Rattle.layout_record.specs.RecordLayout.{headTable, inRange, HasLayout, headFields, layoutRowFields, layoutRecord, recordLength, IsLayoutRecord}
+use Rattle.layout_record.specs.RecordLayoutFaults.{LayoutRead, layoutAccepted, HeadRead, HeadEnds, HeadRefused, headFrom, rowsFrom, readLayout, rowFits, rowsFit, writeFault}
+use Rattle.layout_record.specs.RecordLayoutAnswer.{layoutAnswer, readLayoutOf, assignmentRead, writeAnswer, outAfter}
 use Rattle.layout_record.proofs.RecordLaws.{length-record}
+use Rattle.layout_record.specs.RecordLayoutClaims.{Words, WasRecord, ReadsLayout, WasRead, CanWrite, WritesLayout, WasWritten}
+use Rattle.layout_record.proofs.NumberFields.{few-bits, few-copies}
 use Rattle.layout_record.proofs.HeadExact.{head-refused, head-back, head-found}
 use Rattle.layout_record.proofs.RowsExact.{rows-back, rows-found}
-use Rattle.layout_record.proofs.RowFaults.{few-partitions, fit-range, range-fit, fits-formed, fits-zero, formed-fits, zero-fits, Writable, no-fault, write-none}
+use Rattle.layout_record.proofs.RowFaults.{few-partitions, fits-formed, fits-zero, formed-fits, zero-fits, Writable, no-fault, write-none}
 use Rattle.sums.proofs.Tests.{every-at, every-all}
 use Rattle.layout_record.proofs.RowSteps.{read-halted, read-on, read-short, read-long, long-set, write-accepted}
 
 -- ---- reading
 
 -- A reading without refusal read a record.
-pub record Accepted (s : List ℕ) : Type 0 where
-  pub numbers : Numbers
-  pub layout : Layout
-  pub outcome : readLayout s ≡ accepted numbers layout
-  pub is : IsRecord s numbers layout
-
-pub accepts : (s : List ℕ) → Bytes s → readLayout s .refusal ≡ 0 → Accepted s
+pub accepts : (s : List ℕ) → Bytes s → readLayout s .refusal ≡ 0 → WasRecord s
 unfolding layoutRecord
-accepts s b z = go (headIn s) refl
+accepts s b z = go (headFrom headTable s 0 []) refl
   where
-    go : (h : Head) → headIn s ≡ h → Accepted s
-    go (Halted r y) e = absurd (omega (arith, head-refused s r y e, ap (λ (o : Outcome). o .refusal) (read-halted s r y e)))
-    go (Read n end) e =
+    go : (h : HeadRead) → headFrom headTable s 0 [] ≡ h → WasRecord s
+    go (HeadRefused r y) e = absurd (omega (arith, head-refused s r y e, ap (λ (o : LayoutRead). o .refusal) (read-halted s r y e)))
+    go (HeadEnds n end) e =
         let on = read-on s n end e in
-        let r = rows-back s b n (2 ^ (n .bits)) end [] (sym (ap (λ (o : Outcome). o .refusal) on) ∙ z) in
+        let r = rows-back s b n (2 ^ (n .bits)) end [] (sym (ap (λ (o : LayoutRead). o .refusal) on) ∙ z) in
         let h = head-back s n end b e in
         record {
           numbers = n;
           layout = r .rows;
           outcome = on ∙ r .outcome;
           is = record {
-            bytes = h .0 ∙ ap (λ (l : List ℕ). numberFields n ++ l) (r .bytes);
+            bytes = h .0 ∙ ap (λ (l : List ℕ). headFields n ++ l) (r .bytes);
             ranges = h .1;
             layout = record { partition-rows = r .count; many = r .right .many; ids = r .right .ids; words = r .right .words };
           };
         }
 
 -- The record of numbers in range and of a layout that has them is accepted, with those numbers and that layout.
-pub accepted-record : (s : List ℕ) (n : Numbers) (L : Layout) → IsRecord s n L → readLayout s ≡ accepted n L
+pub accepted-record : (s : List ℕ) (n : Numbers) (L : Layout) → IsLayoutRecord s n L → readLayout s ≡ layoutAccepted n L
 unfolding layoutRecord
 accepted-record s n L i =
-    let h = head-found s (rowFields 0 L) n (i .bytes) (i .ranges) in
+    let h = head-found s (layoutRowFields 0 L) n (i .bytes) (i .ranges) in
     let l = i .layout in
     read-on s n 29 (h .0)
     ∙ (ap (λ (k : ℕ). rowsFrom k s 29 n []) (sym (l .partition-rows))
-    ∙ rows-found s n (i .ranges .replication .1) (i .ranges .replication .0) (few-partitions (n .bits) (i .ranges .bits)) L [] 29 (h .1)
+    ∙ rows-found s n (few-copies n (i .ranges) .1) (few-copies n (i .ranges) .0) (few-partitions (n .bits) (few-bits n (i .ranges))) L [] 29 (h .1)
     (omega (arith, l .partition-rows)) (record { many = l .many; ids = l .ids; words = l .words }))
 
 -- Reading accepts bytes with numbers n and layout L exactly where the bytes are their record, the numbers are in range and the layout has them.
 pub reads-exactly : (s : List ℕ) → Bytes s → (n : Numbers) (L : Layout)
-    → (readLayout s ≡ accepted n L → IsRecord s n L) × (IsRecord s n L → readLayout s ≡ accepted n L)
+    → (readLayout s ≡ layoutAccepted n L → IsLayoutRecord s n L) × (IsLayoutRecord s n L → readLayout s ≡ layoutAccepted n L)
 reads-exactly s b n L = (
-  λ e. let a = accepts s b (ap (λ (o : Outcome). o .refusal) e) in
-      let same : accepted (a .numbers) (a .layout) ≡ accepted n L = sym (a .outcome) ∙ e in
-      subst (λ (m : Numbers). IsRecord s m L) (ap (λ (o : Outcome). o .numbers) same)
-      (subst (λ (M : Layout). IsRecord s (a .numbers) M) (ap (λ (o : Outcome). o .layout) same) (a .is)),
+  λ e. let a = accepts s b (ap (λ (o : LayoutRead). o .refusal) e) in
+      let same : layoutAccepted (a .numbers) (a .layout) ≡ layoutAccepted n L = sym (a .outcome) ∙ e in
+      subst (λ (m : Numbers). IsLayoutRecord s m L) (ap (λ (o : LayoutRead). o .numbers) same)
+      (subst (λ (M : Layout). IsLayoutRecord s (a .numbers) M) (ap (λ (o : LayoutRead). o .layout) same) (a .is)),
   λ i. accepted-record s n L i,
 )
 
--- What the caller then has: the numbers, and all 2,048 cells of the layout.
-pub record Reads (s cells : List ℕ) (n : Numbers) (L : Layout) : Type 0 where
-  pub answer : readAnswer s cells ≡ record { refusal = 0; byte = 0; numbers = n }
-  pub after : assignmentAfter s cells ≡ cellsOf L ++ drop layoutCells cells
-
 -- A record is read into a buffer that is long enough.
-pub reads-record : (s cells : List ℕ) (n : Numbers) (L : Layout) → layoutCells ≤ length cells → IsRecord s n L → Reads s cells n L
-unfolding answerOf
+pub reads-record : (s cells : List ℕ) (n : Numbers) (L : Layout) → layoutCells ≤ length cells → IsLayoutRecord s n L → ReadsLayout s cells n L
+unfolding layoutAnswer
 reads-record s cells n L h i =
     let e = accepted-record s n L i in
     record {
-      answer = read-long s cells h ∙ ap answerOf e;
+      answer = read-long s cells h ∙ ap layoutAnswer e;
       after =
-          long-set s cells h (ap (λ (o : Outcome). o .refusal) e)
-          ∙ ap (λ (o : Outcome). cellsOf (o .layout) ++ drop layoutCells cells) e;
+          long-set s cells h (ap (λ (o : LayoutRead). o .refusal) e)
+          ∙ ap (λ (o : LayoutRead). cellsOf (o .layout) ++ drop layoutCells cells) e;
     }
 
 -- And whatever is answered without refusal was a record, in a buffer that is long enough.
-pub record WasRead (s cells : List ℕ) : Type 0 where
-  pub layout : Layout
-  pub whole : layoutCells ≤ length cells
-  pub is : IsRecord s (readAnswer s cells .numbers) layout
-  pub reads : Reads s cells (readAnswer s cells .numbers) layout
-
-pub record-read : (s cells : List ℕ) → Bytes s → readAnswer s cells .refusal ≡ 0 → WasRead s cells
-unfolding answerOf
+pub record-read : (s cells : List ℕ) → Bytes s → readLayoutOf s cells .refusal ≡ 0 → WasRead s cells
+unfolding layoutAnswer
 record-read s cells b z =
     ⊎-elim (λ l. absurd (omega (arith, z, ap (λ (r : ReadLayout). r .refusal) (read-short s cells l))))
     (λ g. let a = accepts s b (sym (ap (λ (r : ReadLayout). r .refusal) (read-long s cells g)) ∙ z) in
-    let n : a .numbers ≡ readAnswer s cells .numbers =
-    sym (ap (λ (r : ReadLayout). r .numbers) (read-long s cells g) ∙ ap (λ (o : Outcome). o .numbers) (a .outcome)) in
-    let i = subst (λ (m : Numbers). IsRecord s m (a .layout)) n (a .is) in
-    record { layout = a .layout; whole = g; is = i; reads = reads-record s cells (readAnswer s cells .numbers) (a .layout) g i })
+    let n : a .numbers ≡ readLayoutOf s cells .numbers =
+    sym (ap (λ (r : ReadLayout). r .numbers) (read-long s cells g) ∙ ap (λ (o : LayoutRead). o .numbers) (a .outcome)) in
+    let i = subst (λ (m : Numbers). IsLayoutRecord s m (a .layout)) n (a .is) in
+    record { layout = a .layout; whole = g; is = i; reads = reads-record s cells (readLayoutOf s cells .numbers) (a .layout) g i })
     (lt-or-ge (length cells) layoutCells)
 
 -- ---- writing
 
--- Cells are numbers of 32 bits.
-abbrev pub Words : List ℕ → Type 0
-Words l = (i : ℕ) → getD l i 0 < 2 ^ 32
-
--- What there must be to write: numbers in range, cells that are those of a layout with these numbers, and room for the record.
-pub record CanWrite (n : Numbers) (cells out : List ℕ) (L : Layout) : Type 0 where
-  pub whole : layoutCells ≤ length cells
-  pub ranges : InRange n
-  pub layout : HasLayout n L
-  pub cells-of : take layoutCells cells ≡ cellsOf L
-  pub room : length (layoutRecord n L) ≤ length out
-
--- What the caller then has: the record's length, and the record at the front of the output.
-pub record Writes (n : Numbers) (cells out : List ℕ) (L : Layout) : Type 0 where
-  pub answer : writeAnswer n cells out ≡ record { refusal = 0; length = length (layoutRecord n L) }
-  pub after : outAfter n cells out ≡ layoutRecord n L ++ drop (length (layoutRecord n L)) out
-
 -- A layout with the numbers of a record fits into cells.
-fits-cells : (n : Numbers) (L : Layout) → InRange n → HasLayout n L → FitsCells L
+fits-cells : (n : Numbers) (L : Layout) → inRange n ≡ true → HasLayout n L → FitsCells L
 fits-cells n L r h = record {
-  few-rows = omega (arith, h .partition-rows, few-partitions (n .bits) (r .bits));
+  few-rows = omega (arith, h .partition-rows, few-partitions (n .bits) (few-bits n r));
   ids = h .ids;
-  few = λ p l. omega (arith, h .many p l, r .replication .1);
+  few = λ p l. omega (arith, h .many p l, few-copies n r .1);
 }
 
 -- The rows of cells that are those of a layout pass their tests.
@@ -159,19 +125,19 @@ rows-right n cells L few same f h =
     (lt-or-ge p (length L)))
 
 -- Writing accepts what there is to write, and the output begins with its record.
-pub writes-layout : (n : Numbers) (cells out : List ℕ) (L : Layout) → CanWrite n cells out L → Writes n cells out L
+pub writes-layout : (n : Numbers) (cells out : List ℕ) (L : Layout) → CanWrite n cells out L → WritesLayout n cells out L
 unfolding over
 writes-layout n cells out L c =
     let h = c .layout in
     let f = fits-cells n L (c .ranges) h in
     let P = 2 ^ (n .bits) in
-    let few : P ≤ bufferRows = few-partitions (n .bits) (c .ranges .bits) in
+    let few : P ≤ bufferRows = few-partitions (n .bits) (few-bits n (c .ranges)) in
     let same : ((p : ℕ) → p < bufferRows → rowAt cells p ≡ rowAt (cellsOf L) p) =
     λ p l. sym (rowAt-take cells p l) ∙ ap (λ (x : List ℕ). rowAt x p) (c .cells-of) in
     let rows : rowsFit cells P (n .replication) ≡ true =
     ap (λ (k : ℕ). rowsFit cells k (n .replication)) (sym (h .partition-rows)) ∙ rows-right n cells L (f .few-rows) same f h in
     let long : recordLength (n .bits) (n .replication) ≡ length (layoutRecord n L) = sym (length-record n L h) in
-    let none : writeFault n cells (length out) ≡ 0 = write-none n cells (length out) (c .whole) (range-fit n (c .ranges)) rows (omega (arith, c .room, long)) in
+    let none : writeFault n cells (length out) ≡ 0 = write-none n cells (length out) (c .whole) (c .ranges) rows (omega (arith, c .room, long)) in
     let w = write-accepted n cells out none in
     let back : rowsIn P cells ≡ L =
     sym (rowsIn-take P cells few) ∙ (ap₂ rowsIn (sym (h .partition-rows)) (c .cells-of) ∙ rowsIn-cellsOf L f) in
@@ -191,9 +157,8 @@ row-words cells p j words =
 can-write : (n : Numbers) (cells out : List ℕ) → Words cells → Writable n cells (length out) → CanWrite n cells out (rowsIn (2 ^ (n .bits)) cells)
 unfolding rowsFit
 can-write n cells out words w =
-    let r = fit-range n (w .fit) in
     let P = 2 ^ (n .bits) in
-    let few : P ≤ bufferRows = few-partitions (n .bits) (r .bits) in
+    let few : P ≤ bufferRows = few-partitions (n .bits) (few-bits n (w .fit)) in
     let test : ((p : ℕ) → p < bufferRows → rowFits cells P (n .replication) p ≡ true) =
     λ p l. every-at bufferRows p (rowFits cells P (n .replication)) (w .rows) l in
     let formed′ : ((p : ℕ) → p < P → (formed (rowAt cells p) ≡ true) × (length (idsIn (rowAt cells p)) ≡ n .replication)) =
@@ -216,18 +181,13 @@ can-write n cells out words w =
     } in
     record {
       whole = w .whole;
-      ranges = r;
+      ranges = w .fit;
       layout = has;
       cells-of = sym (cellsOf-rowsIn P cells holds);
       room = omega (arith, w .long, length-record n (rowsIn P cells) has);
     }
 
 -- Whatever is written without refusal was there to write.
-pub record WasWritten (n : Numbers) (cells out : List ℕ) : Type 0 where
-  pub layout : Layout
-  pub can : CanWrite n cells out layout
-  pub writes : Writes n cells out layout
-
 pub layout-written : (n : Numbers) (cells out : List ℕ) → Words cells → writeAnswer n cells out .refusal ≡ 0 → WasWritten n cells out
 unfolding writeAnswer
 layout-written n cells out words z =
@@ -237,7 +197,7 @@ layout-written n cells out words z =
 -- Writing accepts exactly numbers in range and cells that are those of a layout with them, where there is room for the record; the output then
 -- begins with it.
 pub writes : (n : Numbers) (cells out : List ℕ) → Words cells
-    → (writeAnswer n cells out .refusal ≡ 0 → (L : Layout) × CanWrite n cells out L) × ((L : Layout) → CanWrite n cells out L → Writes n cells out L)
+    → (writeAnswer n cells out .refusal ≡ 0 → (L : Layout) × CanWrite n cells out L) × ((L : Layout) → CanWrite n cells out L → WritesLayout n cells out L)
 writes n cells out words = (
   λ z. let w = layout-written n cells out words z in (w .layout, w .can),
   λ L c. writes-layout n cells out L c,
@@ -247,8 +207,8 @@ writes n cells out words = (
 
 -- What is written reads back: the same numbers, and all 2,048 cells.
 pub write-then-read : (n : Numbers) (cells out lent : List ℕ) → Words cells → writeAnswer n cells out .refusal ≡ 0 → layoutCells ≤ length lent
-    → (readAnswer (take (writeAnswer n cells out .length) (outAfter n cells out)) lent ≡ record { refusal = 0; byte = 0; numbers = n })
-    × (assignmentAfter (take (writeAnswer n cells out .length) (outAfter n cells out)) lent ≡ take layoutCells cells ++ drop layoutCells lent)
+    → (readLayoutOf (take (writeAnswer n cells out .length) (outAfter n cells out)) lent ≡ record { refusal = 0; byte = 0; numbers = n })
+    × (assignmentRead (take (writeAnswer n cells out .length) (outAfter n cells out)) lent ≡ take layoutCells cells ++ drop layoutCells lent)
 write-then-read n cells out lent words z h =
     let w = layout-written n cells out words z in
     let L = w .layout in
@@ -256,20 +216,20 @@ write-then-read n cells out lent words z h =
     ap₂ take (ap (λ (r : Written). r .length) (w .writes .answer)) (w .writes .after)
     ∙ take-at (layoutRecord n L) (drop (length (layoutRecord n L)) out) (length (layoutRecord n L)) refl in
     let r = reads-record (layoutRecord n L) lent n L h (record { bytes = refl; ranges = w .can .ranges; layout = w .can .layout }) in (
-      ap (λ (x : List ℕ). readAnswer x lent) s ∙ r .answer,
-      ap (λ (x : List ℕ). assignmentAfter x lent) s ∙ (r .after ∙ ap (λ (x : List ℕ). x ++ drop layoutCells lent) (sym (w .can .cells-of))),
+      ap (λ (x : List ℕ). readLayoutOf x lent) s ∙ r .answer,
+      ap (λ (x : List ℕ). assignmentRead x lent) s ∙ (r .after ∙ ap (λ (x : List ℕ). x ++ drop layoutCells lent) (sym (w .can .cells-of))),
     )
 
 -- A record that is read is written again byte for byte, with the same length.
-pub read-then-write : (s lent out : List ℕ) → Bytes s → readAnswer s lent .refusal ≡ 0 → length s ≤ length out
-    → (writeAnswer (readAnswer s lent .numbers) (assignmentAfter s lent) out ≡ record { refusal = 0; length = length s })
-    × (outAfter (readAnswer s lent .numbers) (assignmentAfter s lent) out ≡ s ++ drop (length s) out)
+pub read-then-write : (s lent out : List ℕ) → Bytes s → readLayoutOf s lent .refusal ≡ 0 → length s ≤ length out
+    → (writeAnswer (readLayoutOf s lent .numbers) (assignmentRead s lent) out ≡ record { refusal = 0; length = length s })
+    × (outAfter (readLayoutOf s lent .numbers) (assignmentRead s lent) out ≡ s ++ drop (length s) out)
 read-then-write s lent out b z h =
     let r = record-read s lent b z in
-    let n = readAnswer s lent .numbers in
+    let n = readLayoutOf s lent .numbers in
     let L = r .layout in
     let e = r .is .bytes in
-    let w = writes-layout n (assignmentAfter s lent) out L
+    let w = writes-layout n (assignmentRead s lent) out L
     (record {
       whole = omega (arith, ap length (r .reads .after), length-append (cellsOf L) (drop layoutCells lent), length-cellsOf L);
       ranges = r .is .ranges;

@@ -1,114 +1,154 @@
--- The six fields before the rows are read exactly where they stand with numbers in range.
+-- The fields before the rows are read exactly where they stand with numbers in range; the inductions hold of any lawful table.
 -- Assumes nothing.
-use Prim.Native.Nat.{ℕ, _+_, _<_}
-use mathlib.Core.Path.{_≡_, refl, sym, ap, ap₂, _∙_, subst}
-use mathlib.Core.List.{List, _++_, append-assoc}
+use Prim.Native.Nat.{ℕ, suc, _+_, _<_}
+use mathlib.Core.Path.{_≡_, refl, sym, ap, ap₂, _∙_}
+use mathlib.Core.Bool.{Bool, true, false, _&&_, cond, false≢true}
+use mathlib.Core.List.{List, [], _∷_, _++_, append-assoc, append-nil}
+use mathlib.Core.Logic.{⊎-elim}
+use native.Mathlib.Nat.{add-zero}
 use native.Mathlib.Omega.{arith}
-use lib.ListN.{drop}
-use Rattle.cluster.specs.Terms.{mostBits, mostCopies}
-use Rattle.fields.specs.RecordField.{bytesOf, Bytes, field, ruleOf, legal}
+use lib.ListN.{length, drop, getD}
+use Rattle.sums.specs.TermsSums.{tab}
+use Rattle.sums.proofs.Tests.{both, true-or-false}
+use Rattle.cells.proofs.Cells.{tab-getD}
+use Rattle.fields.specs.RecordField.{bytesOf, Bytes, numberAt, field, legal}
+use Rattle.fields.specs.declared.Field.{Field}
+use Rattle.fields.specs.declared.Field.the-variants.{Body, Refused}
+use Rattle.fields.proofs.Numbers.{length-bytes, bytes-there, number-here}
+use Rattle.fields.proofs.RecordField.{legal-any, whole, field-back, field-here, body-here, rest-here}
 use Rattle.layout_record.specs.declared.Numbers.{Numbers}
-use Rattle.layout_record.specs.declared.head.Number.{Number}
-use Rattle.layout_record.specs.declared.head.Number.the-variants.{Value, Stopped}
-use Rattle.layout_record.specs.declared.head.Head.{Head}
-use Rattle.layout_record.specs.declared.head.Head.the-variants.{Read, Halted}
-use Rattle.layout_record.specs.RecordLayout.{mostSize, mostDistance, mostVerdict, mostImprovements, InRange, numberFields}
-use Rattle.layout_record.specs.RecordLayoutFaults.{numberIn, follows, numbersOf, headIn}
-use Rattle.layout_record.proofs.NumberFields.{head-read}
-use Rattle.layout_record.proofs.FieldFaults.{number-refused, number-back, number-found}
+use Rattle.layout_record.specs.declared.table.Entry.{Entry}
+use Rattle.layout_record.specs.RecordLayout.{headTable, numbersIn, numbersFrom, holds, allHold, inRange, numberFields, headFields}
+use Rattle.layout_record.specs.RecordLayoutFaults.{nextField, HeadRead, HeadEnds, HeadRefused, headNumber, headFrom}
+use Rattle.layout_record.proofs.NumberFields.{next-there, Lawful, Each, table-lawful, entry-width, entry-range, sizeOf}
+use Rattle.layout_record.proofs.FieldFaults.{next-refused, next-body, tag-alone, before-end}
 
 -- ---- what is read, is in the bytes
 
--- A chain that reads a head has a value at its first field, and reads on.
-pub record Step (m : Number) (go : ℕ → ℕ → Head) (n : Numbers) (e : ℕ) : Type 0 where
-  pub value : ℕ
-  pub end : ℕ
-  pub here : m ≡ Value value end
-  pub on : go value end ≡ Read n e
+-- A refused head is no head that ends.
+refused-ends : (r b : ℕ) (n : Numbers) (e : ℕ) → HeadRefused r b ≡ HeadEnds n e → ⊥
+refused-ends r b n e h = let z : _≡_ {A = ℕ} 0 1 = cc in omega arith
 
-step : (m : Number) (go : ℕ → ℕ → Head) (n : Numbers) (e : ℕ) → follows m go ≡ Read n e → Step m go n e
-step (Stopped r b) go n e h = let z : _≡_ {A = ℕ} 0 1 = cc in absurd (omega arith)
-step (Value v x) go n e h = record { value = v; end = x; here = refl; on = h }
+-- A head is refused by its first field, by the range of its number, or later; never with 0.
+head-not-zero : (es : List Entry) (s : List ℕ) (at : ℕ) (vs : List ℕ) (r b : ℕ) → headFrom es s at vs ≡ HeadRefused r b → 0 < r
+unfolding headFrom
+head-not-zero [] s at vs r b h = absurd (refused-ends r b (numbersFrom vs) at (sym h))
+head-not-zero (e ∷ es) s at vs r b h = go (nextField s at (e .tag) 0) refl (λ next v q. head-not-zero es s next (vs ++ (v ∷ [])) r b q) h
+  where
+    go : (f : Field) → nextField s at (e .tag) 0 ≡ f → ((next v : ℕ) → headFrom es s next (vs ++ (v ∷ [])) ≡ HeadRefused r b → 0 < r)
+        → headNumber (λ next v. headFrom es s next (vs ++ (v ∷ []))) s at e f ≡ HeadRefused r b → 0 < r
+    go (Refused x y) d later q = let z : x ≡ r = cc in omega (arith, next-refused s at (e .tag) 0 x y d)
+    go (Body t start len) d later q =
+        let v = numberAt s start len in
+        let pick : ((k : Bool) → holds e v ≡ k → cond k (headFrom es s (start + len) (vs ++ (v ∷ []))) (HeadRefused 4 at) ≡ HeadRefused r b) =
+        λ k w. sym (ap (λ (k : Bool). cond k (headFrom es s (start + len) (vs ++ (v ∷ []))) (HeadRefused 4 at)) w) ∙ q in
+        ⊎-elim (λ w. later (start + len) v (pick true w)) (λ w. let p = pick false w in let z : r ≡ 4 = cc in omega arith) (true-or-false (holds e v))
 
--- A chain that halts has stopped at its first field, or later.
-halts : (m : Number) (go : ℕ → ℕ → Head) (r b : ℕ) → follows m go ≡ Halted r b → ((x y : ℕ) → m ≡ Stopped x y → 0 < x)
-    → ((v x : ℕ) → m ≡ Value v x → go v x ≡ Halted r b → 0 < r) → 0 < r
-halts (Stopped x y) go r b h f g = let d : x ≡ r = cc in omega (arith, f x y refl)
-halts (Value v x) go r b h f g = g v x refl h
+pub head-refused : (s : List ℕ) (r b : ℕ) → headFrom headTable s 0 [] ≡ HeadRefused r b → 0 < r
+head-refused s r b h = head-not-zero headTable s 0 [] r b h
 
--- The refusal of a head is not 0.
-pub head-refused : (s : List ℕ) (r b : ℕ) → headIn s ≡ Halted r b → 0 < r
-unfolding headIn
-head-refused s r b h =
-    halts (numberIn s 0 1 0 mostBits) _ r b h (λ x y e. number-refused s 0 1 0 mostBits x y e) (λ v1 x1 e1 h1.
-    halts (numberIn s x1 2 1 mostCopies) _ r b h1 (λ x y e. number-refused s x1 2 1 mostCopies x y e) (λ v2 x2 e2 h2.
-    halts (numberIn s x2 6 1 mostSize) _ r b h2 (λ x y e. number-refused s x2 6 1 mostSize x y e) (λ v3 x3 e3 h3.
-    halts (numberIn s x3 7 0 mostDistance) _ r b h3 (λ x y e. number-refused s x3 7 0 mostDistance x y e) (λ v4 x4 e4 h4.
-    halts (numberIn s x4 8 0 mostVerdict) _ r b h4 (λ x y e. number-refused s x4 8 0 mostVerdict x y e) (λ v5 x5 e5 h5.
-    halts (numberIn s x5 9 0 mostImprovements) _ r b h5 (λ x y e. number-refused s x5 9 0 mostImprovements x y e) (λ v6 x6 e6 h6.
-    let z : _≡_ {A = ℕ} 0 1 = cc in absurd (omega arith)))))))
+-- Reading and writing again: from where a number was read the record is its field, and then what stands after it.
+number-back : (s : List ℕ) (at : ℕ) (e : Entry) (t start len : ℕ) → Bytes s → Lawful e → nextField s at (e .tag) 0 ≡ Body t start len
+    → drop at s ≡ field (e .tag) (bytesOf (e .width) (numberAt s start len)) ++ drop (start + len) s
+number-back s at e t start len b l h =
+    let body = next-body s at (e .tag) 0 t start len h in
+    let k = whole s at (e .tag ∷ []) 0 t start len body in
+    let w = entry-width e (length s) at t start len l k in
+    field-back s at (e .tag ∷ []) 0 t start len body b
+    ∙ ap₂ (λ (x : ℕ) (y : List ℕ). field x y ++ drop (start + len) s) (w .0) (sym (bytes-there s start len b (k .ends)) ∙ ap (λ (q : ℕ). bytesOf q (numberAt s start len)) (w .1))
+
+-- The numbers that were read from byte `at` on, after the numbers vs.
+record NumbersRead (es : List Entry) (s : List ℕ) (at : ℕ) (vs : List ℕ) (n : Numbers) (end : ℕ) : Type 0 where
+  values : List ℕ
+  numbers : numbersFrom (vs ++ values) ≡ n
+  bytes : drop at s ≡ numberFields es values ++ drop end s
+  ranges : allHold es values ≡ true
+  many : length values ≡ length es
+
+numbers-back : (es : List Entry) (s : List ℕ) (at : ℕ) (vs : List ℕ) (n : Numbers) (end : ℕ) → Bytes s → Each es → headFrom es s at vs ≡ HeadEnds n end
+    → NumbersRead es s at vs n end
+unfolding headFrom numberFields allHold
+numbers-back [] s at vs n end b l h =
+    let p : numbersFrom vs ≡ n = cc in
+    let x : at ≡ end = cc in
+    record { values = []; numbers = ap numbersFrom (append-nil vs) ∙ p; bytes = ap (λ (k : ℕ). drop k s) x; ranges = refl; many = refl }
+numbers-back (e ∷ es) s at vs n end b l h =
+    go (nextField s at (e .tag) 0) refl (λ next v q. numbers-back es s next (vs ++ (v ∷ [])) n end b (l .1) q) h
+  where
+    go : (f : Field) → nextField s at (e .tag) 0 ≡ f
+        → ((next v : ℕ) → headFrom es s next (vs ++ (v ∷ [])) ≡ HeadEnds n end → NumbersRead es s next (vs ++ (v ∷ [])) n end)
+        → headNumber (λ next v. headFrom es s next (vs ++ (v ∷ []))) s at e f ≡ HeadEnds n end → NumbersRead (e ∷ es) s at vs n end
+    go (Refused x y) d later q = absurd (refused-ends x y n end q)
+    go (Body t start len) d later q =
+        let v = numberAt s start len in
+        let pick : ((k : Bool) → holds e v ≡ k → cond k (headFrom es s (start + len) (vs ++ (v ∷ []))) (HeadRefused 4 at) ≡ HeadEnds n end) =
+        λ k w. sym (ap (λ (k : Bool). cond k (headFrom es s (start + len) (vs ++ (v ∷ []))) (HeadRefused 4 at)) w) ∙ q in
+        ⊎-elim
+        (λ w. let r = later (start + len) v (pick true w) in
+        record {
+          values = v ∷ r .values;
+          numbers = ap numbersFrom (sym (append-assoc vs (v ∷ []) (r .values))) ∙ r .numbers;
+          bytes =
+              number-back s at e t start len b (l .0) d
+              ∙ (ap (λ (x : List ℕ). field (e .tag) (bytesOf (e .width) v) ++ x) (r .bytes)
+              ∙ sym (append-assoc (field (e .tag) (bytesOf (e .width) v)) (numberFields es (r .values)) (drop end s)));
+          ranges = ap₂ _&&_ w (r .ranges);
+          many = ap suc (r .many);
+        })
+        (λ w. absurd (refused-ends 4 at n end (pick false w))) (true-or-false (holds e v))
+
+-- Six values are those of the numbers that they make.
+six-values : (l : List ℕ) → length l ≡ length headTable → numbersIn (numbersFrom l) ≡ l
+unfolding tab
+six-values l h = ap (tab (λ i. getD l i 0)) (sym h) ∙ tab-getD l 0
 
 -- A head that is read stands at the front of the record, with its numbers in range.
-pub head-back : (s : List ℕ) (n : Numbers) (e : ℕ) → Bytes s → headIn s ≡ Read n e → (s ≡ numberFields n ++ drop e s) × InRange n
-unfolding headIn ruleOf numberFields
+pub head-back : (s : List ℕ) (n : Numbers) (e : ℕ) → Bytes s → headFrom headTable s 0 [] ≡ HeadEnds n e → (s ≡ headFields n ++ drop e s) × (inRange n ≡ true)
 head-back s n e b h =
-    let s1 = step (numberIn s 0 1 0 mostBits) _ n e h in
-    let s2 = step (numberIn s (s1 .end) 2 1 mostCopies) _ n e (s1 .on) in
-    let s3 = step (numberIn s (s2 .end) 6 1 mostSize) _ n e (s2 .on) in
-    let s4 = step (numberIn s (s3 .end) 7 0 mostDistance) _ n e (s3 .on) in
-    let s5 = step (numberIn s (s4 .end) 8 0 mostVerdict) _ n e (s4 .on) in
-    let s6 = step (numberIn s (s5 .end) 9 0 mostImprovements) _ n e (s5 .on) in
-    let b1 = number-back s 0 1 1 0 mostBits (s1 .value) (s1 .end) b refl refl (s1 .here) in
-    let b2 = number-back s (s1 .end) 2 1 1 mostCopies (s2 .value) (s2 .end) b refl refl (s2 .here) in
-    let b3 = number-back s (s2 .end) 6 4 1 mostSize (s3 .value) (s3 .end) b refl refl (s3 .here) in
-    let b4 = number-back s (s3 .end) 7 2 0 mostDistance (s4 .value) (s4 .end) b refl refl (s4 .here) in
-    let b5 = number-back s (s4 .end) 8 1 0 mostVerdict (s5 .value) (s5 .end) b refl refl (s5 .here) in
-    let b6 = number-back s (s5 .end) 9 2 0 mostImprovements (s6 .value) (s6 .end) b refl refl (s6 .here) in
-    told s (s1 .value) (s2 .value) (s3 .value) (s4 .value) (s5 .value) (s6 .value) (s1 .end) (s2 .end) (s3 .end) (s4 .end) (s5 .end) (s6 .end) n e
-    (b1 .0) (b2 .0) (b3 .0) (b4 .0) (b5 .0) (b6 .0)
-    (record { bits = b1 .2; replication = (b2 .1, b2 .2); size = (b3 .1, b3 .2); distance = b4 .2; verdict = b5 .2; improvements = b6 .2 }) (s6 .on)
-  where
-    told : (s : List ℕ) (v1 v2 v3 v4 v5 v6 x1 x2 x3 x4 x5 x6 : ℕ) (n : Numbers) (e : ℕ)
-        → s ≡ field 1 (bytesOf 1 v1) ++ drop x1 s
-        → drop x1 s ≡ field 2 (bytesOf 1 v2) ++ drop x2 s
-        → drop x2 s ≡ field 6 (bytesOf 4 v3) ++ drop x3 s
-        → drop x3 s ≡ field 7 (bytesOf 2 v4) ++ drop x4 s
-        → drop x4 s ≡ field 8 (bytesOf 1 v5) ++ drop x5 s
-        → drop x5 s ≡ field 9 (bytesOf 2 v6) ++ drop x6 s
-        → InRange (numbersOf v1 v2 v3 v4 v5 v6)
-        → Read (numbersOf v1 v2 v3 v4 v5 v6) x6 ≡ Read n e
-        → (s ≡ numberFields n ++ drop e s) × InRange n
-    told s v1 v2 v3 v4 v5 v6 x1 x2 x3 x4 x5 x6 n e d1 d2 d3 d4 d5 d6 r q =
-        let f1 = field 1 (bytesOf 1 v1) in
-        let f2 = field 2 (bytesOf 1 v2) in
-        let f3 = field 6 (bytesOf 4 v3) in
-        let f4 = field 7 (bytesOf 2 v4) in
-        let f5 = field 8 (bytesOf 1 v5) in
-        let p : numbersOf v1 v2 v3 v4 v5 v6 ≡ n = cc in
-        let x : x6 ≡ e = cc in (
-          d1
-              ∙ (ap (λ (l : List ℕ). f1 ++ l) (d2 ∙ (ap (λ (l : List ℕ). f2 ++ l) (d3 ∙ (ap (λ (l : List ℕ). f3 ++ l) (d4
-              ∙ (ap (λ (l : List ℕ). f4 ++ l) (d5 ∙ ap (λ (l : List ℕ). f5 ++ l) d6)))))))
-              ∙ (sym (simp append-assoc) ∙ ap₂ (λ (k : Numbers) (y : ℕ). numberFields k ++ drop y s) p x)),
-          subst InRange p r,
-        )
+    let r = numbers-back headTable s 0 [] n e b table-lawful h in
+    let same : r .values ≡ numbersIn n = sym (six-values (r .values) (r .many)) ∙ ap numbersIn (r .numbers) in
+    (r .bytes ∙ ap (λ (l : List ℕ). numberFields headTable l ++ drop e s) same, ap (allHold headTable) (sym same) ∙ r .ranges)
 
 -- ---- what is in the bytes, is read
 
+-- Writing and reading again: where the field of a number in its range stands, the number is read.
+number-found : (s rest : List ℕ) (at : ℕ) (e : Entry) (v : ℕ) → Lawful e → holds e v ≡ true → drop at s ≡ field (e .tag) (bytesOf (e .width) v) ++ rest
+    → (nextField s at (e .tag) 0 ≡ Body (e .tag) (at + 3) (e .width)) × (numberAt s (at + 3) (e .width) ≡ v) × (drop (at + 3 + e .width) s ≡ rest)
+number-found s rest at e v l h d =
+    let body = bytesOf (e .width) v in
+    let long : length body ≡ e .width = length-bytes (e .width) v in
+    let fits = entry-range e v h in (
+      next-there s at (e .tag) 0 (before-end s rest body at (e .tag) d)
+          ∙ (field-here s rest body at (e .tag) d (e .tag ∷ []) 0 (tag-alone (e .tag))
+          (legal-any (e .tag) (length body) ∙ (ap (legal (e .tag)) long ∙ l .legal-is))
+          ∙ ap (λ (k : ℕ). Body (e .tag) (at + 3) k) long),
+      number-here s rest (at + 3) (e .width) v (body-here s rest body at (e .tag) d) (omega (arith, fits .1, l .room)),
+      ap (λ (k : ℕ). drop (at + 3 + k) s) (sym long) ∙ rest-here s rest body at (e .tag) d,
+    )
+
+numbers-found : (es : List Entry) (s rest : List ℕ) (at : ℕ) (vs us : List ℕ) → Each es → drop at s ≡ numberFields es us ++ rest → allHold es us ≡ true
+    → (headFrom es s at vs ≡ HeadEnds (numbersFrom (vs ++ us)) (at + sizeOf es)) × (drop (at + sizeOf es) s ≡ rest)
+unfolding headFrom numberFields allHold sizeOf
+numbers-found [] s rest at vs [] l d h =
+    (ap₂ HeadEnds (ap numbersFrom (sym (append-nil vs))) (sym (add-zero at)), ap (λ (k : ℕ). drop k s) (add-zero at) ∙ d)
+numbers-found [] s rest at vs (v ∷ us) l d h = absurd (false≢true h)
+numbers-found (e ∷ es) s rest at vs [] l d h = absurd (false≢true h)
+numbers-found (e ∷ es) s rest at vs (v ∷ us) l d h =
+    let f = field (e .tag) (bytesOf (e .width) v) in
+    let b = both (holds e v) (allHold es us) h in
+    let n = number-found s (numberFields es us ++ rest) at e v (l .0) (b .0) (d ∙ append-assoc f (numberFields es us) rest) in
+    let on : (ℕ → ℕ → HeadRead) = λ next v. headFrom es s next (vs ++ (v ∷ [])) in
+    let r = numbers-found es s rest (at + 3 + e .width) (vs ++ (v ∷ [])) us (l .1) (n .2) (b .1) in
+    let end : at + 3 + e .width + sizeOf es ≡ at + (3 + e .width + sizeOf es) = omega arith in (
+      ap (headNumber on s at e) (n .0)
+          ∙ (ap (λ (x : ℕ). cond (holds e x) (on (at + 3 + e .width) x) (HeadRefused 4 at)) (n .1)
+          ∙ (ap (λ (k : Bool). cond k (on (at + 3 + e .width) v) (HeadRefused 4 at)) (b .0)
+          ∙ (r .0 ∙ ap₂ HeadEnds (ap numbersFrom (append-assoc vs (v ∷ []) us)) end))),
+      ap (λ (k : ℕ). drop k s) (sym end) ∙ r .1,
+    )
+
 -- Fields at the front of a record, with numbers in range, are read.
-pub head-found : (s rest : List ℕ) (n : Numbers) → s ≡ numberFields n ++ rest → InRange n → (headIn s ≡ Read n 29) × (drop 29 s ≡ rest)
-unfolding numberFields legal ruleOf
-head-found s rest n e r =
-    let t5 = field 9 (bytesOf 2 (n .improvements)) ++ rest in
-    let t4 = field 8 (bytesOf 1 (n .verdict)) ++ t5 in
-    let t3 = field 7 (bytesOf 2 (n .distance)) ++ t4 in
-    let t2 = field 6 (bytesOf 4 (n .size)) ++ t3 in
-    let t1 = field 2 (bytesOf 1 (n .replication)) ++ t2 in
-    let d : s ≡ field 1 (bytesOf 1 (n .bits)) ++ t1 = e ∙ simp append-assoc in
-    let n1 = number-found s t1 0 1 1 0 mostBits (n .bits) d (omega arith) refl (omega (arith, r .bits)) (omega arith) (r .bits) in
-    let n2 = number-found s t2 4 2 1 1 mostCopies (n .replication) (n1 .1) (omega arith) refl (omega (arith, r .replication .1)) (r .replication .0) (r .replication .1) in
-    let n3 = number-found s t3 8 6 4 1 mostSize (n .size) (n2 .1) (omega arith) refl (omega (arith, r .size .1)) (r .size .0) (r .size .1) in
-    let n4 = number-found s t4 15 7 2 0 mostDistance (n .distance) (n3 .1) (omega arith) refl (omega (arith, r .distance)) (omega arith) (r .distance) in
-    let n5 = number-found s t5 20 8 1 0 mostVerdict (n .verdict) (n4 .1) (omega arith) refl (omega (arith, r .verdict)) (omega arith) (r .verdict) in
-    let n6 = number-found s rest 24 9 2 0 mostImprovements (n .improvements) (n5 .1) (omega arith) refl (omega (arith, r .improvements)) (omega arith) (r .improvements) in
-    (head-read s (n .bits) 4 (n1 .0) (n .replication) 8 (n2 .0) (n .size) 15 (n3 .0) (n .distance) 20 (n4 .0) (n .verdict) 24 (n5 .0) (n .improvements) 29 (n6 .0), n6 .1)
+pub head-found : (s rest : List ℕ) (n : Numbers) → s ≡ headFields n ++ rest → inRange n ≡ true
+    → (headFrom headTable s 0 [] ≡ HeadEnds n 29) × (drop 29 s ≡ rest)
+unfolding sizeOf
+head-found s rest n e h = numbers-found headTable s rest 0 [] (numbersIn n) table-lawful e h

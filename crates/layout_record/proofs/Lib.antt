@@ -2,7 +2,6 @@ pub mod CellsMore
 pub mod Exact
 pub mod FieldFaults
 pub mod HeadExact
-pub mod IdBytes
 pub mod NumberFields
 pub mod PutRows
 pub mod Puts

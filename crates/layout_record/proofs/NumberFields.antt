@@ -1,23 +1,27 @@
--- The fields before the rows: what a field with a number says, and the chain of the six.
+-- The fields before the rows: the next field, what the table says of each entry, and the loops that walk the table.
 -- Assumes nothing.
-use Prim.Native.Nat.{ℕ, _+_, _≤_, _<_}
-use mathlib.Core.Path.{_≡_, sym, ap, ap₂, _∙_, subst}
-use mathlib.Core.List.{List}
-use mathlib.Core.Logic.{_⊎_, inl, inr, ⊎-elim}
+use Prim.Native.Nat.{ℕ, zero, suc, _+_, _^_, _≤_, _<_}
+use mathlib.Core.Path.{_≡_, refl, sym, ap, ap₂, _∙_, subst}
+use mathlib.Core.Bool.{Bool, true, false, _&&_, cond}
+use mathlib.Core.List.{List, [], _∷_, _++_}
+use mathlib.Core.Logic.{_⊎_, inl, inr}
+use native.Mathlib.Numerals.{add-one}
 use native.Mathlib.Omega.{arith}
-use lib.ListN.{length}
-use borrow.Author.Tests.{le-leb, lt-leb, lt-ltb, le-ltb}
-use Rattle.sets.specs.ModelBits.{withOf}
+use lib.Dec.{leb}
+use lib.ListN.{length, drop, getD, length-append}
+use lib.Seq.{drop-cons, drop-length}
+use borrow.Author.Tests.{le-leb, lt-leb, leb-true}
+use Rattle.sums.proofs.Tests.{both}
 use Rattle.cluster.specs.Terms.{mostBits, mostCopies}
-use Rattle.fields.specs.RecordField.{numberAt, ruleOf, fieldAt, Whole, refusalOf, placeOf}
+use Rattle.fields.specs.RecordField.{bytesOf, field, numberAt, written, ruleOf, legal, fieldAt, Whole}
 use Rattle.fields.specs.declared.Field.{Field}
 use Rattle.fields.specs.declared.Field.the-variants.{Body, Refused}
 use Rattle.fields.proofs.RecordField.{one-tag}
-use Rattle.layout_record.specs.declared.head.Number.the-variants.{Value, Stopped}
-use Rattle.layout_record.specs.declared.head.Head.the-variants.{Read, Halted}
-use Rattle.layout_record.specs.RecordLayout.{mostSize, mostDistance, mostVerdict, mostImprovements}
-use Rattle.layout_record.specs.RecordLayoutFaults.{nextField, valueIn, numberIn, numbersOf, headIn}
-use Rattle.layout_record.specs.ModelReading.{Narrow}
+use Rattle.layout_record.specs.declared.Numbers.{Numbers}
+use Rattle.layout_record.specs.declared.table.Entry.{Entry}
+use Rattle.layout_record.specs.RecordLayout.{entry, headTable, entryAt, numbersIn, numbersFrom, holds, allHold, inRange, numberFields, headFields}
+use Rattle.layout_record.specs.RecordLayoutFaults.{nextField, HeadRead, HeadEnds, HeadRefused, headNumber, headFrom}
+use Rattle.layout_record.proofs.Puts.{put-next, length-number}
 
 -- ---- the next field
 
@@ -28,82 +32,182 @@ module _ (s : List ℕ) (at tag exact : ℕ) where
   next-missing h = simp (le-leb (length s) at h)
 
   -- Before it, it is the field at that byte.
-  pub next-there : at < length s → nextField s at tag exact ≡ fieldAt s at (withOf 0 tag) exact
+  pub next-there : at < length s → nextField s at tag exact ≡ fieldAt s at (tag ∷ []) exact
   unfolding nextField
   next-there h = simp (lt-leb (length s) at h)
 
--- ---- a field with a number
+-- ---- the table
 
--- A body with a number has one, two or four bytes.
-pub narrow : (n at tag : ℕ) (t start len : ℕ) → Narrow tag → Whole n at (withOf 0 tag) 0 t start len → (len ≡ 1) ⊎ ((len ≡ 2) ⊎ (len ≡ 4))
-narrow n at tag t start len h w =
-    let e : t ≡ tag = one-tag tag t (w .member) in
-    let l : ruleOf tag .least ≤ len = subst (λ (k : ℕ). ruleOf k .least ≤ len) e (w .least) in
-    let g : len ≤ ruleOf tag .greatest = subst (λ (k : ℕ). len ≤ ruleOf k .greatest) e (w .greatest) in
-    let same : len ≡ ruleOf tag .least = omega (arith, h .0) in
-    ⊎-elim (λ a. inl (same ∙ a)) (⊎-elim (λ a. inr (inl (same ∙ a))) (λ a. inr (inr (same ∙ a)))) (h .1)
+-- An entry agrees with the table of lengths: bodies with its tag have its width alone, one, two or four bytes, in which its numbers have room.
+pub record Lawful (e : Entry) : Type 0 where
+  pub small : e .tag < 32
+  pub least-is : ruleOf (e .tag) .least ≡ e .width
+  pub greatest-is : ruleOf (e .tag) .greatest ≡ e .width
+  pub legal-is : legal (e .tag) (e .width) ≡ true
+  pub narrow : (e .width ≡ 1) ⊎ ((e .width ≡ 2) ⊎ (e .width ≡ 4))
+  pub room : e .most < 256 ^ (e .width)
 
-module _ (s : List ℕ) (at tag least most : ℕ) (f : Field) (read : f ≡ nextField s at tag 0) where
-  -- A field that is not whole has no number.
-  pub number-stopped : (r b x y : ℕ) → f ≡ Refused r b → x ≡ refusalOf f → y ≡ placeOf f → Stopped x y ≡ numberIn s at tag least most
-  unfolding numberIn
-  number-stopped r b x y e p q =
-      ap₂ Stopped (p ∙ ap refusalOf e) (q ∙ ap placeOf e) ∙ (sym (ap (valueIn s at least most) e) ∙ ap (valueIn s at least most) read)
+-- Every entry of a table does.
+abbrev pub Each : List Entry → Type 0
+Each [] = Unit
+Each (e ∷ es) = Lawful e × Each es
 
-  module _ (t start len v : ℕ) (whole : f ≡ Body t start len) (value : v ≡ numberAt s start len) where
-    -- A number below its range, or above it.
-    pub number-low : v < least → Stopped 4 at ≡ numberIn s at tag least most
-    unfolding numberIn
-    number-low h =
-        sym (sym (ap (valueIn s at least most) read) ∙ (ap (valueIn s at least most) whole
-        ∙ simp (lt-ltb (numberAt s start len) least (omega arith))))
+pub each-at : (es : List Entry) (i : ℕ) → Each es → i < length es → Lawful (getD es i (entry 0 0 0 0))
+each-at [] i h l = absurd (omega arith)
+each-at (e ∷ es) zero h l = h .0
+each-at (e ∷ es) (suc i) h l = each-at es i (h .1) (omega arith)
 
-    pub number-high : least ≤ v → most < v → Stopped 4 at ≡ numberIn s at tag least most
-    unfolding numberIn
-    number-high l h =
-        sym (sym (ap (valueIn s at least most) read) ∙ (ap (valueIn s at least most) whole
-        ∙ simp (le-ltb (numberAt s start len) least (omega arith), lt-ltb most (numberAt s start len) (omega arith))))
+pub table-lawful : Each headTable
+unfolding legal ruleOf
+table-lawful = (
+  record { small = omega arith; least-is = refl; greatest-is = refl; legal-is = refl; narrow = inl refl; room = omega arith },
+  (
+    record { small = omega arith; least-is = refl; greatest-is = refl; legal-is = refl; narrow = inl refl; room = omega arith },
+    (
+      record { small = omega arith; least-is = refl; greatest-is = refl; legal-is = refl; narrow = inr (inr refl); room = omega arith },
+      (
+        record { small = omega arith; least-is = refl; greatest-is = refl; legal-is = refl; narrow = inr (inl refl); room = omega arith },
+        (
+          record { small = omega arith; least-is = refl; greatest-is = refl; legal-is = refl; narrow = inl refl; room = omega arith },
+          (record { small = omega arith; least-is = refl; greatest-is = refl; legal-is = refl; narrow = inr (inl refl); room = omega arith }, tt),
+        ),
+      ),
+    ),
+  ),
+)
 
-    -- A number in its range.
-    pub number-read : least ≤ v → v ≤ most → Value v (start + len) ≡ numberIn s at tag least most
-    unfolding numberIn
-    number-read l h =
-        ap (λ (k : ℕ). Value k (start + len)) value
-        ∙ sym (sym (ap (valueIn s at least most) read) ∙ (ap (valueIn s at least most) whole
-        ∙ simp (le-ltb (numberAt s start len) least (omega arith), le-ltb most (numberAt s start len) (omega arith))))
+-- A body with the number of an entry has the entry's width.
+pub entry-width : (e : Entry) (n at t start len : ℕ) → Lawful e → Whole n at (e .tag ∷ []) 0 t start len → (t ≡ e .tag) × (len ≡ e .width)
+entry-width e n at t start len h w =
+    let same : t ≡ e .tag = one-tag (e .tag) t (w .member) in
+    let l : ruleOf (e .tag) .least ≤ len = subst (λ (k : ℕ). ruleOf k .least ≤ len) same (w .least) in
+    let g : len ≤ ruleOf (e .tag) .greatest = subst (λ (k : ℕ). len ≤ ruleOf k .greatest) same (w .greatest) in
+    (same, omega (arith, h .least-is, h .greatest-is))
 
--- ---- the six fields
+-- ---- ranges
 
-module _ (s : List ℕ) where
-  pub stop-1 : (r b : ℕ) → numberIn s 0 1 0 mostBits ≡ Stopped r b → headIn s ≡ Halted r b
-  unfolding headIn
-  stop-1 r b e = simp e
+-- What it means that a number is in the range of its entry.
+pub entry-range : (e : Entry) (v : ℕ) → holds e v ≡ true → (e .least ≤ v) × (v ≤ e .most)
+entry-range e v h =
+    let b = both (leb (e .least) v) (leb v (e .most)) h in (leb-true (e .least) v (b .0), leb-true v (e .most) (b .1))
 
-  module _ (v1 x1 : ℕ) (e1 : numberIn s 0 1 0 mostBits ≡ Value v1 x1) where
-    pub stop-2 : (r b : ℕ) → numberIn s x1 2 1 mostCopies ≡ Stopped r b → headIn s ≡ Halted r b
-    unfolding headIn
-    stop-2 r b e = simp (e1, e)
+-- The first number and the others.
+pub first-holds : (e : Entry) (es : List Entry) (v : ℕ) (vs : List ℕ) → allHold (e ∷ es) (v ∷ vs) ≡ true → (holds e v ≡ true) × (allHold es vs ≡ true)
+unfolding allHold
+first-holds e es v vs h = both (holds e v) (allHold es vs) h
 
-    module _ (v2 x2 : ℕ) (e2 : numberIn s x1 2 1 mostCopies ≡ Value v2 x2) where
-      pub stop-3 : (r b : ℕ) → numberIn s x2 6 1 mostSize ≡ Stopped r b → headIn s ≡ Halted r b
-      unfolding headIn
-      stop-3 r b e = simp (e1, e2, e)
+pub more-hold : (e : Entry) (es : List Entry) (v : ℕ) (vs : List ℕ) → e .least ≤ v → v ≤ e .most → allHold es vs ≡ true → allHold (e ∷ es) (v ∷ vs) ≡ true
+unfolding allHold
+more-hold e es v vs l m h = simp (le-leb (e .least) v l, le-leb v (e .most) m, h)
 
-      module _ (v3 x3 : ℕ) (e3 : numberIn s x2 6 1 mostSize ≡ Value v3 x3) where
-        pub stop-4 : (r b : ℕ) → numberIn s x3 7 0 mostDistance ≡ Stopped r b → headIn s ≡ Halted r b
-        unfolding headIn
-        stop-4 r b e = simp (e1, e2, e3, e)
+-- The numbers on which the rows depend.
+pub few-bits : (n : Numbers) → inRange n ≡ true → n .bits ≤ mostBits
+few-bits n h = entry-range (entryAt 0) (n .bits) (first-holds _ _ _ _ h .0) .1
 
-        module _ (v4 x4 : ℕ) (e4 : numberIn s x3 7 0 mostDistance ≡ Value v4 x4) where
-          pub stop-5 : (r b : ℕ) → numberIn s x4 8 0 mostVerdict ≡ Stopped r b → headIn s ≡ Halted r b
-          unfolding headIn
-          stop-5 r b e = simp (e1, e2, e3, e4, e)
+pub few-copies : (n : Numbers) → inRange n ≡ true → (1 ≤ n .replication) × (n .replication ≤ mostCopies)
+few-copies n h = entry-range (entryAt 1) (n .replication) (first-holds _ _ _ _ (first-holds _ _ _ _ h .1) .0)
 
-          module _ (v5 x5 : ℕ) (e5 : numberIn s x4 8 0 mostVerdict ≡ Value v5 x5) where
-            pub stop-6 : (r b : ℕ) → numberIn s x5 9 0 mostImprovements ≡ Stopped r b → headIn s ≡ Halted r b
-            unfolding headIn
-            stop-6 r b e = simp (e1, e2, e3, e4, e5, e)
+-- ---- a walk over the table, at entry i
 
-            pub head-read : (v6 x6 : ℕ) → numberIn s x5 9 0 mostImprovements ≡ Value v6 x6 → headIn s ≡ Read (numbersOf v1 v2 v3 v4 v5 v6) x6
-            unfolding headIn
-            head-read v6 x6 e = simp (e1, e2, e3, e4, e5, e)
+module _ (i : ℕ) (inside : i < length headTable) (e : Entry) (here : e ≡ entryAt i) where
+  pub lawful-at : Lawful e
+  lawful-at = subst Lawful (sym here) (each-at headTable i table-lawful inside)
+
+  entries : drop i headTable ≡ e ∷ drop (i + 1) headTable
+  entries =
+      drop-cons headTable i (entry 0 0 0 0) inside ∙ ap₂ (λ (x : Entry) (k : ℕ). x ∷ drop k headTable) (sym here) (sym (add-one i))
+
+  -- The numbers from i on.
+  module _ (vs : List ℕ) (long : length vs ≡ length headTable) where
+    values : drop i vs ≡ getD vs i 0 ∷ drop (i + 1) vs
+    values = drop-cons vs i 0 (omega arith) ∙ ap (λ (k : ℕ). getD vs i 0 ∷ drop k vs) (sym (add-one i))
+
+    -- Their ranges.
+    pub range-step : allHold (drop i headTable) (drop i vs) ≡ holds e (getD vs i 0) && allHold (drop (i + 1) headTable) (drop (i + 1) vs)
+    unfolding allHold
+    range-step = ap₂ allHold entries values
+
+    -- Their fields: one more is put, and those after it are still to be put.
+    abbrev rest : ℕ → List ℕ
+    rest k = numberFields (drop k headTable) (drop k vs)
+
+    fields-step : rest i ≡ field (e .tag) (bytesOf (e .width) (getD vs i 0)) ++ rest (i + 1)
+    unfolding numberFields
+    fields-step = ap₂ numberFields entries values
+
+    pub length-step : length (rest i) ≡ 3 + e .width + length (rest (i + 1))
+    length-step =
+        ap length fields-step
+        ∙ (length-append (field (e .tag) (bytesOf (e .width) (getD vs i 0))) (rest (i + 1))
+        ∙ ap (λ (k : ℕ). k + length (rest (i + 1))) (length-number (e .tag) (e .width) (getD vs i 0)))
+
+    pub put-step : (at : ℕ) (r x : List ℕ) → at + length (rest i) ≤ length r → x ≡ written r at (field (e .tag) (bytesOf (e .width) (getD vs i 0)))
+        → written x (at + (3 + e .width)) (rest (i + 1)) ≡ written r at (rest i)
+    put-step at r x room w =
+        put-next r x (field (e .tag) (bytesOf (e .width) (getD vs i 0))) (rest (i + 1)) at (3 + e .width) (at + (3 + e .width)) w
+        (length-number (e .tag) (e .width) (getD vs i 0)) refl (omega (arith, length-step))
+        ∙ ap (written r at) (sym fields-step)
+
+  -- The reading from entry i on.
+  module _ (s : List ℕ) (at : ℕ) (vs : List ℕ) (f : Field) (read : f ≡ nextField s at (e .tag) 0) where
+    abbrev on : ℕ → ℕ → HeadRead
+    on next v = headFrom (drop (i + 1) headTable) s next (vs ++ (v ∷ []))
+
+    first : headFrom (drop i headTable) s at vs ≡ headNumber on s at e f
+    unfolding headFrom
+    first = ap (λ (es : List Entry). headFrom es s at vs) entries ∙ ap (headNumber on s at e) (sym read)
+
+    -- A field that is not whole stops it.
+    pub head-stop : (r b : ℕ) → f ≡ Refused r b → headFrom (drop i headTable) s at vs ≡ HeadRefused r b
+    head-stop r b q = first ∙ ap (headNumber on s at e) q
+
+    module _ (t start len v : ℕ) (whole : f ≡ Body t start len) (value : v ≡ numberAt s start len) where
+      judged : (b : Bool) → holds e v ≡ b → headFrom (drop i headTable) s at vs ≡ cond b (on (start + len) v) (HeadRefused 4 at)
+      judged b h =
+          first
+          ∙ (ap (headNumber on s at e) whole
+          ∙ (ap (λ (k : ℕ). cond (holds e k) (on (start + len) k) (HeadRefused 4 at)) (sym value)
+          ∙ ap (λ (q : Bool). cond q (on (start + len) v) (HeadRefused 4 at)) h))
+
+      -- So does a number outside its range.
+      pub head-out : holds e v ≡ false → headFrom (drop i headTable) s at vs ≡ HeadRefused 4 at
+      head-out h = judged false h
+
+      -- Else the reading goes on after the field.
+      pub head-on : holds e v ≡ true → headFrom (drop i headTable) s at vs ≡ headFrom (drop (i + 1) headTable) s (start + len) (vs ++ (v ∷ []))
+      head-on h = judged true h
+
+-- The end of the walk.
+module _ (i : ℕ) (done : i ≡ length headTable) where
+  pub range-end : (vs : List ℕ) → length vs ≡ length headTable → allHold (drop i headTable) (drop i vs) ≡ true
+  unfolding allHold
+  range-end vs long =
+      ap₂ (λ (k : ℕ) (l : List ℕ). allHold (drop k headTable) l) done (ap (λ (k : ℕ). drop k vs) (done ∙ sym long) ∙ drop-length vs)
+
+  pub fields-end : (vs : List ℕ) → numberFields (drop i headTable) (drop i vs) ≡ []
+  unfolding numberFields
+  fields-end vs = ap (λ (k : ℕ). numberFields (drop k headTable) (drop i vs)) done
+
+  pub head-end : (s : List ℕ) (at : ℕ) (vs : List ℕ) → headFrom (drop i headTable) s at vs ≡ HeadEnds (numbersFrom vs) at
+  unfolding headFrom
+  head-end s at vs = ap (λ (k : ℕ). headFrom (drop k headTable) s at vs) done
+
+-- ---- the bytes
+
+-- The bytes of the fields of a table.
+unfoldable pub sizeOf : List Entry → ℕ
+sizeOf [] = 0
+sizeOf (e ∷ es) = 3 + e .width + sizeOf es
+
+pub length-fields : (es : List Entry) (vs : List ℕ) → length es ≡ length vs → length (numberFields es vs) ≡ sizeOf es
+unfolding numberFields sizeOf
+length-fields [] vs h = refl
+length-fields (e ∷ es) [] h = absurd (omega arith)
+length-fields (e ∷ es) (v ∷ vs) h =
+    length-append (field (e .tag) (bytesOf (e .width) v)) (numberFields es vs)
+    ∙ ap₂ _+_ (length-number (e .tag) (e .width) v) (length-fields es vs (omega arith))
+
+-- The fields before the rows take 29 bytes.
+pub length-head : (n : Numbers) → length (headFields n) ≡ 29
+unfolding sizeOf
+length-head n = length-fields headTable (numbersIn n) refl

@@ -12,14 +12,15 @@ use lib.Seq.{take-at, take-take, length-take-le}
 use Rattle.cluster.specs.Terms.{rowCells, bufferRows, Layout, rowAt, idsIn, formedFrom, formed, rowsIn}
 use Rattle.cluster.proofs.CellRows.{formed-cells}
 use Rattle.cluster.proofs.CellLayouts.{length-rowsIn, row-rowsIn}
-use Rattle.fields.specs.RecordField.{bytesOf, written, over}
+use Rattle.fields.specs.RecordField.{bytesOf, written, over, idBytes}
 use Rattle.fields.proofs.Written.{written-over}
 use Rattle.layout_record.specs.declared.Numbers.{Numbers}
-use Rattle.layout_record.specs.RecordLayout.{numberFields, idBytes, rowField, rowFields, layoutRecord, recordLength}
+use Rattle.layout_record.specs.RecordLayout.{headFields, layoutRowField, layoutRowFields, layoutRecord, recordLength}
 use Rattle.layout_record.specs.RecordLayoutFaults.{rowFits, rowsFit}
-use Rattle.layout_record.proofs.Puts.{put-next, put-parts, length-numbers}
+use Rattle.layout_record.proofs.Puts.{put-next, put-parts}
+use Rattle.layout_record.proofs.NumberFields.{few-bits, length-head}
 use Rattle.layout_record.proofs.RecordLaws.{length-row, rows-snoc, length-rows, rowsIn-more}
-use Rattle.layout_record.proofs.RowFaults.{fits-formed, few-partitions, fit-range, Writable}
+use Rattle.layout_record.proofs.RowFaults.{fits-formed, few-partitions, Writable}
 use Rattle.sums.proofs.Tests.{every-at}
 
 -- The first cells of a formed row with so many ids are its ids.
@@ -35,11 +36,11 @@ next-at p w = sym (suc-mul p w) ∙ ap (λ (k : ℕ). k * w) (sym (add-one p))
 pub put-cells : (s a b r cells : List ℕ) (at p count : ℕ) → p * rowCells + rowCells ≤ length cells → count ≤ rowCells → at + 5 + 4 * count ≤ length s
     → a ≡ written s at (bytesOf 1 10 ++ bytesOf 2 (2 + 4 * count)) → b ≡ written a (at + 3) (bytesOf 2 p)
     → r ≡ written b (at + 5) (idBytes (take count (drop (p * rowCells) cells)))
-    → r ≡ written s at (rowField p (take count (rowAt cells p)))
+    → r ≡ written s at (layoutRowField p (take count (rowAt cells p)))
 put-cells s a b r cells at p count h few room e1 e2 e3 =
     let l = drop (p * rowCells) cells in
     put-parts s a b r (take count l) at p count (length-take-le count l (omega (arith, length-drop (p * rowCells) cells))) room e1 e2 e3
-    ∙ ap (λ (x : List ℕ). written s at (rowField p x)) (sym (take-take count rowCells l few))
+    ∙ ap (λ (x : List ℕ). written s at (layoutRowField p x)) (sym (take-take count rowCells l few))
 
 -- Cells whose rows fit.
 module _ (cells : List ℕ) (P count : ℕ) (few : P ≤ bufferRows) (fit : rowsFit cells P count ≡ true) where
@@ -48,37 +49,37 @@ module _ (cells : List ℕ) (P count : ℕ) (few : P ≤ bufferRows) (fit : rows
   row-fit p h = fits-formed cells P count p h (every-at bufferRows p (rowFits cells P count) fit (omega arith))
 
   -- The fields of its first rows.
-  pub length-first : (p : ℕ) → p ≤ P → length (rowFields 0 (rowsIn p cells)) ≡ p * (5 + 4 * count)
+  pub length-first : (p : ℕ) → p ≤ P → length (layoutRowFields 0 (rowsIn p cells)) ≡ p * (5 + 4 * count)
   length-first p h =
       length-rows 0 count (rowsIn p cells)
       (λ q l. let k : q < p = subst (λ (m : ℕ). q < m) (length-rowsIn p cells) l in ap length (row-rowsIn p cells q k) ∙ row-fit q (omega arith) .1)
       ∙ ap (λ (k : ℕ). k * (5 + 4 * count)) (length-rowsIn p cells)
 
   -- One row more is put.
-  pub put-row-next : (s r x : List ℕ) (at p : ℕ) → p < P → r ≡ written s 29 (rowFields 0 (rowsIn p cells)) → at ≡ 29 + p * (5 + 4 * count)
-      → at + 5 + 4 * count ≤ length s → x ≡ written r at (rowField p (take count (rowAt cells p)))
-      → x ≡ written s 29 (rowFields 0 (rowsIn (p + 1) cells))
+  pub put-row-next : (s r x : List ℕ) (at p : ℕ) → p < P → r ≡ written s 29 (layoutRowFields 0 (rowsIn p cells)) → at ≡ 29 + p * (5 + 4 * count)
+      → at + 5 + 4 * count ≤ length s → x ≡ written r at (layoutRowField p (take count (rowAt cells p)))
+      → x ≡ written s 29 (layoutRowFields 0 (rowsIn (p + 1) cells))
   put-row-next s r x at p h e a room f =
       let ids = idsIn (rowAt cells p) in
       let right = row-fit p h in
       let place : p ≡ 0 + length (rowsIn p cells) = omega (arith, length-rowsIn p cells) in
       let same : take count (rowAt cells p) ≡ ids = take-ids 0 count (rowAt cells p) (right .0) (right .1) in
       f
-      ∙ (ap (λ (l : List ℕ). written r at (rowField p l)) same
-      ∙ (put-next s r (rowFields 0 (rowsIn p cells)) (rowField p ids) 29 (p * (5 + 4 * count)) at e (length-first p (omega arith)) (sym a)
+      ∙ (ap (λ (l : List ℕ). written r at (layoutRowField p l)) same
+      ∙ (put-next s r (layoutRowFields 0 (rowsIn p cells)) (layoutRowField p ids) 29 (p * (5 + 4 * count)) at e (length-first p (omega arith)) (sym a)
       (omega (arith, length-row p ids, right .1))
       ∙ ap (written s 29)
-      (ap (λ (q : ℕ). rowFields 0 (rowsIn p cells) ++ rowField q ids) place
-      ∙ (sym (rows-snoc 0 (rowsIn p cells) ids) ∙ ap (rowFields 0) (sym (rowsIn-more p cells))))))
+      (ap (λ (q : ℕ). layoutRowFields 0 (rowsIn p cells) ++ layoutRowField q ids) place
+      ∙ (sym (rows-snoc 0 (rowsIn p cells) ids) ∙ ap (layoutRowFields 0) (sym (rowsIn-more p cells))))))
 
 -- The numbers, and then the rows, make the record.
-pub put-whole : (s r x : List ℕ) (n : Numbers) (L : Layout) → r ≡ written s 0 (numberFields n) → x ≡ written r 29 (rowFields 0 L)
-    → 29 + length (rowFields 0 L) ≤ length s → x ≡ over (layoutRecord n L) s
+pub put-whole : (s r x : List ℕ) (n : Numbers) (L : Layout) → r ≡ written s 0 (headFields n) → x ≡ written r 29 (layoutRowFields 0 L)
+    → 29 + length (layoutRowFields 0 L) ≤ length s → x ≡ over (layoutRecord n L) s
 unfolding layoutRecord
 put-whole s r x n L e f h =
     f
-    ∙ (put-next s r (numberFields n) (rowFields 0 L) 0 29 29 e (length-numbers n) refl h
-    ∙ written-over s 0 (numberFields n ++ rowFields 0 L) (omega (arith, length-append (numberFields n) (rowFields 0 L), length-numbers n)))
+    ∙ (put-next s r (headFields n) (layoutRowFields 0 L) 0 29 29 e (length-head n) refl h
+    ∙ written-over s 0 (headFields n ++ layoutRowFields 0 L) (omega (arith, length-append (headFields n) (layoutRowFields 0 L), length-head n)))
 
 -- Where a record can be written there is room for its numbers, for its rows, and for both.
 module _ (n : Numbers) (cells : List ℕ) (room : ℕ) where
@@ -91,7 +92,7 @@ module _ (n : Numbers) (cells : List ℕ) (room : ℕ) where
     unfolding recordLength
     rows-room = omega (arith, w .long, ap (λ (k : ℕ). k * (5 + 4 * n .replication)) e)
 
-    pub whole-room : 29 + length (rowFields 0 (rowsIn P cells)) ≤ room
+    pub whole-room : 29 + length (layoutRowFields 0 (rowsIn P cells)) ≤ room
     whole-room =
-        let few : P ≤ bufferRows = omega (arith, few-partitions (n .bits) (fit-range n (w .fit) .bits)) in
+        let few : P ≤ bufferRows = omega (arith, few-partitions (n .bits) (few-bits n (w .fit))) in
         omega (arith, rows-room, length-first cells P (n .replication) few (ap (λ (k : ℕ). rowsFit cells k (n .replication)) e ∙ w .rows) P (omega arith))

@@ -8,38 +8,38 @@ use native.Mathlib.Omega.{arith}
 use lib.ListN.{length, length-append}
 use Rattle.sums.specs.TermsSums.{tab}
 use Rattle.cluster.specs.Terms.{Layout, row, rowAt, idsIn, rowsIn}
-use Rattle.fields.specs.RecordField.{bytesOf}
+use Rattle.fields.specs.RecordField.{bytesOf, idBytes}
 use Rattle.fields.proofs.Numbers.{length-bytes}
 use Rattle.fields.proofs.RecordField.{length-field}
 use Rattle.layout_record.specs.declared.Numbers.{Numbers}
-use Rattle.layout_record.specs.RecordLayout.{HasLayout, numberFields, idBytes, rowField, rowFields, layoutRecord, recordLength}
-use Rattle.layout_record.proofs.IdBytes.{length-id-bytes}
-use Rattle.layout_record.proofs.Puts.{length-numbers}
+use Rattle.layout_record.specs.RecordLayout.{HasLayout, headFields, layoutRowField, layoutRowFields, layoutRecord, recordLength}
+use Rattle.fields.proofs.IdBytes.{length-id-bytes}
+use Rattle.layout_record.proofs.NumberFields.{length-head}
 use native.Mathlib.Numerals.{add-one}
 
 -- A row's field has five bytes and four for each id.
-pub length-row : (p : ℕ) (r : List ℕ) → length (rowField p r) ≡ 5 + 4 * length r
-unfolding rowField
+pub length-row : (p : ℕ) (r : List ℕ) → length (layoutRowField p r) ≡ 5 + 4 * length r
+unfolding layoutRowField
 length-row p r =
     omega (arith, length-field 10 (bytesOf 2 p ++ idBytes r), length-append (bytesOf 2 p) (idBytes r), length-bytes 2 p, length-id-bytes r)
 
 -- The fields of some rows, and of one more.
-pub rows-snoc : (p : ℕ) (L : Layout) (r : List ℕ) → rowFields p (L ++ (r ∷ [])) ≡ rowFields p L ++ rowField (p + length L) r
-unfolding rowFields
-rows-snoc p [] r = append-nil (rowField p r) ∙ ap (λ (k : ℕ). rowField k r) (sym (add-zero p))
+pub rows-snoc : (p : ℕ) (L : Layout) (r : List ℕ) → layoutRowFields p (L ++ (r ∷ [])) ≡ layoutRowFields p L ++ layoutRowField (p + length L) r
+unfolding layoutRowFields
+rows-snoc p [] r = append-nil (layoutRowField p r) ∙ ap (λ (k : ℕ). layoutRowField k r) (sym (add-zero p))
 rows-snoc p (x ∷ L) r =
     let e : suc p + length L ≡ p + suc (length L) = omega arith in
-    ap (λ (l : List ℕ). rowField p x ++ l) (rows-snoc (suc p) L r ∙ ap (λ (k : ℕ). rowFields (suc p) L ++ rowField k r) e)
-    ∙ sym (append-assoc (rowField p x) (rowFields (suc p) L) (rowField (p + suc (length L)) r))
+    ap (λ (l : List ℕ). layoutRowField p x ++ l) (rows-snoc (suc p) L r ∙ ap (λ (k : ℕ). layoutRowFields (suc p) L ++ layoutRowField k r) e)
+    ∙ sym (append-assoc (layoutRowField p x) (layoutRowFields (suc p) L) (layoutRowField (p + suc (length L)) r))
 
 -- Rows of so many ids each.
-pub length-rows : (p R : ℕ) (L : Layout) → ((q : ℕ) → q < length L → length (row L q) ≡ R) → length (rowFields p L) ≡ length L * (5 + 4 * R)
-unfolding rowFields
+pub length-rows : (p R : ℕ) (L : Layout) → ((q : ℕ) → q < length L → length (row L q) ≡ R) → length (layoutRowFields p L) ≡ length L * (5 + 4 * R)
+unfolding layoutRowFields
 length-rows p R [] h = sym (zero-mul (5 + 4 * R))
 length-rows p R (x ∷ L) h =
     omega (
       arith,
-      length-append (rowField p x) (rowFields (suc p) L),
+      length-append (layoutRowField p x) (layoutRowFields (suc p) L),
       length-row p x,
       h 0 (omega arith),
       length-rows (suc p) R L (λ q l. h (suc q) (omega arith)),
@@ -50,8 +50,8 @@ length-rows p R (x ∷ L) h =
 pub length-record : (n : Numbers) (L : Layout) → HasLayout n L → length (layoutRecord n L) ≡ recordLength (n .bits) (n .replication)
 unfolding layoutRecord recordLength
 length-record n L h =
-    length-append (numberFields n) (rowFields 0 L)
-    ∙ ap₂ _+_ (length-numbers n)
+    length-append (headFields n) (layoutRowFields 0 L)
+    ∙ ap₂ _+_ (length-head n)
     (length-rows 0 (n .replication) L (h .many) ∙ ap (λ (k : ℕ). k * (5 + 4 * n .replication)) (h .partition-rows))
 
 -- One row more is read from cells.

@@ -3,14 +3,14 @@
 use Prim.Native.Nat.{ℕ, _*_, _^_, _≤_, _<_}
 use mathlib.Core.Path.{_≡_, sym, ap, _∙_}
 use mathlib.Core.Bool.{Bool, true, false, _&&_, or-true, cond}
-use mathlib.Core.List.{List}
+use mathlib.Core.List.{List, []}
 use mathlib.Core.Logic.{⊎-elim}
 use native.Mathlib.Nat.{mul-le-mul}
 use native.Mathlib.Omega.{arith}
-use lib.Dec.{leb, eqb}
+use lib.Dec.{eqb}
 use lib.ListN.{length}
 use lib.Pow.{pow-mono}
-use borrow.Author.Tests.{le-leb, lt-leb, leb-true, lt-ltb, le-ltb, eq-eqb, ne-eqb, eqb-true}
+use borrow.Author.Tests.{le-leb, lt-leb, lt-ltb, le-ltb, eq-eqb, ne-eqb, eqb-true}
 use Rattle.sums.proofs.Sum.{lt-or-ge}
 use Rattle.cluster.specs.Terms.{mostBits, mostCopies, bufferRows, layoutCells, Layout, mem, rising, rowAt, idsIn, blank, formed}
 use Rattle.cluster.specs.ModelRows.{rowIds, rowIsBlank}
@@ -18,82 +18,47 @@ use Rattle.sums.proofs.Tests.{both, true-or-false}
 use Rattle.cluster.proofs.RowScans.{formed-row-ids, ill-row-ids, row-of-buffer}
 use Rattle.fields.specs.RecordField.{fieldAt, refusalOf, placeOf}
 use Rattle.layout_record.specs.declared.Numbers.{Numbers}
-use Rattle.layout_record.specs.RecordLayout.{mostSize, mostDistance, mostVerdict, mostImprovements, recordLength, InRange}
-use Rattle.layout_record.specs.RecordLayoutFaults.{accepted, refusedAt, rowFault, endIn, numbersFit, rowFits, rowsFit, writeFault}
+use Rattle.layout_record.specs.RecordLayout.{inRange, recordLength}
+use Rattle.layout_record.specs.RecordLayoutFaults.{layoutAccepted, layoutRefused, layoutRowFault, endIn, rowFits, rowsFit, writeFault}
 
 -- ---- the faults of a row that is read
 
 module _ (partitions next p : ℕ) (ids : List ℕ) where
   -- A partition at or above P, or an id 0.
-  pub fault-partition : partitions ≤ p → rowFault partitions next p ids ≡ 4
-  unfolding rowFault
+  pub fault-partition : partitions ≤ p → layoutRowFault partitions next p ids ≡ 4
+  unfolding layoutRowFault
   fault-partition h = simp (le-leb partitions p h)
 
-  pub fault-zero : mem 0 ids ≡ true → rowFault partitions next p ids ≡ 4
-  unfolding rowFault
+  pub fault-zero : mem 0 ids ≡ true → layoutRowFault partitions next p ids ≡ 4
+  unfolding layoutRowFault
   fault-zero h = simp (h, or-true)
 
   module _ (inside : p < partitions) (ids-not-zero : mem 0 ids ≡ false) where
     -- A row that is not the next, or ids that do not rise.
-    pub fault-next : (p ≡ next → ⊥) → rowFault partitions next p ids ≡ 5
-    unfolding rowFault
+    pub fault-next : (p ≡ next → ⊥) → layoutRowFault partitions next p ids ≡ 5
+    unfolding layoutRowFault
     fault-next h = simp (lt-leb partitions p inside, ids-not-zero, ne-eqb p next h)
 
-    pub fault-falls : p ≡ next → rising ids ≡ false → rowFault partitions next p ids ≡ 5
-    unfolding rowFault
+    pub fault-falls : p ≡ next → rising ids ≡ false → layoutRowFault partitions next p ids ≡ 5
+    unfolding layoutRowFault
     fault-falls e h = simp (lt-leb partitions p inside, ids-not-zero, eq-eqb p next e, h)
 
-    pub fault-none : p ≡ next → rising ids ≡ true → rowFault partitions next p ids ≡ 0
-    unfolding rowFault
+    pub fault-none : p ≡ next → rising ids ≡ true → layoutRowFault partitions next p ids ≡ 0
+    unfolding layoutRowFault
     fault-none e h = simp (lt-leb partitions p inside, ids-not-zero, eq-eqb p next e, h)
 
 -- ---- the end of a record
 
 module _ (s : List ℕ) (at : ℕ) (n : Numbers) (L : Layout) where
-  pub end-whole : length s ≤ at → endIn s at n L ≡ accepted n L
+  pub end-whole : length s ≤ at → endIn s at n L ≡ layoutAccepted n L
   unfolding endIn
   end-whole h = simp (le-leb (length s) at h)
 
-  pub end-more : at < length s → endIn s at n L ≡ refusedAt (refusalOf (fieldAt s at 0 0)) (placeOf (fieldAt s at 0 0))
+  pub end-more : at < length s → endIn s at n L ≡ layoutRefused (refusalOf (fieldAt s at [] 0)) (placeOf (fieldAt s at [] 0))
   unfolding endIn
   end-more h = simp (lt-leb (length s) at h)
 
--- ---- the ranges
-
--- The test of the numbers says that they are in range,
-pub fit-range : (n : Numbers) → numbersFit n ≡ true → InRange n
-unfolding numbersFit
-fit-range n h =
-    let a = both (leb (n .bits) mostBits) (leb 1 (n .replication) && (leb (n .replication) mostCopies && (leb 1 (n .size) && (leb (n .size) mostSize && (leb (n .distance) mostDistance && (leb (n .verdict) mostVerdict && leb (n .improvements) mostImprovements)))))) h in
-    let b = both (leb 1 (n .replication)) (leb (n .replication) mostCopies && (leb 1 (n .size) && (leb (n .size) mostSize && (leb (n .distance) mostDistance && (leb (n .verdict) mostVerdict && leb (n .improvements) mostImprovements))))) (a .1) in
-    let c = both (leb (n .replication) mostCopies) (leb 1 (n .size) && (leb (n .size) mostSize && (leb (n .distance) mostDistance && (leb (n .verdict) mostVerdict && leb (n .improvements) mostImprovements)))) (b .1) in
-    let d = both (leb 1 (n .size)) (leb (n .size) mostSize && (leb (n .distance) mostDistance && (leb (n .verdict) mostVerdict && leb (n .improvements) mostImprovements))) (c .1) in
-    let e = both (leb (n .size) mostSize) (leb (n .distance) mostDistance && (leb (n .verdict) mostVerdict && leb (n .improvements) mostImprovements)) (d .1) in
-    let f = both (leb (n .distance) mostDistance) (leb (n .verdict) mostVerdict && leb (n .improvements) mostImprovements) (e .1) in
-    let g = both (leb (n .verdict) mostVerdict) (leb (n .improvements) mostImprovements) (f .1) in
-    record {
-      bits = leb-true (n .bits) mostBits (a .0);
-      replication = (leb-true 1 (n .replication) (b .0), leb-true (n .replication) mostCopies (c .0));
-      size = (leb-true 1 (n .size) (d .0), leb-true (n .size) mostSize (e .0));
-      distance = leb-true (n .distance) mostDistance (f .0);
-      verdict = leb-true (n .verdict) mostVerdict (g .0);
-      improvements = leb-true (n .improvements) mostImprovements (g .1);
-    }
-
--- and conversely.
-pub range-fit : (n : Numbers) → InRange n → numbersFit n ≡ true
-unfolding numbersFit
-range-fit n r =
-    simp (
-      le-leb (n .bits) mostBits (r .bits),
-      le-leb 1 (n .replication) (r .replication .0),
-      le-leb (n .replication) mostCopies (r .replication .1),
-      le-leb 1 (n .size) (r .size .0),
-      le-leb (n .size) mostSize (r .size .1),
-      le-leb (n .distance) mostDistance (r .distance),
-      le-leb (n .verdict) mostVerdict (r .verdict),
-      le-leb (n .improvements) mostImprovements (r .improvements),
-    )
+-- ---- the size of a record
 
 -- There are at most 256 partitions, and so many rows of at most 37 bytes.
 pub few-partitions : (bits : ℕ) → bits ≤ mostBits → 2 ^ bits ≤ bufferRows
@@ -154,11 +119,11 @@ module _ (n : Numbers) (cells : List ℕ) (room : ℕ) where
   write-cells h = simp (lt-ltb (length cells) layoutCells h)
 
   module _ (whole : layoutCells ≤ length cells) where
-    pub write-numbers : numbersFit n ≡ false → writeFault n cells room ≡ 4
+    pub write-numbers : inRange n ≡ false → writeFault n cells room ≡ 4
     unfolding writeFault
     write-numbers h = simp (le-ltb (length cells) layoutCells whole, h)
 
-    module _ (fit : numbersFit n ≡ true) where
+    module _ (fit : inRange n ≡ true) where
       pub write-rows : rowsFit cells (2 ^ (n .bits)) (n .replication) ≡ false → writeFault n cells room ≡ 10
       unfolding writeFault
       write-rows h = simp (le-ltb (length cells) layoutCells whole, fit, h)
@@ -175,7 +140,7 @@ module _ (n : Numbers) (cells : List ℕ) (room : ℕ) where
 -- What can be written: a whole buffer, numbers in range, rows that fit, and room for the record.
 pub record Writable (n : Numbers) (cells : List ℕ) (room : ℕ) : Type 0 where
   pub whole : layoutCells ≤ length cells
-  pub fit : numbersFit n ≡ true
+  pub fit : inRange n ≡ true
   pub rows : rowsFit cells (2 ^ (n .bits)) (n .replication) ≡ true
   pub long : recordLength (n .bits) (n .replication) ≤ room
 
@@ -188,5 +153,5 @@ no-fault n cells room z =
     (λ rows. ⊎-elim (λ l. absurd (omega (arith, write-room n cells room w fit rows l))) (λ g. record { whole = w; fit = fit; rows = rows; long = g })
     (lt-or-ge room (recordLength (n .bits) (n .replication))))
     (λ h. absurd (omega (arith, write-rows n cells room w fit h))) (true-or-false (rowsFit cells (2 ^ (n .bits)) (n .replication))))
-    (λ h. absurd (omega (arith, write-numbers n cells room w h))) (true-or-false (numbersFit n)))
+    (λ h. absurd (omega (arith, write-numbers n cells room w h))) (true-or-false (inRange n)))
     (lt-or-ge (length cells) layoutCells)

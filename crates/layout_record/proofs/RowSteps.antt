@@ -12,15 +12,14 @@ use borrow.Author.Tests.{eq-eqb, ne-eqb, lt-ltb, le-ltb}
 use Rattle.sums.proofs.Sum.{lt-or-ge}
 use Rattle.cells.specs.ModelCells.{put}
 use Rattle.cluster.specs.Terms.{rowCells, bufferRows, layoutCells, Layout, cellsOf, rowsIn}
-use Rattle.fields.specs.RecordField.{numberAt, over}
+use Rattle.fields.specs.RecordField.{numberAt, over, idsAt}
 use Rattle.fields.specs.declared.Field.{Field}
 use Rattle.fields.specs.declared.Field.the-variants.{Body, Refused}
 use Rattle.layout_record.specs.declared.Numbers.{Numbers}
-use Rattle.layout_record.specs.declared.head.Head.the-variants.{Read, Halted}
-use Rattle.layout_record.specs.RecordLayout.{layoutRecord, recordLength}
-use Rattle.layout_record.specs.RecordLayoutFaults.{nextField, Outcome, refusedAt, idsAt, rowFault, endIn, rowIn, rowsFrom, headIn, rowsAfter, readLayout, writeFault}
-use Rattle.layout_record.specs.RecordLayoutAnswer.{outcomeOf, answerOf, readAnswer, assignmentAfter, writeAnswer, outAfter}
-use Rattle.layout_record.proofs.IdBytes.{length-ids, getD-ids}
+use Rattle.layout_record.specs.RecordLayout.{headTable, layoutRecord, recordLength}
+use Rattle.layout_record.specs.RecordLayoutFaults.{nextField, LayoutRead, layoutRefused, layoutRowFault, endIn, rowIn, rowsFrom, HeadEnds, HeadRefused, headFrom, rowsAfter, readLayout, writeFault}
+use Rattle.layout_record.specs.RecordLayoutAnswer.{layoutOutcome, layoutAnswer, readLayoutOf, assignmentRead, writeAnswer, outAfter}
+use Rattle.fields.proofs.IdBytes.{length-ids, getD-ids}
 use Rattle.layout_record.proofs.CellsMore.{cells-more}
 use Rattle.layout_record.proofs.RowFaults.{end-whole, end-more}
 use Rattle.layout_record.proofs.FieldFaults.{none-refused}
@@ -35,17 +34,17 @@ module _ (s : List ℕ) (at : ℕ) (n : Numbers) (L : Layout) (k : ℕ) (some : 
       ap (λ (j : ℕ). rowsFrom j s at n L) e ∙ ap (rowIn (λ next M. rowsFrom (k - 1) s next n M) s at n L) (sym read)
 
   -- A field that is not whole stops the reading.
-  pub rows-stop : (r b : ℕ) → f ≡ Refused r b → rowsFrom k s at n L ≡ refusedAt r b
+  pub rows-stop : (r b : ℕ) → f ≡ Refused r b → rowsFrom k s at n L ≡ layoutRefused r b
   rows-stop r b e = first ∙ ap (rowIn (λ next M. rowsFrom (k - 1) s next n M) s at n L) e
 
   module _ (t start len x : ℕ) (whole : f ≡ Body t start len)
-      (fault : x ≡ rowFault (2 ^ (n .bits)) (length L) (numberAt s start 2) (idsAt s (start + 2) (n .replication))) where
+      (fault : x ≡ layoutRowFault (2 ^ (n .bits)) (length L) (numberAt s start 2) (idsAt s (start + 2) (n .replication))) where
     -- So does a row with a fault.
-    pub rows-fault : (x ≡ 0 → ⊥) → rowsFrom k s at n L ≡ refusedAt x at
+    pub rows-fault : (x ≡ 0 → ⊥) → rowsFrom k s at n L ≡ layoutRefused x at
     rows-fault h =
         first
         ∙ (ap (rowIn (λ next M. rowsFrom (k - 1) s next n M) s at n L) whole
-        ∙ (ap (λ (q : ℕ). cond (eqb q 0) (rowsFrom (k - 1) s (start + len) n (L ++ (idsAt s (start + 2) (n .replication) ∷ []))) (refusedAt q at)) (sym fault)
+        ∙ (ap (λ (q : ℕ). cond (eqb q 0) (rowsFrom (k - 1) s (start + len) n (L ++ (idsAt s (start + 2) (n .replication) ∷ []))) (layoutRefused q at)) (sym fault)
         ∙ simp (ne-eqb x 0 h)))
 
     -- Else the reading goes on after the row.
@@ -53,7 +52,7 @@ module _ (s : List ℕ) (at : ℕ) (n : Numbers) (L : Layout) (k : ℕ) (some : 
     rows-on h =
         first
         ∙ (ap (rowIn (λ next M. rowsFrom (k - 1) s next n M) s at n L) whole
-        ∙ (ap (λ (q : ℕ). cond (eqb q 0) (rowsFrom (k - 1) s (start + len) n (L ++ (idsAt s (start + 2) (n .replication) ∷ []))) (refusedAt q at)) (sym fault)
+        ∙ (ap (λ (q : ℕ). cond (eqb q 0) (rowsFrom (k - 1) s (start + len) n (L ++ (idsAt s (start + 2) (n .replication) ∷ []))) (layoutRefused q at)) (sym fault)
         ∙ simp (eq-eqb x 0 h)))
 
 -- No row is left.
@@ -64,8 +63,8 @@ rows-done s at n L k e = ap (λ (j : ℕ). rowsFrom j s at n L) e
 -- An end without refusal has the rows.
 pub end-layout : (s : List ℕ) (at : ℕ) (n : Numbers) (L : Layout) → endIn s at n L .refusal ≡ 0 → endIn s at n L .layout ≡ L
 end-layout s at n L h =
-    ⊎-elim (λ l. absurd (omega (arith, none-refused s at 0, ap (λ (o : Outcome). o .refusal) (end-more s at n L l))))
-    (λ g. ap (λ (o : Outcome). o .layout) (end-whole s at n L g)) (lt-or-ge at (length s))
+    ⊎-elim (λ l. absurd (omega (arith, none-refused s at 0, ap (λ (o : LayoutRead). o .refusal) (end-more s at n L l))))
+    (λ g. ap (λ (o : LayoutRead). o .layout) (end-whole s at n L g)) (lt-or-ge at (length s))
 
 -- The ids of a row that is read go into its cells.
 pub cells-next : (s cells : List ℕ) (L : Layout) (next start count : ℕ) → length L ≡ next → next < bufferRows → count ≤ rowCells → cells ≡ cellsOf L
@@ -79,50 +78,50 @@ cells-next s cells L next start count e inside few c =
 
 -- ---- the whole reading
 
-pub read-halted : (s : List ℕ) (r b : ℕ) → headIn s ≡ Halted r b → readLayout s ≡ refusedAt r b
+pub read-halted : (s : List ℕ) (r b : ℕ) → headFrom headTable s 0 [] ≡ HeadRefused r b → readLayout s ≡ layoutRefused r b
 unfolding readLayout
 read-halted s r b e = ap (rowsAfter s) e
 
-pub read-on : (s : List ℕ) (n : Numbers) (end : ℕ) → headIn s ≡ Read n end → readLayout s ≡ rowsFrom (2 ^ (n .bits)) s end n []
+pub read-on : (s : List ℕ) (n : Numbers) (end : ℕ) → headFrom headTable s 0 [] ≡ HeadEnds n end → readLayout s ≡ rowsFrom (2 ^ (n .bits)) s end n []
 unfolding readLayout
 read-on s n end e = ap (rowsAfter s) e
 
 -- ---- the answers of reading
 
 module _ (s cells : List ℕ) where
-  outcome-short : length cells < layoutCells → outcomeOf s cells ≡ refusedAt 8 0
-  unfolding outcomeOf
+  outcome-short : length cells < layoutCells → layoutOutcome s cells ≡ layoutRefused 8 0
+  unfolding layoutOutcome
   outcome-short h = simp (lt-ltb (length cells) layoutCells h)
 
-  outcome-long : layoutCells ≤ length cells → outcomeOf s cells ≡ readLayout s
-  unfolding outcomeOf
+  outcome-long : layoutCells ≤ length cells → layoutOutcome s cells ≡ readLayout s
+  unfolding layoutOutcome
   outcome-long h = simp (le-ltb (length cells) layoutCells h)
 
   -- A buffer that is too short is refused, and keeps its cells.
-  pub read-short : length cells < layoutCells → readAnswer s cells ≡ answerOf (refusedAt 8 0)
-  unfolding readAnswer
-  read-short h = ap answerOf (outcome-short h)
+  pub read-short : length cells < layoutCells → readLayoutOf s cells ≡ layoutAnswer (layoutRefused 8 0)
+  unfolding readLayoutOf
+  read-short h = ap layoutAnswer (outcome-short h)
 
-  pub short-kept : length cells < layoutCells → assignmentAfter s cells ≡ cells
-  unfolding assignmentAfter
+  pub short-kept : length cells < layoutCells → assignmentRead s cells ≡ cells
+  unfolding assignmentRead
   short-kept h =
-      ap (λ (o : Outcome). cond (eqb (o .refusal) 0) (cellsOf (o .layout) ++ drop layoutCells cells) cells) (outcome-short h)
+      ap (λ (o : LayoutRead). cond (eqb (o .refusal) 0) (cellsOf (o .layout) ++ drop layoutCells cells) cells) (outcome-short h)
 
   -- A buffer that is long enough has what the record says.
-  pub read-long : layoutCells ≤ length cells → readAnswer s cells ≡ answerOf (readLayout s)
-  unfolding readAnswer
-  read-long h = ap answerOf (outcome-long h)
+  pub read-long : layoutCells ≤ length cells → readLayoutOf s cells ≡ layoutAnswer (readLayout s)
+  unfolding readLayoutOf
+  read-long h = ap layoutAnswer (outcome-long h)
 
-  pub long-set : layoutCells ≤ length cells → readLayout s .refusal ≡ 0 → assignmentAfter s cells ≡ cellsOf (readLayout s .layout) ++ drop layoutCells cells
-  unfolding assignmentAfter
+  pub long-set : layoutCells ≤ length cells → readLayout s .refusal ≡ 0 → assignmentRead s cells ≡ cellsOf (readLayout s .layout) ++ drop layoutCells cells
+  unfolding assignmentRead
   long-set h e =
-      ap (λ (o : Outcome). cond (eqb (o .refusal) 0) (cellsOf (o .layout) ++ drop layoutCells cells) cells) (outcome-long h)
+      ap (λ (o : LayoutRead). cond (eqb (o .refusal) 0) (cellsOf (o .layout) ++ drop layoutCells cells) cells) (outcome-long h)
       ∙ simp (eq-eqb (readLayout s .refusal) 0 e)
 
-  pub long-kept : layoutCells ≤ length cells → (readLayout s .refusal ≡ 0 → ⊥) → assignmentAfter s cells ≡ cells
-  unfolding assignmentAfter
+  pub long-kept : layoutCells ≤ length cells → (readLayout s .refusal ≡ 0 → ⊥) → assignmentRead s cells ≡ cells
+  unfolding assignmentRead
   long-kept h e =
-      ap (λ (o : Outcome). cond (eqb (o .refusal) 0) (cellsOf (o .layout) ++ drop layoutCells cells) cells) (outcome-long h)
+      ap (λ (o : LayoutRead). cond (eqb (o .refusal) 0) (cellsOf (o .layout) ++ drop layoutCells cells) cells) (outcome-long h)
       ∙ simp (ne-eqb (readLayout s .refusal) 0 e)
 
 -- ---- the answers of writing

@@ -10,19 +10,18 @@ use lib.ListN.{length, drop, getD, length-append, length-drop}
 use lib.Seq.{drop-drop, drop-at}
 use borrow.Author.Tests.{eq-eqb, ne-eqb, le-leb}
 use Rattle.sums.proofs.Sum.{lt-or-ge, eq-or-ne}
-use Rattle.sets.specs.ModelBits.{withOf}
 use Rattle.cluster.specs.Terms.{mostCopies, bufferRows, Layout, row, mem, rising}
 use Rattle.sums.proofs.Tests.{true-or-false}
 use Rattle.cluster.proofs.Lists.{rising-fresh}
-use Rattle.fields.specs.RecordField.{bytesOf, Bytes, part, numberAt, field, ruleOf, legal, legalAs}
+use Rattle.fields.specs.RecordField.{bytesOf, Bytes, part, numberAt, field, ruleOf, legal, legalAs, idBytes, idsAt}
 use Rattle.fields.specs.declared.Field.{Field}
 use Rattle.fields.specs.declared.Field.the-variants.{Body, Refused}
 use Rattle.fields.proofs.Numbers.{length-bytes, bytes-there, number-here, part-append}
 use Rattle.fields.proofs.RecordField.{one-tag, legal-only, whole, field-back, field-here, body-here, rest-here}
 use Rattle.layout_record.specs.declared.Numbers.{Numbers}
-use Rattle.layout_record.specs.RecordLayout.{idBytes, rowField, rowFields}
-use Rattle.layout_record.specs.RecordLayoutFaults.{nextField, Outcome, accepted, refusedAt, idsAt, rowFault, endIn, rowIn, rowsFrom}
-use Rattle.layout_record.proofs.IdBytes.{length-ids, length-id-bytes, ids-here, ids-back, ids-words}
+use Rattle.layout_record.specs.RecordLayout.{layoutRowField, layoutRowFields}
+use Rattle.layout_record.specs.RecordLayoutFaults.{nextField, LayoutRead, layoutAccepted, layoutRefused, layoutRowFault, endIn, rowIn, rowsFrom}
+use Rattle.fields.proofs.IdBytes.{length-ids, length-id-bytes, ids-here, ids-back, ids-words}
 use Rattle.layout_record.proofs.CellsMore.{length-more}
 use Rattle.layout_record.proofs.NumberFields.{next-there}
 use Rattle.layout_record.proofs.RowFaults.{fault-partition, fault-zero, fault-next, fault-falls, fault-none, end-whole, end-more}
@@ -61,7 +60,7 @@ rest-rows R r M h =
 -- ---- what is read, is in the bytes
 
 -- A row without fault is the next, and its ids rise.
-pub no-row-fault : (partitions next p : ℕ) (ids : List ℕ) → rowFault partitions next p ids ≡ 0 → (p ≡ next) × (rising ids ≡ true)
+pub no-row-fault : (partitions next p : ℕ) (ids : List ℕ) → layoutRowFault partitions next p ids ≡ 0 → (p ≡ next) × (rising ids ≡ true)
 no-row-fault partitions next p ids z =
     ⊎-elim (λ inside. ⊎-elim (λ m. absurd (omega (arith, fault-zero partitions next p ids m)))
     (λ m. ⊎-elim (λ e. ⊎-elim (λ t. (e, t)) (λ t. absurd (omega (arith, fault-falls partitions next p ids inside m e t))) (true-or-false (rising ids)))
@@ -77,21 +76,21 @@ drop-none (x ∷ l) zero h = absurd (omega arith)
 drop-none (x ∷ l) (suc n) h = drop-none l n (omega arith)
 
 -- The rows that were read from byte `at` on, after those of L.
-pub record RowsRead (o : Outcome) (k : ℕ) (s : List ℕ) (at : ℕ) (n : Numbers) (L : Layout) : Type 0 where
+pub record RowsRead (o : LayoutRead) (k : ℕ) (s : List ℕ) (at : ℕ) (n : Numbers) (L : Layout) : Type 0 where
   pub rows : Layout
-  pub outcome : o ≡ accepted n (L ++ rows)
+  pub outcome : o ≡ layoutAccepted n (L ++ rows)
   pub count : length rows ≡ k
-  pub bytes : drop at s ≡ rowFields (length L) rows
+  pub bytes : drop at s ≡ layoutRowFields (length L) rows
   pub right : Rows (n .replication) rows
 
 module _ (s : List ℕ) (b : Bytes s) (n : Numbers) where
   ended-back : (at : ℕ) (L : Layout) → endIn s at n L .refusal ≡ 0 → RowsRead (endIn s at n L) 0 s at n L
-  unfolding rowFields
+  unfolding layoutRowFields
   ended-back at L h =
-      ⊎-elim (λ l. absurd (omega (arith, none-refused s at 0, ap (λ (o : Outcome). o .refusal) (end-more s at n L l))))
+      ⊎-elim (λ l. absurd (omega (arith, none-refused s at 0, ap (λ (o : LayoutRead). o .refusal) (end-more s at n L l))))
       (λ g. record {
         rows = [];
-        outcome = end-whole s at n L g ∙ ap (accepted n) (sym (append-nil L));
+        outcome = end-whole s at n L g ∙ ap (layoutAccepted n) (sym (append-nil L));
         count = refl;
         bytes = drop-none s at g;
         right = no-rows (n .replication);
@@ -105,17 +104,17 @@ module _ (s : List ℕ) (b : Bytes s) (n : Numbers) where
       ∙ ap₂ (λ (x y : List ℕ). x ++ y) (sym (bytes-there s start 2 b (omega arith)) ∙ ap (bytesOf 2) e) (sym (ids-back s (start + 2) R b (omega arith)))
 
   -- One row, and then those that the rest of the reading has.
-  row-back : (k at : ℕ) (L : Layout) (go : ℕ → Layout → Outcome) (t start len : ℕ)
+  row-back : (k at : ℕ) (L : Layout) (go : ℕ → Layout → LayoutRead) (t start len : ℕ)
       → nextField s at 10 (2 + 4 * n .replication) ≡ Body t start len
-      → rowFault (2 ^ (n .bits)) (length L) (numberAt s start 2) (idsAt s (start + 2) (n .replication)) ≡ 0
+      → layoutRowFault (2 ^ (n .bits)) (length L) (numberAt s start 2) (idsAt s (start + 2) (n .replication)) ≡ 0
       → RowsRead (go (start + len) (L ++ (idsAt s (start + 2) (n .replication) ∷ []))) k s (start + len) n (L ++ (idsAt s (start + 2) (n .replication) ∷ []))
       → RowsRead (go (start + len) (L ++ (idsAt s (start + 2) (n .replication) ∷ []))) (suc k) s at n L
-  unfolding rowFields rowField
+  unfolding layoutRowFields layoutRowField
   row-back k at L go t start len e z h =
       let R = n .replication in
       let ids = idsAt s (start + 2) R in
       let f = next-body s at 10 (2 + 4 * R) t start len e in
-      let w = whole s at (withOf 0 10) (2 + 4 * R) t start len f in
+      let w = whole s at (10 ∷ []) (2 + 4 * R) t start len f in
       let tag : t ≡ 10 = one-tag 10 t (w .member) in
       let long : len ≡ 2 + 4 * R = w .only (λ q. omega arith) in
       let ok = no-row-fault (2 ^ (n .bits)) (length L) (numberAt s start 2) ids z in
@@ -123,11 +122,11 @@ module _ (s : List ℕ) (b : Bytes s) (n : Numbers) where
       let next : length (L ++ (ids ∷ [])) ≡ suc (length L) = length-more L ids ∙ omega arith in
       record {
         rows = ids ∷ h .rows;
-        outcome = h .outcome ∙ ap (accepted n) (append-assoc L (ids ∷ []) (h .rows));
+        outcome = h .outcome ∙ ap (layoutAccepted n) (append-assoc L (ids ∷ []) (h .rows));
         count = ap suc (h .count);
         bytes =
-            field-back s at (withOf 0 10) (2 + 4 * R) t start len f b
-            ∙ ap₂ (λ (x y : List ℕ). x ++ y) (ap₂ field tag body) (h .bytes ∙ ap (λ (q : ℕ). rowFields q (h .rows)) next);
+            field-back s at (10 ∷ []) (2 + 4 * R) t start len f b
+            ∙ ap₂ (λ (x y : List ℕ). x ++ y) (ap₂ field tag body) (h .bytes ∙ ap (λ (q : ℕ). layoutRowFields q (h .rows)) next);
         right = more-rows R ids (h .rows) (length-ids s (start + 2) R) (ok .1) (λ j. ids-words s (start + 2) R j b) (h .right);
       }
 
@@ -144,16 +143,16 @@ module _ (s : List ℕ) (b : Bytes s) (n : Numbers) where
           → RowsRead (rowIn (λ next M. rowsFrom k s next n M) s at n L f) (suc k) s at n L
       go (Refused r y) e i q = absurd (omega (arith, next-refused s at 10 (2 + 4 * n .replication) r y e))
       go (Body t start len) e i q =
-          let fault = rowFault (2 ^ (n .bits)) (length L) (numberAt s start 2) (idsAt s (start + 2) (n .replication)) in
+          let fault = layoutRowFault (2 ^ (n .bits)) (length L) (numberAt s start 2) (idsAt s (start + 2) (n .replication)) in
           let M = L ++ (idsAt s (start + 2) (n .replication) ∷ []) in
           ⊎-elim
           (λ z. let p : rowIn (λ next M. rowsFrom k s next n M) s at n L (Body t start len) ≡ rowsFrom k s (start + len) n M =
-          ap (λ (x : Bool). cond x (rowsFrom k s (start + len) n M) (refusedAt fault at)) (eq-eqb fault 0 z) in
-          subst (λ (o : Outcome). RowsRead o (suc k) s at n L) (sym p)
+          ap (λ (x : Bool). cond x (rowsFrom k s (start + len) n M) (layoutRefused fault at)) (eq-eqb fault 0 z) in
+          subst (λ (o : LayoutRead). RowsRead o (suc k) s at n L) (sym p)
           (row-back k at L (λ next M. rowsFrom k s next n M) t start len e z
-          (i (start + len) M (sym (ap (λ (o : Outcome). o .refusal) p) ∙ q))))
+          (i (start + len) M (sym (ap (λ (o : LayoutRead). o .refusal) p) ∙ q))))
           (λ z. absurd
-          (z (sym (ap (λ (x : Bool). cond x (rowsFrom k s (start + len) n M) (refusedAt fault at) .refusal) (ne-eqb fault 0 z)) ∙ q)))
+          (z (sym (ap (λ (x : Bool). cond x (rowsFrom k s (start + len) n M) (layoutRefused fault at) .refusal) (ne-eqb fault 0 z)) ∙ q)))
           (eq-or-ne fault 0)
 
 -- ---- what is in the bytes, is read
@@ -169,21 +168,21 @@ legal-ten R some few =
 
 module _ (s : List ℕ) (n : Numbers) (few : n .replication ≤ mostCopies) (some : 1 ≤ n .replication) (within : 2 ^ (n .bits) ≤ bufferRows) where
   -- Rows that stand at a byte, up to the end and to the last partition, are read.
-  pub rows-found : (M L : Layout) (at : ℕ) → drop at s ≡ rowFields (length L) M → length L + length M ≡ 2 ^ (n .bits) → Rows (n .replication) M
-      → rowsFrom (length M) s at n L ≡ accepted n (L ++ M)
-  unfolding rowsFrom rowFields rowField
+  pub rows-found : (M L : Layout) (at : ℕ) → drop at s ≡ layoutRowFields (length L) M → length L + length M ≡ 2 ^ (n .bits) → Rows (n .replication) M
+      → rowsFrom (length M) s at n L ≡ layoutAccepted n (L ++ M)
+  unfolding rowsFrom layoutRowFields layoutRowField
   rows-found [] L at e c h =
-      end-whole s at n L (omega (arith, ap length e, length-drop at s)) ∙ ap (accepted n) (sym (append-nil L))
+      end-whole s at n L (omega (arith, ap length e, length-drop at s)) ∙ ap (layoutAccepted n) (sym (append-nil L))
   rows-found (r ∷ M) L at e c h = go (rows-found M (L ++ (r ∷ [])) (at + 3 + (2 + 4 * n .replication)))
     where
-      go : (drop (at + 3 + (2 + 4 * n .replication)) s ≡ rowFields (length (L ++ (r ∷ []))) M → length (L ++ (r ∷ [])) + length M ≡ 2 ^ (n .bits)
-          → Rows (n .replication) M → rowsFrom (length M) s (at + 3 + (2 + 4 * n .replication)) n (L ++ (r ∷ [])) ≡ accepted n (L ++ (r ∷ []) ++ M))
-          → rowIn (λ next K. rowsFrom (length M) s next n K) s at n L (nextField s at 10 (2 + 4 * n .replication)) ≡ accepted n (L ++ (r ∷ M))
+      go : (drop (at + 3 + (2 + 4 * n .replication)) s ≡ layoutRowFields (length (L ++ (r ∷ []))) M → length (L ++ (r ∷ [])) + length M ≡ 2 ^ (n .bits)
+          → Rows (n .replication) M → rowsFrom (length M) s (at + 3 + (2 + 4 * n .replication)) n (L ++ (r ∷ [])) ≡ layoutAccepted n (L ++ (r ∷ []) ++ M))
+          → rowIn (λ next K. rowsFrom (length M) s next n K) s at n L (nextField s at 10 (2 + 4 * n .replication)) ≡ layoutAccepted n (L ++ (r ∷ M))
       go i =
           let p = length L in
           let R = n .replication in
           let body = bytesOf 2 p ++ idBytes r in
-          let rest = rowFields (suc p) M in
+          let rest = layoutRowFields (suc p) M in
           let many : length r ≡ R = h .many 0 (omega arith) in
           let up : rising r ≡ true = h .ids 0 (omega arith) in
           let long : length body ≡ 2 + 4 * R =
@@ -191,7 +190,7 @@ module _ (s : List ℕ) (n : Numbers) (few : n .replication ≤ mostCopies) (som
           let right : legal 10 (2 + 4 * R) ≡ true = legal-ten R some few in
           let field′ : nextField s at 10 (2 + 4 * R) ≡ Body 10 (at + 3) (2 + 4 * R) =
           next-there s at 10 (2 + 4 * R) (before-end s rest body at 10 e)
-          ∙ (field-here s rest body at 10 e (withOf 0 10) (2 + 4 * R) (tag-alone 10 (omega arith))
+          ∙ (field-here s rest body at 10 e (10 ∷ []) (2 + 4 * R) (tag-alone 10)
           (ap (legalAs (2 + 4 * R) 10) long ∙ legal-only 10 (2 + 4 * R) right)
           ∙ ap (λ (q : ℕ). Body 10 (at + 3) q) long) in
           let here : drop (at + 3) s ≡ bytesOf 2 p ++ (idBytes r ++ rest) = body-here s rest body at 10 e ∙ append-assoc (bytesOf 2 p) (idBytes r) rest in
@@ -199,15 +198,15 @@ module _ (s : List ℕ) (n : Numbers) (few : n .replication ≤ mostCopies) (som
           let after : drop (at + 3 + 2) s ≡ idBytes r ++ rest =
           sym (drop-drop 2 (at + 3) s) ∙ (ap (drop 2) here ∙ drop-at (bytesOf 2 p) (idBytes r ++ rest) 2 (length-bytes 2 p)) in
           let ids : idsAt s (at + 3 + 2) R ≡ r = ap (idsAt s (at + 3 + 2)) (sym many) ∙ ids-here s rest (at + 3 + 2) r after (λ j. h .words 0 j) in
-          let fault : rowFault (2 ^ (n .bits)) p (numberAt s (at + 3) 2) (idsAt s (at + 3 + 2) R) ≡ 0 =
-          ap₂ (rowFault (2 ^ (n .bits)) p) number ids
+          let fault : layoutRowFault (2 ^ (n .bits)) p (numberAt s (at + 3) 2) (idsAt s (at + 3 + 2) R) ≡ 0 =
+          ap₂ (layoutRowFault (2 ^ (n .bits)) p) number ids
           ∙ fault-none (2 ^ (n .bits)) p p r (omega arith) (rising-fresh 0 0 r up (omega arith)) refl up in
           let next : length (L ++ (r ∷ [])) ≡ suc p = length-more L r ∙ omega arith in
           ap (rowIn (λ q K. rowsFrom (length M) s q n K) s at n L) field′
           ∙ (ap (λ (x : Bool). cond x (rowsFrom (length M) s (at + 3 + (2 + 4 * R)) n (L ++ (idsAt s (at + 3 + 2) R ∷ [])))
-          (refusedAt (rowFault (2 ^ (n .bits)) p (numberAt s (at + 3) 2) (idsAt s (at + 3 + 2) R)) at))
-          (eq-eqb (rowFault (2 ^ (n .bits)) p (numberAt s (at + 3) 2) (idsAt s (at + 3 + 2) R)) 0 fault)
+          (layoutRefused (layoutRowFault (2 ^ (n .bits)) p (numberAt s (at + 3) 2) (idsAt s (at + 3 + 2) R)) at))
+          (eq-eqb (layoutRowFault (2 ^ (n .bits)) p (numberAt s (at + 3) 2) (idsAt s (at + 3 + 2) R)) 0 fault)
           ∙ (ap (λ (l : List ℕ). rowsFrom (length M) s (at + 3 + (2 + 4 * R)) n (L ++ (l ∷ []))) ids
-          ∙ (i (ap (λ (q : ℕ). drop (at + 3 + q) s) (sym long) ∙ (rest-here s rest body at 10 e ∙ ap (λ (q : ℕ). rowFields q M) (sym next)))
+          ∙ (i (ap (λ (q : ℕ). drop (at + 3 + q) s) (sym long) ∙ (rest-here s rest body at 10 e ∙ ap (λ (q : ℕ). layoutRowFields q M) (sym next)))
           (omega (arith, length-more L r)) (rest-rows R r M h)
-          ∙ ap (accepted n) (append-assoc L (r ∷ []) M))))
+          ∙ ap (layoutAccepted n) (append-assoc L (r ∷ []) M))))

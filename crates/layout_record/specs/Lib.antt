@@ -1,4 +1,5 @@
 pub mod ModelReading
 pub mod RecordLayout
 pub mod RecordLayoutAnswer
+pub mod RecordLayoutClaims
 pub mod RecordLayoutFaults

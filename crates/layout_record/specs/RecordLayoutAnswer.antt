@@ -11,25 +11,25 @@ use Rattle.layout_record.specs.declared.Numbers.{Numbers}
 use Rattle.layout_record.specs.declared.ReadLayout.{ReadLayout}
 use Rattle.layout_record.specs.declared.Written.{Written}
 use Rattle.layout_record.specs.RecordLayout.{layoutRecord, recordLength}
-use Rattle.layout_record.specs.RecordLayoutFaults.{Outcome, refusedAt, readLayout, writeFault}
+use Rattle.layout_record.specs.RecordLayoutFaults.{LayoutRead, layoutRefused, readLayout, writeFault}
 
 -- "8 for the assignment buffer", with byte 0; then field by field.
-unfoldable pub outcomeOf : List ℕ → List ℕ → Outcome
-outcomeOf s cells = cond (ltb (length cells) layoutCells) (refusedAt 8 0) (readLayout s)
+unfoldable pub layoutOutcome : List ℕ → List ℕ → LayoutRead
+layoutOutcome s cells = cond (ltb (length cells) layoutCells) (layoutRefused 8 0) (readLayout s)
 
 -- What an outcome answers.
-unfoldable pub answerOf : Outcome → ReadLayout
-answerOf o = record { refusal = o .refusal; byte = o .byte; numbers = o .numbers }
+unfoldable pub layoutAnswer : LayoutRead → ReadLayout
+layoutAnswer o = record { refusal = o .refusal; byte = o .byte; numbers = o .numbers }
 
 -- The answer for the bytes s and the lent cells.
-unfoldable pub readAnswer : List ℕ → List ℕ → ReadLayout
-readAnswer s cells = answerOf (outcomeOf s cells)
+unfoldable pub readLayoutOf : List ℕ → List ℕ → ReadLayout
+readLayoutOf s cells = layoutAnswer (layoutOutcome s cells)
 
 -- "On success, reading sets all 2,048 assignment cells. On refusal these cells keep what was lent"; "Cells beyond these numbers are never
 -- touched."
-unfoldable pub assignmentAfter : List ℕ → List ℕ → List ℕ
-assignmentAfter s cells =
-    cond (eqb (outcomeOf s cells .refusal) 0) (cellsOf (outcomeOf s cells .layout) ++ drop layoutCells cells) cells
+unfoldable pub assignmentRead : List ℕ → List ℕ → List ℕ
+assignmentRead s cells =
+    cond (eqb (layoutOutcome s cells .refusal) 0) (cellsOf (layoutOutcome s cells .layout) ++ drop layoutCells cells) cells
 
 -- "It answers the record's length."
 unfoldable pub writeAnswer : Numbers → List ℕ → List ℕ → Written

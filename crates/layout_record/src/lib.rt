@@ -1,7 +1,7 @@
 // Layout records, read and written: the numbers of a layout and its rows.
 ghost use mathlib.Core.Path.{_≡_};
-ghost use Rattle.layout_record.specs.RecordLayoutFaults.{noNumbers, refusedAt};
-ghost use Rattle.layout_record.specs.RecordLayoutAnswer.{answerOf, readAnswer, assignmentAfter, writeAnswer, outAfter};
+ghost use Rattle.layout_record.specs.RecordLayoutFaults.{noNumbers, layoutRefused};
+ghost use Rattle.layout_record.specs.RecordLayoutAnswer.{layoutAnswer, readLayoutOf, assignmentRead, writeAnswer, outAfter};
 use cluster::Cluster;
 use cluster::refusal;
 
@@ -9,6 +9,7 @@ mod head;
 mod ids;
 mod range;
 mod rows;
+mod table;
 mod write;
 
 // The numbers of a layout record.
@@ -22,15 +23,6 @@ pub struct Numbers {
 }
 
 impl Numbers {
-    // The largest size.
-    pub const SIZE: u32 = 4294967295;
-    // The largest distance.
-    pub const DISTANCE: u32 = 4096;
-    // The larger verdict: 1 finished, 0 stopped.
-    pub const VERDICT: u32 = 1;
-    // The most improvements.
-    pub const IMPROVEMENTS: u32 = 2048;
-
     // The numbers of a refused reading.
     pub fn none() -> Numbers
         ensures { λ r. ⌜ r ≡ noNumbers ⌝ }
@@ -61,7 +53,7 @@ pub struct Written {
 
 // A refused reading yields no numbers.
 fn refused(refusal: u32, byte: usize) -> ReadLayout
-    ensures { λ r. ⌜ r ≡ answerOf (refusedAt refusal byte) ⌝ }
+    ensures { λ r. ⌜ r ≡ layoutAnswer (layoutRefused refusal byte) ⌝ }
 {
     ReadLayout {
         refusal,
@@ -73,8 +65,8 @@ fn refused(refusal: u32, byte: usize) -> ReadLayout
 // Reads a layout record. The layout goes into the first 2,048 lent cells, all of them or, where the reading is refused,
 // none.
 pub fn read_layout(bytes: &[u8], assignment: &mut [u32]) -> ReadLayout
-    ensures { λ r. ⌜ (r ≡ readAnswer (now (bytes .entry)) (now (assignment .entry)))
-        × (now (assignment .exit) ≡ assignmentAfter (now (bytes .entry)) (now (assignment .entry))) ⌝ }
+    ensures { λ r. ⌜ (r ≡ readLayoutOf (now (bytes .entry)) (now (assignment .entry)))
+        × (now (assignment .exit) ≡ assignmentRead (now (bytes .entry)) (now (assignment .entry))) ⌝ }
 {
     if assignment.len() < Cluster::CELLS {
         return refused(refusal::BUFFER, 0);

@@ -3,15 +3,17 @@ ghost use mathlib.Core.Path.{_≡_};
 ghost use Prim.Native.Nat.{_^_, _≤_, _<_};
 ghost use lib.ListN.{length};
 ghost use Rattle.cluster.specs.Terms.{mostBits, mostCopies, bufferRows, layoutCells};
-ghost use Rattle.layout_record.specs.RecordLayout.{recordLength};
-ghost use Rattle.layout_record.specs.RecordLayoutFaults.{numbersFit, rowFits, rowsFit, writeFault};
+ghost use Rattle.layout_record.specs.RecordLayout.{inRange, recordLength};
+ghost use Rattle.layout_record.specs.RecordLayoutFaults.{rowFits, rowsFit, writeFault};
 use super::Numbers;
+use super::table;
+use super::table::Entry;
 use cluster::Cluster;
 use cluster::refusal;
 use cluster::rows;
 
 // The bytes of the fields before the rows.
-pub const HEAD: usize = 29;
+pub const HEAD_BYTES: usize = 29;
 // The bytes of a row's field before its ids.
 pub const ROW: usize = 5;
 
@@ -28,32 +30,23 @@ pub(crate) fn record_length(bits: u32, replication: u32) -> usize
     requires { ⌜ (bits ≤ mostBits) × (replication ≤ mostCopies) ⌝ }
     ensures { λ r. ⌜ r ≡ recordLength bits replication ⌝ }
 {
-    HEAD + partitions(bits) * (ROW + 4 * (replication as usize))
+    HEAD_BYTES + partitions(bits) * (ROW + 4 * (replication as usize))
 }
 
 // Whether each number is in its range.
 fn in_range(n: Numbers) -> bool
-    ensures { λ r. ⌜ r ≡ numbersFit n ⌝ }
+    ensures { λ r. ⌜ r ≡ inRange n ⌝ }
 {
-    if Cluster::BITS < n.bits {
-        return false;
+    let values = table::numbers_in(n);
+    let mut i = 0;
+    while i < table::HEAD.len() {
+        let entry = Entry::at(i);
+        if !entry.holds(values[i]) {
+            return false;
+        }
+        i += 1;
     }
-    if n.replication == 0 {
-        return false;
-    }
-    if Cluster::REPLICATION < n.replication {
-        return false;
-    }
-    if n.size == 0 {
-        return false;
-    }
-    if Numbers::DISTANCE < n.distance {
-        return false;
-    }
-    if Numbers::VERDICT < n.verdict {
-        return false;
-    }
-    n.improvements <= Numbers::IMPROVEMENTS
+    true
 }
 
 // Whether one row is as it must be: so many rising ids and then zeros below `partitions`, and zeros from there on.

@@ -4,9 +4,9 @@ ghost use mathlib.Core.List.{[], _++_};
 ghost use Prim.Native.Nat.{_+_, _*_, _^_, _≤_};
 ghost use lib.ListN.{length, drop, replicate};
 ghost use Rattle.cluster.specs.Terms.{mostBits, mostCopies, layoutCells, Layout, cellsOf};
-ghost use Rattle.fields.specs.RecordField.{numberAt};
-ghost use Rattle.layout_record.specs.RecordLayoutFaults.{idsAt, rowFault, endIn, rowsFrom, readLayout};
-ghost use Rattle.layout_record.specs.RecordLayoutAnswer.{answerOf};
+ghost use Rattle.fields.specs.RecordField.{numberAt, idsAt};
+ghost use Rattle.layout_record.specs.RecordLayoutFaults.{layoutRowFault, endIn, rowsFrom, readLayout};
+ghost use Rattle.layout_record.specs.RecordLayoutAnswer.{layoutAnswer};
 use super::Numbers;
 use super::ReadLayout;
 use super::head;
@@ -22,19 +22,19 @@ use fields::Field;
 // ids that do not rise; 0 where there is none.
 fn row_fault(bytes: &[u8], start: usize, partitions: usize, next: usize, count: usize) -> u32
     requires { ⌜ start + 2 + 4 * count ≤ length (now bytes) ⌝ }
-    ensures { λ r. ⌜ r ≡ rowFault partitions next (numberAt (now (bytes .entry)) start 2) (idsAt (now (bytes .entry)) (start + 2) count) ⌝ }
+    ensures { λ r. ⌜ r ≡ layoutRowFault partitions next (numberAt (now (bytes .entry)) start 2) (idsAt (now (bytes .entry)) (start + 2) count) ⌝ }
 {
     let partition = fields::pair_at(bytes, start) as usize;
     if partitions <= partition {
         return refusal::RANGE;
     }
-    if ids::has_zero(bytes, start + 2, count) {
+    if fields::ids::has_zero(bytes, start + 2, count) {
         return refusal::RANGE;
     }
     if partition != next {
         return refusal::ORDER;
     }
-    if ids::ids_rise(bytes, start + 2, count) {
+    if fields::ids::ids_rise(bytes, start + 2, count) {
         0
     } else {
         refusal::ORDER
@@ -43,7 +43,7 @@ fn row_fault(bytes: &[u8], start: usize, partitions: usize, next: usize, count: 
 
 // What is said after the last row: no field is allowed there.
 fn ended(bytes: &[u8], at: usize, numbers: Numbers) -> ReadLayout
-    ensures { λ r. ⌜ ((L : Layout) → r ≡ answerOf (endIn (now (bytes .entry)) at numbers L)) ⌝ }
+    ensures { λ r. ⌜ ((L : Layout) → r ≡ layoutAnswer (endIn (now (bytes .entry)) at numbers L)) ⌝ }
 {
     if bytes.len() <= at {
         return ReadLayout {
@@ -59,7 +59,7 @@ fn ended(bytes: &[u8], at: usize, numbers: Numbers) -> ReadLayout
 // Reads the rows from byte `from` on into cells that are zero.
 fn read_rows(bytes: &[u8], from: usize, numbers: Numbers, cells: &mut [u32]) -> ReadLayout
     requires { ⌜ (numbers .bits ≤ mostBits) × (1 ≤ numbers .replication) × (numbers .replication ≤ mostCopies) × (now cells ≡ cellsOf []) ⌝ }
-    ensures { λ r. ⌜ (r ≡ answerOf (rowsFrom (2 ^ (numbers .bits)) (now (bytes .entry)) from numbers []))
+    ensures { λ r. ⌜ (r ≡ layoutAnswer (rowsFrom (2 ^ (numbers .bits)) (now (bytes .entry)) from numbers []))
         × (r .refusal ≡ 0 → now (cells .exit) ≡ cellsOf (rowsFrom (2 ^ (numbers .bits)) (now (bytes .entry)) from numbers [] .layout)) ⌝ }
 {
     let partitions = range::partitions(numbers.bits);
@@ -85,14 +85,14 @@ fn read_rows(bytes: &[u8], from: usize, numbers: Numbers, cells: &mut [u32]) -> 
 // Reads a record into cells that are zero.
 pub(crate) fn read_into(bytes: &[u8], cells: &mut [u32]) -> ReadLayout
     requires { ⌜ now cells ≡ replicate layoutCells 0 ⌝ }
-    ensures { λ r. ⌜ (r ≡ answerOf (readLayout (now (bytes .entry))))
+    ensures { λ r. ⌜ (r ≡ layoutAnswer (readLayout (now (bytes .entry))))
         × (r .refusal ≡ 0 → now (cells .exit) ≡ cellsOf (readLayout (now (bytes .entry)) .layout)) ⌝ }
 {
     let h = head::read_head(bytes);
-    let Head::Read(numbers, end) = h else {
-        return refused(head::refusal_of(h), head::place_of(h));
-    };
-    read_rows(bytes, end, numbers, cells)
+    match h {
+        Head::Read(numbers, end) => read_rows(bytes, end, numbers, cells),
+        Head::Halted(refusal, byte) => refused(refusal, byte),
+    }
 }
 
 // Copies the cells of a layout to the front of a lent buffer.

@@ -6,11 +6,13 @@ ghost use mathlib.Core.Logic.{_⊎_};
 ghost use Prim.Native.Nat.{_+_, _*_, _^_, _≤_, _<_};
 ghost use lib.ListN.{length, take, drop};
 ghost use Rattle.cluster.specs.Terms.{mostCopies, bufferRows, layoutCells, rowAt, rowsIn};
-ghost use Rattle.fields.specs.RecordField.{bytesOf, written, over, field};
-ghost use Rattle.layout_record.specs.RecordLayout.{numberFields, idBytes, rowField, rowFields, layoutRecord};
+ghost use Rattle.fields.specs.RecordField.{bytesOf, written, over, field, idBytes};
+ghost use Rattle.layout_record.specs.RecordLayout.{headFields, layoutRowField, layoutRowFields, layoutRecord};
 ghost use Rattle.layout_record.specs.RecordLayoutFaults.{rowsFit, writeFault};
 use super::Numbers;
 use super::range;
+use super::table;
+use super::table::Entry;
 use cluster::Cluster;
 
 // Puts the tag and the length of a field.
@@ -42,14 +44,17 @@ fn put_number(out: &mut [u8], at: usize, tag: u32, width: usize, value: u32)
 // Puts the fields before the rows.
 fn put_numbers(out: &mut [u8], n: Numbers)
     requires { ⌜ 29 ≤ length (now out) ⌝ }
-    ensures { λ _. ⌜ now (out .exit) ≡ written (now (out .entry)) 0 (numberFields n) ⌝ }
+    ensures { λ _. ⌜ now (out .exit) ≡ written (now (out .entry)) 0 (headFields n) ⌝ }
 {
-    put_number(out, 0, 1, 1, n.bits);
-    put_number(out, 4, 2, 1, n.replication);
-    put_number(out, 8, 6, 4, n.size);
-    put_number(out, 15, 7, 2, n.distance);
-    put_number(out, 20, 8, 1, n.verdict);
-    put_number(out, 24, 9, 2, n.improvements);
+    let values = table::numbers_in(n);
+    let mut at = 0;
+    let mut i = 0;
+    while i < table::HEAD.len() {
+        let entry = Entry::at(i);
+        put_number(out, at, entry.tag, entry.width, values[i]);
+        at += 3 + entry.width;
+        i += 1;
+    }
 }
 
 // Puts the ids in the cells from `from` on, four bytes each.
@@ -67,7 +72,7 @@ fn put_ids(out: &mut [u8], at: usize, cells: &[u32], from: usize, count: usize)
 // Puts the field of a row.
 fn put_row(out: &mut [u8], at: usize, cells: &[u32], p: usize, count: usize)
     requires { ⌜ (at + 5 + 4 * count ≤ length (now out)) × (layoutCells ≤ length (now cells)) × (p < bufferRows) × (count ≤ mostCopies) ⌝ }
-    ensures { λ _. ⌜ now (out .exit) ≡ written (now (out .entry)) at (rowField p (take count (rowAt (now (cells .entry)) p))) ⌝ }
+    ensures { λ _. ⌜ now (out .exit) ≡ written (now (out .entry)) at (layoutRowField p (take count (rowAt (now (cells .entry)) p))) ⌝ }
 {
     put_head(out, at, 10, 2 + 4 * count);
     fields::put_pair(out, at + 3, p as u32);
@@ -78,9 +83,9 @@ fn put_row(out: &mut [u8], at: usize, cells: &[u32], p: usize, count: usize)
 fn put_rows(out: &mut [u8], cells: &[u32], partitions: usize, count: usize)
     requires { ⌜ (29 + partitions * (5 + 4 * count) ≤ length (now out)) × (layoutCells ≤ length (now cells)) × (partitions ≤ bufferRows)
         × (count ≤ mostCopies) × (rowsFit (now cells) partitions count ≡ true) ⌝ }
-    ensures { λ _. ⌜ now (out .exit) ≡ written (now (out .entry)) 29 (rowFields 0 (rowsIn partitions (now (cells .entry)))) ⌝ }
+    ensures { λ _. ⌜ now (out .exit) ≡ written (now (out .entry)) 29 (layoutRowFields 0 (rowsIn partitions (now (cells .entry)))) ⌝ }
 {
-    let mut at = range::HEAD;
+    let mut at = range::HEAD_BYTES;
     let mut p = 0;
     while p < partitions {
         put_row(out, at, cells, p, count);

@@ -12,11 +12,10 @@ use Rattle.cluster.specs.Terms.{bufferRows, layoutCells, Topology, topology, pa
 use Rattle.cluster.specs.ModelRows.{FitsCells, HoldsRows}
 use Rattle.cluster.specs.TermsReading.{Accepted}
 use Rattle.cluster.specs.declared.Cluster.{Cluster}
-use Rattle.cluster.proofs.Accepting.{accepted}
+use Rattle.cluster.proofs.Accepting.{few-partitions, accepted}
 use Rattle.cluster.proofs.CellLayouts.{length-rowsIn, row-rowsIn, rowAt-take, rowsIn-take, rowsIn-cellsOf, holds-cellsOf, cellsOf-rowsIn}
 use Rattle.layouts.specs.declared.check.Checked.{Checked}
 use Rattle.layouts.specs.TermsCheck.{fault, passed, rowFault, rowsFault, nodeFault, nodesFault, checkOf}
-use Rattle.layouts.proofs.Sound.{few-rows}
 use Rattle.layouts.proofs.FaultMeaning.{own-row, row-own, other-row, row-other, node-held, held-node, each-row}
 use Rattle.layouts.proofs.CheckOrder.{none-found, find-none, sound, no-cluster-fault, order-nodes, all-pass}
 
@@ -33,7 +32,7 @@ pub record Passes (c : Cluster) (cells : List ℕ) (size : ℕ) : Type 0 where
 -- A valid layout of an accepted cluster fits the cells.
 pub valid-fits : (t : Topology) (L : Layout) (size : ℕ) → Accepted t → ValidAt t L size → FitsCells L
 valid-fits t L size a v = record {
-  few-rows = omega (arith, v .partition-rows, few-rows t a);
+  few-rows = omega (arith, v .partition-rows, few-partitions (t .bits) (a .bits));
   ids = λ p l. v .rows p (omega (arith, v .partition-rows)) .ids;
   few = λ p l. omega (arith, v .rows p (omega (arith, v .partition-rows)) .many, a .replication);
 }
@@ -44,7 +43,7 @@ check-layout c cells size h =
     let t = topology c in
     let a = accepted c (h .accepted-cluster) in
     sym
-    (sym (rowsIn-take (partitions t) cells (few-rows t a))
+    (sym (rowsIn-take (partitions t) cells (few-partitions (t .bits) (a .bits)))
     ∙ (ap₂ rowsIn (sym (h .valid .partition-rows)) (h .written) ∙ rowsIn-cellsOf (h .layout) (valid-fits t (h .layout) size a (h .valid))))
 
 -- The cells hold its rows.
@@ -56,9 +55,9 @@ check-holds c cells size h =
     let e = h .valid .partition-rows in
     let same : (p : ℕ) → p < bufferRows → rowAt (cellsOf (h .layout)) p ≡ rowAt cells p = λ p l. ap (λ (r : List ℕ). rowAt r p) (sym (h .written)) ∙ rowAt-take cells p l in
     record {
-      few-rows = few-rows t a;
+      few-rows = few-partitions (t .bits) (a .bits);
       whole = h .whole;
-      ids = λ p l. ap (λ (r : List ℕ). formed r) (sym (same p (omega (arith, few-rows t a)))) ∙ k .ids p (omega (arith, e));
+      ids = λ p l. ap (λ (r : List ℕ). formed r) (sym (same p (omega (arith, few-partitions (t .bits) (a .bits))))) ∙ k .ids p (omega (arith, e));
       zeros = λ p l m. ap (λ (r : List ℕ). blank r) (sym (same p m)) ∙ k .zeros p (omega (arith, e)) m;
     }
 
@@ -75,7 +74,7 @@ module _ (c : Cluster) (cells : List ℕ) (size : ℕ) where
       let w = all-pass c cells size e in
       let s = sound c size (w .1) in
       let rows : (p : ℕ) → p < bufferRows → rowFault t cells p ≡ 0 = each-row t cells (w .2) in
-      let few = few-rows t (accepted c (s .0)) in
+      let few = few-partitions (t .bits) (accepted c (s .0) .bits) in
       let own : (p : ℕ) → p < partitions t → (formed (rowAt cells p) ≡ true) × ValidRow t (idsIn (rowAt cells p)) = λ p l. own-row t cells p l (rows p (omega arith)) in
       let holds : HoldsRows (partitions t) cells = record {
         few-rows = few;

@@ -10,7 +10,7 @@ use lib.Dec.{ltb, eqb}
 use lib.ListN.{length}
 use borrow.Author.Tests.{lt-ltb, le-ltb, eq-eqb, ne-eqb, eqb-true, eqb-false}
 use Rattle.sums.proofs.Sum.{lt-or-ge, eq-or-ne}
-use Rattle.cluster.specs.Terms.{layoutCells, topology, partitions, rowsIn, faultOf}
+use Rattle.cluster.specs.Terms.{mostNodes, layoutCells, topology, partitions, rowsIn, faultOf}
 use Rattle.cluster.specs.declared.Cluster.{Cluster}
 use Rattle.layouts.specs.declared.check.Checked.{Checked}
 use Rattle.layouts.specs.TermsCheck.{fault, passed, firstFrom, clusterFault, rowsFault, nodesFault, checkOf}
@@ -44,7 +44,7 @@ find-none (suc n) i f h =
 -- The fault of the cluster and of the size is none exactly where the cluster has none and the size is not 0.
 pub sound : (c : Cluster) (size : ℕ) → clusterFault c size ≡ 0 → (faultOf c ≡ 0) × (1 ≤ size)
 unfolding clusterFault
-sound c size e = go (ltb 32 (c .count)) (eqb size 0) refl e
+sound c size e = go (ltb mostNodes (c .count)) (eqb size 0) refl e
   where
     go : (a b : Bool) → eqb size 0 ≡ b → _≡_ {A = ℕ} (cond a 6 (cond b 4 (faultOf c))) 0 → (faultOf c ≡ 0) × (1 ≤ size)
     go true b q h = absurd (omega arith)
@@ -53,7 +53,7 @@ sound c size e = go (ltb 32 (c .count)) (eqb size 0) refl e
 
 pub no-cluster-fault : (c : Cluster) (size : ℕ) → faultOf c ≡ 0 → 1 ≤ size → clusterFault c size ≡ 0
 unfolding clusterFault
-no-cluster-fault c size e l = simp (le-ltb 32 (c .count) (few-nodes c e), ne-eqb size 0 (λ z. omega arith)) e
+no-cluster-fault c size e l = simp (le-ltb mostNodes (c .count) (few-nodes c e), ne-eqb size 0 (λ z. omega arith)) e
 
 module _ (c : Cluster) (cells : List ℕ) (size : ℕ) where
   -- A short buffer is refused first.

@@ -10,7 +10,7 @@ use lib.Seq.{getD-append-add, getD-drop, drop-length}
 use Rattle.sums.specs.TermsSums.{one-if, tab}
 use Rattle.cells.proofs.Cells.{length-tab, getD-tab, tab-cong, tab-more}
 use Rattle.sets.specs.ModelBits.{bit}
-use Rattle.cluster.specs.Terms.{Topology, nodeAt, mem, Layout, copiesIn, rowAt, idsIn, rowsIn}
+use Rattle.cluster.specs.Terms.{mostNodes, Topology, nodeAt, mem, Layout, copiesIn, rowAt, idsIn, rowsIn}
 use Rattle.sums.proofs.Tests.{one-if-le}
 use Rattle.cluster.proofs.CellLayouts.{length-rowsIn}
 use Rattle.layouts.specs.ModelScans.{rowNodes, copiesSoFar}
@@ -60,37 +60,37 @@ count-turn l counts nodes b met h e m =
 
 module _ (t : Topology) (cells : List ℕ) where
   -- Before the first row no node has a copy.
-  pub so-far-none : replicate 32 0 ≡ copiesSoFar t cells 0
+  pub so-far-none : replicate mostNodes 0 ≡ copiesSoFar t cells 0
   unfolding copiesSoFar rowsIn tab copiesIn
   so-far-none = refl
 
-  -- The counts have 32 cells.
-  pub length-so-far : (p : ℕ) → length (copiesSoFar t cells p) ≡ 32
+  -- There is a count for each node that there can be.
+  pub length-so-far : (p : ℕ) → length (copiesSoFar t cells p) ≡ mostNodes
   unfolding copiesSoFar
-  length-so-far p = length-tab (λ b. copiesIn (rowsIn p cells) (nodeAt t b .id)) 32
+  length-so-far p = length-tab (λ b. copiesIn (rowsIn p cells) (nodeAt t b .id)) mostNodes
 
   -- The count of node b.
-  pub so-far-cell : (p b : ℕ) → b < 32 → getD (copiesSoFar t cells p) b 0 ≡ copiesIn (rowsIn p cells) (nodeAt t b .id)
+  pub so-far-cell : (p b : ℕ) → b < mostNodes → getD (copiesSoFar t cells p) b 0 ≡ copiesIn (rowsIn p cells) (nodeAt t b .id)
   unfolding copiesSoFar
-  so-far-cell p b h = getD-tab (λ x. copiesIn (rowsIn p cells) (nodeAt t x .id)) 32 b 0 h
+  so-far-cell p b h = getD-tab (λ x. copiesIn (rowsIn p cells) (nodeAt t x .id)) mostNodes b 0 h
 
   -- It is at most the number of rows.
-  pub so-far-few : (p b : ℕ) → b < 32 → getD (copiesSoFar t cells p) b 0 ≤ p
+  pub so-far-few : (p b : ℕ) → b < mostNodes → getD (copiesSoFar t cells p) b 0 ≤ p
   so-far-few p b h = omega (arith, so-far-cell p b h, copies-few (rowsIn p cells) (nodeAt t b .id), length-rowsIn p cells)
 
   -- After each row the counts are, for every node, the copies in the rows so far.
-  pub so-far-next : (p : ℕ) → tab (oneMore (copiesSoFar t cells p) (rowNodes t cells p)) 32 ≡ copiesSoFar t cells (p + 1)
+  pub so-far-next : (p : ℕ) → tab (oneMore (copiesSoFar t cells p) (rowNodes t cells p)) mostNodes ≡ copiesSoFar t cells (p + 1)
   so-far-next p =
       unfold copiesSoFar in
-      tab-cong (oneMore (copiesSoFar t cells p) (rowNodes t cells p)) (λ b. copiesIn (rowsIn (p + 1) cells) (nodeAt t b .id)) 32
+      tab-cong (oneMore (copiesSoFar t cells p) (rowNodes t cells p)) (λ b. copiesIn (rowsIn (p + 1) cells) (nodeAt t b .id)) mostNodes
       (λ b h. unfold oneMore in
       (ap₂ _+_ (so-far-cell p b h) (bit-nodes t cells p b) ∙ sym (copies-more cells p (nodeAt t b .id))))
 
   -- The end of the walk over the nodes: all counts have the row added.
-  pub count-end : (p : ℕ) (l : List ℕ) (nodes b : ℕ) → l ≡ copiesSoFar t cells p → nodes ≡ rowNodes t cells p → b ≡ 32
+  pub count-end : (p : ℕ) (l : List ℕ) (nodes b : ℕ) → l ≡ copiesSoFar t cells p → nodes ≡ rowNodes t cells p → b ≡ mostNodes
       → tab (oneMore l nodes) b ++ drop b l ≡ copiesSoFar t cells (p + 1)
   count-end p l nodes b e n h =
       let d : b ≡ length l = omega (arith, ap length e, length-so-far p) in
-      ap₂ _++_ (ap (tab (oneMore l nodes)) h ∙ ap₂ (λ (r : List ℕ) (m : ℕ). tab (oneMore r m) 32) e n)
+      ap₂ _++_ (ap (tab (oneMore l nodes)) h ∙ ap₂ (λ (r : List ℕ) (m : ℕ). tab (oneMore r m) mostNodes) e n)
       (ap (λ (i : ℕ). drop i l) d ∙ drop-length l)
-      ∙ (append-nil (tab (oneMore (copiesSoFar t cells p) (rowNodes t cells p)) 32) ∙ so-far-next p)
+      ∙ (append-nil (tab (oneMore (copiesSoFar t cells p) (rowNodes t cells p)) mostNodes) ∙ so-far-next p)

@@ -8,12 +8,13 @@ use native.Mathlib.Omega.{arith}
 use lib.Dec.{ltb, eqb}
 use lib.ListN.{length}
 use borrow.Author.Tests.{lt-ltb, le-ltb, ltb-false, eq-eqb, eqb-true}
-use Rattle.cluster.specs.Terms.{bufferRows, Topology, partitions, nodeAt, idsOf, zonesOf, Layout, copiesIn, ValidRow, rowAt, idsIn, blank, formed}
+use Rattle.cluster.proofs.Taking.{takes-held}
+use Rattle.cluster.proofs.Accepting.{few-partitions}
+use Rattle.cluster.specs.Terms.{takes, bufferRows, Topology, partitions, nodeAt, idsOf, zonesOf, Layout, copiesIn, ValidRow, rowAt, idsIn, blank, formed}
 use Rattle.cluster.specs.TermsReading.{Accepted}
 use Rattle.sums.proofs.Tests.{both}
 use Rattle.cluster.proofs.CellRows.{formed-rising}
 use Rattle.layouts.specs.TermsCheck.{fault, allIn, rightIds, rowFault, rowsFault, nodeFault}
-use Rattle.layouts.proofs.Sound.{few-rows}
 use Rattle.layouts.proofs.RowFaults.{all-mem, mem-all}
 use Rattle.layouts.proofs.CheckOrder.{none-found}
 
@@ -78,19 +79,19 @@ pub row-other : (t : Topology) (cells : List ℕ) (p : ℕ) → partitions t ≤
 unfolding rowFault
 row-other t cells p h f = simp (le-ltb p (partitions t) h, f)
 
--- A node without fault holds no more than its capacity takes.
+-- A node without fault holds no more than its capacity takes,
 pub node-held : (t : Topology) (L : Layout) (size b : ℕ) → nodeFault t L size b ≡ 0 → copiesIn L (nodeAt t b .id) * size ≤ nodeAt t b .capacity
 unfolding nodeFault
-node-held t L size b e = go (ltb (nodeAt t b .capacity) (copiesIn L (nodeAt t b .id) * size)) refl e
+node-held t L size b e = takes-held (nodeAt t b) (copiesIn L (nodeAt t b .id)) size .0 (go (takes (nodeAt t b) (copiesIn L (nodeAt t b .id)) size) e)
   where
-    go : (a : Bool) → ltb (nodeAt t b .capacity) (copiesIn L (nodeAt t b .id) * size) ≡ a → _≡_ {A = ℕ} (cond a 12 0) 0
-        → copiesIn L (nodeAt t b .id) * size ≤ nodeAt t b .capacity
-    go true q h = absurd (omega arith)
-    go false q h = ltb-false (nodeAt t b .capacity) (copiesIn L (nodeAt t b .id) * size) q
+    go : (a : Bool) → _≡_ {A = ℕ} (cond a 0 12) 0 → a ≡ true
+    go true h = refl
+    go false h = absurd (omega arith)
 
+-- and the other way round.
 pub held-node : (t : Topology) (L : Layout) (size b : ℕ) → copiesIn L (nodeAt t b .id) * size ≤ nodeAt t b .capacity → nodeFault t L size b ≡ 0
 unfolding nodeFault
-held-node t L size b h = simp (le-ltb (nodeAt t b .capacity) (copiesIn L (nodeAt t b .id) * size) h)
+held-node t L size b h = simp (takes-held (nodeAt t b) (copiesIn L (nodeAt t b .id)) size .1 h)
 
 -- Where no row has a fault, each row has none,
 pub each-row : (t : Topology) (cells : List ℕ) → rowsFault t cells .refusal ≡ 0 → (p : ℕ) → p < bufferRows → rowFault t cells p ≡ 0
@@ -99,4 +100,4 @@ each-row t cells e p l = none-found bufferRows 0 (λ q. fault (rowFault t cells 
 
 -- and each of the first P is rising ids followed by zeros.
 pub each-formed : (t : Topology) (cells : List ℕ) → Accepted t → rowsFault t cells .refusal ≡ 0 → (p : ℕ) → p < partitions t → formed (rowAt cells p) ≡ true
-each-formed t cells a e p l = own-row t cells p l (each-row t cells e p (omega (arith, few-rows t a))) .0
+each-formed t cells a e p l = own-row t cells p l (each-row t cells e p (omega (arith, few-partitions (t .bits) (a .bits)))) .0

@@ -1,15 +1,14 @@
 -- The scans for a first fault, and the fault of a node as check computes it.
 -- Assumes nothing.
-use Prim.Native.Nat.{ℕ, suc, _+_, _-_, _*_, _≤_, _<_}
+use Prim.Native.Nat.{ℕ, suc, _+_, _-_, _≤_, _<_}
 use mathlib.Core.Path.{_≡_, sym, ap, ap₂, _∙_}
 use mathlib.Core.Bool.{Bool, cond}
 use mathlib.Core.List.{List}
 use native.Mathlib.Numerals.{add-one}
 use native.Mathlib.Omega.{arith}
-use lib.Dec.{ltb}
 use lib.ListN.{getD}
-use borrow.Author.Tests.{eq-eqb, ne-eqb, lt-ltb, le-ltb}
-use Rattle.cluster.specs.Terms.{topology, noNode, rowsIn}
+use borrow.Author.Tests.{eq-eqb, ne-eqb}
+use Rattle.cluster.specs.Terms.{takes, mostNodes, topology, noNode, rowsIn}
 use Rattle.cluster.specs.declared.Cluster.{Cluster}
 use Rattle.cluster.specs.declared.Node.{Node}
 use Rattle.cluster.proofs.Slots.{node-slot}
@@ -42,20 +41,9 @@ module _ (n i : ℕ) (f : ℕ → Checked) where
 
 -- ---- the fault of a node
 
-module _ (c : Cluster) (cells : List ℕ) (p size b : ℕ) (used : b < c .count) (few : b < 32) where
-  -- What is read in the slot of node b and in the counts.
-  node-reads : nodeFault (topology c) (rowsIn p cells) size b
-      ≡ cond (ltb (getD (c .nodes) b noNode .capacity) (getD (copiesSoFar (topology c) cells p) b 0 * size)) 12 0
-  unfolding nodeFault
-  node-reads =
-      ap₂ (λ (n : Node) (k : ℕ). cond (ltb (n .capacity) (k * size)) 12 0) (node-slot c b used) (sym (so-far-cell (topology c) cells p b few))
-
-  -- More copies than the capacity takes.
-  pub node-over : getD (c .nodes) b noNode .capacity < getD (copiesSoFar (topology c) cells p) b 0 * size
-      → nodeFault (topology c) (rowsIn p cells) size b ≡ 12
-  node-over h = node-reads ∙ ap (λ (t : Bool). cond t 12 0) (lt-ltb (getD (c .nodes) b noNode .capacity) (getD (copiesSoFar (topology c) cells p) b 0 * size) h)
-
-  -- No more than it takes.
-  pub node-within : getD (copiesSoFar (topology c) cells p) b 0 * size ≤ getD (c .nodes) b noNode .capacity
-      → nodeFault (topology c) (rowsIn p cells) size b ≡ 0
-  node-within h = node-reads ∙ ap (λ (t : Bool). cond t 12 0) (le-ltb (getD (c .nodes) b noNode .capacity) (getD (copiesSoFar (topology c) cells p) b 0 * size) h)
+-- It is read in the slot of node b and in the counts.
+pub node-reads : (c : Cluster) (cells : List ℕ) (p size b : ℕ) → b < c .count → b < mostNodes
+    → nodeFault (topology c) (rowsIn p cells) size b ≡ cond (takes (getD (c .nodes) b noNode) (getD (copiesSoFar (topology c) cells p) b 0) size) 0 12
+unfolding nodeFault
+node-reads c cells p size b used few =
+    ap₂ (λ (n : Node) (k : ℕ). cond (takes n k size) 0 12) (node-slot c b used) (sym (so-far-cell (topology c) cells p b few))

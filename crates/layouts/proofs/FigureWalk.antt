@@ -5,7 +5,6 @@ use mathlib.Core.Path.{_≡_, refl, sym, ap, ap₂, _∙_}
 use mathlib.Core.Bool.{Bool, cond}
 use mathlib.Core.List.{List}
 use mathlib.Core.Logic.{⊎-elim}
-use native.Mathlib.Nat.{one-mul, zero-mul}
 use native.Mathlib.Numerals.{add-one}
 use native.Mathlib.Omega.{arith}
 use lib.Dec.{ltb, eqb}
@@ -13,10 +12,10 @@ use lib.ListN.{length, getD, List·getD-eq-default}
 use borrow.Author.Tests.{lt-ltb, le-ltb, eq-eqb, ne-eqb}
 use Rattle.sums.specs.TermsSums.{sumTo, one-if, tab}
 use Rattle.sums.specs.ModelSums.{is}
-use Rattle.sums.proofs.Sum.{lt-or-ge, is-eq, is-ne, sum-cong}
+use Rattle.sums.proofs.Sum.{is-times, not-times, lt-or-ge, sum-cong}
 use Rattle.cells.specs.ModelCells.{put}
 use Rattle.cells.proofs.Cells.{put-cong}
-use Rattle.cluster.specs.Terms.{figureCells, Topology, topology, partitions, noNode, nodeAt, copiesIn, rowAt, rowsIn}
+use Rattle.cluster.specs.Terms.{mostNodes, figureCells, Topology, topology, partitions, noNode, nodeAt, copiesIn, rowAt, rowsIn}
 use Rattle.cluster.specs.declared.Cluster.{Cluster}
 use Rattle.cluster.specs.declared.Node.{Node}
 use Rattle.cluster.proofs.Slots.{node-slot}
@@ -27,15 +26,6 @@ use Rattle.layouts.specs.TermsFigures.{nodeCopies, zoneCopies, figuresMa
 use Rattle.layouts.specs.ModelScans.{copiesSoFar, zoneSum}
 use Rattle.layouts.proofs.RowWalks.{zero-unnamed}
 use Rattle.layouts.proofs.CopyWalk.{copies-more, so-far-cell}
-
--- One term more.
-pub sum-next : (b : ℕ) (f : ℕ → ℕ) → sumTo (b + 1) f ≡ sumTo b f + f b
-unfolding sumTo
-sum-next b f = ap (λ (n : ℕ). sumTo n f) (add-one b)
-
--- A turn of a walk that adds up.
-pub add-turn : (total more b : ℕ) (f : ℕ → ℕ) → total ≡ sumTo b f → more ≡ f b → total + more ≡ sumTo (b + 1) f
-add-turn total more b f e d = ap₂ _+_ e d ∙ sym (sum-next b f)
 
 -- ---- the copies in a zone
 
@@ -48,21 +38,17 @@ module _ (c : Cluster) (counts : List ℕ) (b x : ℕ) (b-used : b < c .count) (
   pub term-same : getD (c .nodes) x noNode .zone ≡ getD (c .nodes) b noNode .zone → getD counts x 0 ≡ zoneTerm (topology c) counts b x
   unfolding zoneTerm
   term-same e =
-      sym
-      (ap (λ (n : ℕ). n * getD counts x 0)
-      (is-eq (ap (λ (n : Node). n .zone) (node-slot c x x-used) ∙ (e ∙ sym (ap (λ (n : Node). n .zone) (node-slot c b b-used)))))
-      ∙ one-mul (getD counts x 0))
+      sym (is-times (ap (λ (n : Node). n .zone) (node-slot c x x-used) ∙ (e ∙ sym (ap (λ (n : Node). n .zone) (node-slot c b b-used)))) (getD counts x 0))
 
   -- Another node adds nothing.
   pub term-other : (getD (c .nodes) x noNode .zone ≡ getD (c .nodes) b noNode .zone → ⊥) → 0 ≡ zoneTerm (topology c) counts b x
   unfolding zoneTerm
   term-other h =
       sym
-      (ap (λ (n : ℕ). n * getD counts x 0)
-      (is-ne
+      (not-times
       (λ (e : nodeAt (topology c) x .zone ≡ nodeAt (topology c) b .zone). h
-      (sym (ap (λ (n : Node). n .zone) (node-slot c x x-used)) ∙ (e ∙ ap (λ (n : Node). n .zone) (node-slot c b b-used)))))
-      ∙ zero-mul (getD counts x 0))
+      (sym (ap (λ (n : Node). n .zone) (node-slot c x x-used)) ∙ (e ∙ ap (λ (n : Node). n .zone) (node-slot c b b-used))))
+      (getD counts x 0))
 
 module _ (t : Topology) (counts : List ℕ) (b : ℕ) where
   -- A slot that is not in use has no zone.
@@ -87,7 +73,7 @@ module _ (t : Topology) (cells : List ℕ) (p : ℕ) where
       ∙ (copies-more cells q 0 ∙ ap₂ (λ (n : ℕ) (m : Bool). n + one-if m) (unused-none q) (zero-unnamed (rowAt cells q)))
 
   -- The counts are the copies of the nodes in use, then zeros.
-  pub node-figure : (b : ℕ) → b < 32 → getD (copiesSoFar t cells p) b 0 ≡ nodeCopies t (rowsIn p cells) b
+  pub node-figure : (b : ℕ) → b < mostNodes → getD (copiesSoFar t cells p) b 0 ≡ nodeCopies t (rowsIn p cells) b
   unfolding nodeCopies
   node-figure b h =
       so-far-cell t cells p b h
@@ -97,7 +83,7 @@ module _ (t : Topology) (cells : List ℕ) (p : ℕ) where
       (lt-or-ge b (length (t .nodes)))
 
   -- The sums of the counts are the copies of the zones.
-  pub zone-figure : length (t .nodes) ≤ 32 → (b : ℕ) → zoneSum t (copiesSoFar t cells p) b ≡ zoneCopies t (rowsIn p cells) b
+  pub zone-figure : length (t .nodes) ≤ mostNodes → (b : ℕ) → zoneSum t (copiesSoFar t cells p) b ≡ zoneCopies t (rowsIn p cells) b
   unfolding zoneSum zoneCopies
   zone-figure few b =
       ap (λ (n : ℕ). cond (ltb b (length (t .nodes))) n 0)
@@ -105,15 +91,15 @@ module _ (t : Topology) (cells : List ℕ) (p : ℕ) where
       (λ x. is (nodeAt t x .zone) (nodeAt t b .zone) * copiesIn (rowsIn p cells) (nodeAt t x .id))
       (λ x l. ap (λ (n : ℕ). is (nodeAt t x .zone) (nodeAt t b .zone) * n) (so-far-cell t cells p x (omega arith))))
 
-  -- All 64 cells.
-  pub all-figures : length (t .nodes) ≤ 32 → (counts l : List ℕ) → counts ≡ copiesSoFar t cells p
-      → put 32 (zoneSum t counts) 32 (put 0 (λ b. getD counts b 0) 32 l)
+  -- All cells.
+  pub all-figures : length (t .nodes) ≤ mostNodes → (counts l : List ℕ) → counts ≡ copiesSoFar t cells p
+      → put mostNodes (zoneSum t counts) mostNodes (put 0 (λ b. getD counts b 0) mostNodes l)
       ≡ figuresMade t (rowsIn p cells) l
   all-figures few counts l e =
-      put-cong 32 (zoneSum t counts) (zoneCopies t (rowsIn p cells)) 32 (put 0 (λ b. getD counts b 0) 32 l)
+      put-cong mostNodes (zoneSum t counts) (zoneCopies t (rowsIn p cells)) mostNodes (put 0 (λ b. getD counts b 0) mostNodes l)
       (λ b h. ap (λ (k : List ℕ). zoneSum t k b) e ∙ zone-figure few b)
-      ∙ ap (put 32 (zoneCopies t (rowsIn p cells)) 32)
-      (put-cong 0 (λ b. getD counts b 0) (nodeCopies t (rowsIn p cells)) 32 l
+      ∙ ap (put mostNodes (zoneCopies t (rowsIn p cells)) mostNodes)
+      (put-cong 0 (λ b. getD counts b 0) (nodeCopies t (rowsIn p cells)) mostNodes l
       (λ b h. ap (λ (k : List ℕ). getD k b 0) e ∙ node-figure b h))
 
 -- ---- the answer

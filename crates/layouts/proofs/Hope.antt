@@ -9,7 +9,7 @@ use lib.Pow.{pow-pos}
 use Rattle.sums.specs.TermsSums.{sumTo}
 use Rattle.sums.proofs.Sum.{sum-cong, sum-le, sum-scale, sum-swap, sum-const}
 use Rattle.exchange.specs.ModelRow.{copies}
-use Rattle.cluster.specs.Terms.{Topology, partitions, nodeAt, Layout, row, copiesIn, ValidAt, IsSize}
+use Rattle.cluster.specs.Terms.{Topology, partitions, nodeAt, Layout, row, copiesIn, ValidAt}
 use Rattle.cluster.specs.TermsReading.{Accepted}
 use Rattle.incidence.specs.ModelIncidence.{incidence}
 use Rattle.incidence.proofs.TieLayouts.{copies-bits, valid-bits}
@@ -44,7 +44,3 @@ hope-bound t L s a v =
 
     some : 1 ≤ t .replication * partitions t
     some = omega (arith, a .replication, pow-pos (t .bits), mul-le-mul-right (partitions t) (a .replication .0))
-
--- So is the size of the cluster.
-pub hope-size : (t : Topology) (s : ℕ) → Accepted t → IsSize t s → s ≤ hopeOf t
-hope-size t s a z = hope-bound t (z .reached .0) s a (z .reached .1)

@@ -7,4 +7,3 @@ pub mod FigureWalk
 pub mod Hope
 pub mod RowFaults
 pub mod RowWalks
-pub mod Sound

@@ -1,11 +1,11 @@
 -- What check answers of a cluster, an assignment and a size: the first fault in the paper's order, with its place.
 -- Assumes nothing.
-use Prim.Native.Nat.{ℕ, zero, suc, _*_}
+use Prim.Native.Nat.{ℕ, zero, suc}
 use mathlib.Core.Bool.{Bool, true, _&&_, cond}
 use mathlib.Core.List.{List, [], _∷_}
 use lib.Dec.{ltb, eqb}
 use lib.ListN.{length}
-use Rattle.cluster.specs.Terms.{mostNodes, bufferRows, layoutCells, Topology, topology, partitions, nodeAt, idsOf, mem, zonesOf, Layout, copiesIn, rowAt, idsIn, blank, formed, rowsIn, faultOf}
+use Rattle.cluster.specs.Terms.{takes, mostNodes, bufferRows, layoutCells, Topology, topology, partitions, nodeAt, idsOf, mem, zonesOf, Layout, copiesIn, rowAt, idsIn, blank, formed, rowsIn, faultOf}
 use Rattle.cluster.specs.declared.Cluster.{Cluster}
 use Rattle.layouts.specs.declared.check.Checked.{Checked}
 
@@ -56,7 +56,7 @@ rowFault t cells p =
 
 -- "12: copies times size above capacity"
 unfoldable pub nodeFault : Topology → Layout → ℕ → ℕ → ℕ
-nodeFault t L size b = cond (ltb (nodeAt t b .capacity) (copiesIn L (nodeAt t b .id) * size)) 12 0
+nodeFault t L size b = cond (takes (nodeAt t b) (copiesIn L (nodeAt t b .id)) size) 0 12
 
 -- "Then rows in order"; "With 10 and 11 goes the partition". The rows of the first 2,048 cells, and no cell after them.
 unfoldable pub rowsFault : Topology → List ℕ → Checked

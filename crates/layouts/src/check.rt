@@ -62,7 +62,7 @@ fn nodes_fault(c: Cluster, cells: &[u32], size: u32) -> Checked
     let mut b = 0;
     while b < n {
         let node = c.nodes[b];
-        if (node.capacity as u64) < (counts[b] as u64) * (size as u64) {
+        if !node.takes(counts[b], size) {
             return Checked {
                 refusal: refusal::CAPACITY,
                 place: node.id,
@@ -76,7 +76,7 @@ fn nodes_fault(c: Cluster, cells: &[u32], size: u32) -> Checked
     }
 }
 
-// The first fault of an assignment, in the order of the paper; the assignment is not written, and its cells from 2,048 on are not looked at.
+// The first fault of an assignment, in the order of the paper; the assignment is not written, and no cell after a whole layout is looked at.
 pub fn check(c: Cluster, assignment: &[u32], size: u32) -> Checked
     ensures { λ r. ⌜ r ≡ checkOf c (now (assignment .entry)) size ⌝ }
 {

@@ -6,7 +6,6 @@ ghost use lib.ListN.{length};
 ghost use Rattle.cluster.specs.Terms.{bufferRows, layoutCells, topology, partitions, rowAt, formed, faultOf};
 ghost use Rattle.layouts.specs.TermsCheck.{rowsFault};
 ghost use Rattle.layouts.specs.ModelScans.{copiesSoFar};
-use super::rows;
 use cluster::Cluster;
 
 // One row of the walk: each node that row p names is met once and has one copy more. Before it the counts are the copies in the rows
@@ -30,12 +29,12 @@ fn count_row(c: Cluster, cells: &[u32], p: usize, counts: &mut [u32])
 }
 
 // The copies that each node holds in the first P rows: one walk over the rows, in their order.
-pub(crate) fn copies(c: Cluster, cells: &[u32]) -> [u32; 32]
+pub(crate) fn copies(c: Cluster, cells: &[u32]) -> [u32; Cluster::NODES]
     requires { ⌜ (faultOf c ≡ 0) × (layoutCells ≤ length (now cells)) × (rowsFault (topology c) (now cells) .refusal ≡ 0) ⌝ }
     ensures { λ r. ⌜ r ≡ copiesSoFar (topology c) (now (cells .entry)) (partitions (topology c)) ⌝ }
 {
-    let partitions = rows::partitions(c);
-    let mut counts = [0u32; 32];
+    let partitions = cluster::partitions(c.bits);
+    let mut counts = [0u32; Cluster::NODES];
     let mut p = 0;
     while p < partitions {
         count_row(c, cells, p, &mut counts);

@@ -10,7 +10,6 @@ ghost use Rattle.layouts.specs.ModelScans.{zoneSum};
 ghost use Rattle.layouts.specs.TermsFigures.{figuresMade, hopeOf, figuresOf, figuresIn};
 use super::check;
 use super::copies;
-use super::rows;
 use cluster::Cluster;
 use cluster::refusal;
 
@@ -42,12 +41,12 @@ fn hope(c: Cluster) -> u64
     requires { ⌜ faultOf c ≡ 0 ⌝ }
     ensures { λ r. ⌜ r ≡ hopeOf (topology c) ⌝ }
 {
-    let copies = (c.replication as u64) * (rows::partitions(c) as u64);
+    let copies = (c.replication as u64) * (cluster::partitions(c.bits) as u64);
     total_capacity(c) / copies
 }
 
 // The copies in the zone of node b; 0 where slot b is not in use.
-fn zone_copies(c: Cluster, counts: [u32; 32], b: usize) -> u32
+fn zone_copies(c: Cluster, counts: [u32; Cluster::NODES], b: usize) -> u32
     requires { ⌜ (c .count ≤ mostNodes) × ((x : ℕ) → x < mostNodes → getD counts x 0 ≤ bufferRows) ⌝ }
     ensures { λ r. ⌜ r ≡ zoneSum (topology c) counts b ⌝ }
 {
@@ -70,8 +69,8 @@ fn zone_copies(c: Cluster, counts: [u32; 32], b: usize) -> u32
     total
 }
 
-// The copies of the nodes go into the first 32 cells.
-fn put_copies(counts: [u32; 32], cells: &mut [u32])
+// The copies of the nodes go into the first half of the cells.
+fn put_copies(counts: [u32; Cluster::NODES], cells: &mut [u32])
     requires { ⌜ figureCells ≤ length (now cells) ⌝ }
     ensures { λ _. ⌜ now (cells .exit) ≡ put 0 (λ b. getD counts b 0) mostNodes (now (cells .entry)) ⌝ }
 {
@@ -82,8 +81,8 @@ fn put_copies(counts: [u32; 32], cells: &mut [u32])
     }
 }
 
-// The copies of the nodes' zones go into the next 32 cells.
-fn put_zones(c: Cluster, counts: [u32; 32], cells: &mut [u32])
+// The copies of the nodes' zones go into the second half.
+fn put_zones(c: Cluster, counts: [u32; Cluster::NODES], cells: &mut [u32])
     requires { ⌜ (c .count ≤ mostNodes) × ((x : ℕ) → x < mostNodes → getD counts x 0 ≤ bufferRows) × (figureCells ≤ length (now cells)) ⌝ }
     ensures { λ _. ⌜ now (cells .exit) ≡ put mostNodes (zoneSum (topology c) counts) mostNodes (now (cells .entry)) ⌝ }
 {
@@ -94,7 +93,7 @@ fn put_zones(c: Cluster, counts: [u32; 32], cells: &mut [u32])
     }
 }
 
-// The figures of the first P rows go into the 64 cells.
+// The figures of the first P rows go into the cells.
 fn put_figures(c: Cluster, assignment: &[u32], cells: &mut [u32])
     requires { ⌜ (faultOf c ≡ 0) × (layoutCells ≤ length (now assignment)) × (rowsFault (topology c) (now assignment) .refusal ≡ 0) × (figureCells ≤ length (now cells)) ⌝ }
     ensures { λ _. ⌜ now (cells .exit) ≡ figuresMade (topology c) (rowsIn (partitions (topology c)) (now (assignment .entry))) (now (cells .entry)) ⌝ }
@@ -104,7 +103,7 @@ fn put_figures(c: Cluster, assignment: &[u32], cells: &mut [u32])
     put_zones(c, counts, cells);
 }
 
-// The figures of an assignment that check passes; it and the cells from 64 on are kept.
+// The figures of an assignment that check passes; it and the cells after those of the figures are kept.
 pub fn figures(c: Cluster, assignment: &[u32], size: u32, cells: &mut [u32]) -> Figured
     ensures answer { λ r. ⌜ r ≡ figuresOf c (now (assignment .entry)) size (now (cells .entry)) ⌝ }
     ensures cells { λ r. ⌜ now (cells .exit) ≡ figuresIn c (now (assignment .entry)) size (now (cells .entry)) ⌝ }

@@ -10,16 +10,8 @@ use cluster::Cluster;
 use cluster::refusal;
 use cluster::rows;
 
-// The number of partitions of a cluster without fault.
-pub(crate) fn partitions(c: Cluster) -> usize
-    requires { ⌜ faultOf c ≡ 0 ⌝ }
-    ensures { λ r. ⌜ (r ≡ partitions (topology c)) × (r ≤ bufferRows) ⌝ }
-{
-    1 << c.bits
-}
-
 // The set of the zones of a set of nodes.
-fn zones_in(zones: [u32; 32], nodes: u32) -> u32
+fn zones_in(zones: [u32; Cluster::NODES], nodes: u32) -> u32
     ensures { λ r. ⌜ r ≡ zonesIn zones nodes ⌝ }
 {
     let mut covered = 0;
@@ -34,7 +26,7 @@ fn zones_in(zones: [u32; 32], nodes: u32) -> u32
 }
 
 // The fault of row p, of the first P.
-fn own_row_fault(c: Cluster, zones: [u32; 32], cells: &[u32], p: usize) -> u32
+fn own_row_fault(c: Cluster, zones: [u32; Cluster::NODES], cells: &[u32], p: usize) -> u32
     requires { ⌜ (faultOf c ≡ 0) × (zones ≡ zoneCells (topology c)) × (p < partitions (topology c)) × (layoutCells ≤ length (now cells)) ⌝ }
     ensures { λ r. ⌜ r ≡ rowFault (topology c) (now (cells .entry)) p ⌝ }
 {
@@ -52,11 +44,11 @@ fn own_row_fault(c: Cluster, zones: [u32; 32], cells: &[u32], p: usize) -> u32
 }
 
 // The fault of row p.
-pub(crate) fn row_fault(c: Cluster, zones: [u32; 32], cells: &[u32], p: usize) -> u32
+pub(crate) fn row_fault(c: Cluster, zones: [u32; Cluster::NODES], cells: &[u32], p: usize) -> u32
     requires { ⌜ (faultOf c ≡ 0) × (zones ≡ zoneCells (topology c)) × (p < bufferRows) × (layoutCells ≤ length (now cells)) ⌝ }
     ensures { λ r. ⌜ r ≡ rowFault (topology c) (now (cells .entry)) p ⌝ }
 {
-    if p < partitions(c) {
+    if p < cluster::partitions(c.bits) {
         return own_row_fault(c, zones, cells, p);
     }
     if rows::row_is_blank(cells, p) {

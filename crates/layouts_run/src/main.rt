@@ -10,7 +10,7 @@ mod print;
 // The cluster with node b in its slot.
 fn with_node(c: Cluster, b: usize, id: u32, zone: u16, capacity: u32) -> Cluster {
     let mut next = c;
-    if b < 32 {
+    if b < Cluster::NODES {
         next.nodes[b] = Node { id, zone, capacity };
     }
     next
@@ -56,7 +56,7 @@ fn cell(cells: &[u32], at: usize) -> u64 {
 
 // Check of three ids in row 0 at a size.
 fn check_row(name: &[u8], c: Cluster, a: u32, b: u32, d: u32, size: u32) {
-    let mut cells = [0u32; 2048];
+    let mut cells = [0u32; Cluster::CELLS];
     row(&mut cells, 0, a, b, d);
     let r = check::check(c, &cells, size);
     print::answer(name, r.refusal, r.place);
@@ -131,7 +131,7 @@ fn capacities() {
 
 // Check of one id in row 0 and in row 1.
 fn check_twice(name: &[u8], c: Cluster, a: u32, size: u32) {
-    let mut cells = [0u32; 2048];
+    let mut cells = [0u32; Cluster::CELLS];
     row(&mut cells, 0, a, 0, 0);
     row(&mut cells, 8, a, 0, 0);
     let r = check::check(c, &cells, size);
@@ -151,7 +151,7 @@ fn some_figures(cells: &[u32]) {
 
 // Figures of ids in row 0 and in the row that starts at cell `again`, into lent cells of 77.
 fn figure(name: &[u8], c: Cluster, a: u32, b: u32, d: u32, again: usize, size: u32) {
-    let mut assignment = [0u32; 2048];
+    let mut assignment = [0u32; Cluster::CELLS];
     row(&mut assignment, 0, a, b, d);
     row(&mut assignment, again, a, b, d);
     let mut cells = [77u32; 65];
@@ -173,7 +173,7 @@ fn example_a() {
     let a = with_node(c2, 2, 3, 2, 50);
     figure(b"A at 25", a, 1, 2, 3, 8, 25);
     figure(b"A at 26", a, 1, 2, 3, 8, 26);
-    let assignment = [0u32; 2048];
+    let assignment = [0u32; Cluster::CELLS];
     let mut cells = [77u32; 63];
     let mut many = a;
     many.count = 33;
@@ -184,9 +184,9 @@ fn example_a() {
 // 32 nodes of the largest capacity.
 fn large() {
     let mut c = Cluster::none();
-    c.count = 32;
+    c.count = Cluster::NODES;
     let mut b = 0;
-    while b < 32 {
+    while b < Cluster::NODES {
         c.nodes[b] = Node {
             id: b as u32 + 1,
             zone: b as u16,

@@ -18,7 +18,7 @@ use Rattle.sums.proofs.Sum.{lt-or-ge, is-cases, is-eq, is-ne}
 use Rattle.sets.specs.ModelBits.{bit, maskOf, withOf}
 use Rattle.sets.proofs.Laws.{bit-le, mask-bit, mask-cong, mask-next, mask-with}
 use Rattle.cells.proofs.Cells.{rest-cons, rest-none}
-use Rattle.cluster.specs.Terms.{noNode, idsOf, mem, risingFrom, idsIn}
+use Rattle.cluster.specs.Terms.{mostNodes, noNode, idsOf, mem, risingFrom, idsIn}
 use Rattle.incidence.specs.ModelIncidence.{bitsOf}
 use Rattle.cluster.specs.declared.Node.{Node}
 use Rattle.cluster.proofs.Lists.{mem-head, mem-skip, rising-tail, rising-cons, rising-fresh, rising-above}
@@ -94,7 +94,7 @@ module _ (ns : List Node) (b : ℕ) (l : List ℕ) (to i : ℕ) (inside : i < to
         ∙ ap (λ (t : Bool). cond t (left ns b l to (i + 1)) (is (getD l i 0) v + 2 * left ns (b + 1) l to i)) (le-ltb (getD l i 0) v h)
 
 -- A number above all members of a mask adds its power of two.
-pub with-next : (m b : ℕ) → b < 32 → m < 2 ^ b → withOf m b ≡ m + 2 ^ b
+pub with-next : (m b : ℕ) → b < mostNodes → m < 2 ^ b → withOf m b ≡ m + 2 ^ b
 with-next m b h l =
     ap (λ (k : ℕ). withOf k b) (sym same)
     ∙ (sym (mask-with f b h (omega (arith, one)))
@@ -116,7 +116,7 @@ higher b d k =
     ∙ ap (λ (x : ℕ). 2 ^ b * d + x) (sym (mul-assoc (2 ^ b) 2 k) ∙ ap (λ (x : ℕ). x * k) (sym (pow-suc 2 b) ∙ ap (λ (x : ℕ). 2 ^ x) (sym (add-one b))))
 
 -- A node that is done with: taken into the mask where its id v is the next one, x, and not else.
-pub node-done : (total mask b x v k mask′ : ℕ) → b < 32 → mask < 2 ^ b → total ≡ mask + 2 ^ b * (is x v + 2 * k)
+pub node-done : (total mask b x v k mask′ : ℕ) → b < mostNodes → mask < 2 ^ b → total ≡ mask + 2 ^ b * (is x v + 2 * k)
     → ((x ≡ v) × (mask′ ≡ withOf mask b)) ⊎ ((x ≡ v → ⊥) × (mask′ ≡ mask)) → (mask′ < 2 ^ (b + 1)) × (total ≡ mask′ + 2 ^ (b + 1) * k)
 node-done total mask b x v k mask′ h bound inv (inl w) = (
   omega (arith, w .1, with-next mask b h bound, ap (λ (n : ℕ). 2 ^ n) (add-one b), pow-suc 2 b),

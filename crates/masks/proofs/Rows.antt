@@ -1,13 +1,10 @@
--- The rows of cells: tests of all of them, and sums over them.
+-- How many ids a row of cells counts as at most.
 -- Assumes nothing.
-use Prim.Native.Nat.{ℕ, _+_, _≤_}
-use mathlib.Core.Path.{_≡_, ap}
+use Prim.Native.Nat.{ℕ, _≤_}
 use mathlib.Core.List.{List}
 use mathlib.Core.Bool.{Bool, true, false, cond}
-use native.Mathlib.Numerals.{add-one}
 use native.Mathlib.Omega.{arith}
 use lib.ListN.{length}
-use Rattle.sums.specs.TermsSums.{sumTo}
 use Rattle.cluster.specs.Terms.{rowAt, idsIn, formed}
 use Rattle.cluster.specs.ModelRows.{illFormed, hasRow, idCount, rowIds}
 use Rattle.cluster.proofs.CellLayouts.{few-ids}
@@ -21,8 +18,3 @@ row-ids-le cells p = go (hasRow cells p) (formed (rowAt cells p))
     go true true = omega (arith, few-ids cells p)
     go true false = omega arith
     go false t = omega arith
-
--- One term more.
-pub sum-more : (n : ℕ) (f : ℕ → ℕ) → sumTo (n + 1) f ≡ sumTo n f + f n
-unfolding sumTo
-sum-more n f = ap (λ (k : ℕ). sumTo k f) (add-one n)

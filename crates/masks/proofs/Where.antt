@@ -14,7 +14,7 @@ use Rattle.sums.specs.TermsSums.{sumTo}
 use Rattle.sums.proofs.Sum.{lt-or-ge, sum-first}
 use Rattle.sets.specs.ModelBits.{bit, withoutOf, leastOf}
 use Rattle.sets.proofs.Laws.{bit-zero, bit-without, bit-without-same, bit-without-other, least-before, least-at}
-use Rattle.cluster.specs.Terms.{noNode}
+use Rattle.cluster.specs.Terms.{mostNodes, noNode}
 use Rattle.incidence.specs.ModelIncidence.{idsWhere}
 use Rattle.cluster.specs.declared.Node.{Node}
 
@@ -81,7 +81,7 @@ pub where-empty : (ns : List Node) → idsWhere ns (bit 0) ≡ []
 where-empty ns = where-none ns (bit 0) (λ b l. bit-zero b)
 
 -- The ids of a mask: that of its least node, then those of the mask without it; none where it has no node.
-where-least : (ns : List Node) (s : ℕ) → length ns ≤ 32
+where-least : (ns : List Node) (s : ℕ) → length ns ≤ mostNodes
     → (getD (idsWhere ns (bit s)) 0 0 ≡ getD ns (leastOf s) noNode .id) × (drop 1 (idsWhere ns (bit s)) ≡ idsWhere ns (bit (withoutOf s (leastOf s))))
 where-least ns s few =
     ⊎-elim
@@ -95,7 +95,7 @@ where-least ns s few =
     (ap (λ (r : List ℕ). getD r 0 0) e ∙ sym (past-id ns (leastOf s) l), ap (λ (r : List ℕ). drop 1 r) e ∙ sym d))
     (lt-or-ge (leastOf s) (length ns))
 
-module _ (ns : List Node) (r : List ℕ) (j s : ℕ) (few : length ns ≤ 32) (inv : drop j r ≡ idsWhere ns (bit s)) where
+module _ (ns : List Node) (r : List ℕ) (j s : ℕ) (few : length ns ≤ mostNodes) (inv : drop j r ≡ idsWhere ns (bit s)) where
   -- Where the ids from j on are those of a mask, id j is that of its least node,
   pub where-next : getD ns (leastOf s) noNode .id ≡ getD r j 0
   where-next =

@@ -1,8 +1,9 @@
 -- Demand 3 of the planner, and what refusal 9 means: the theorems that a customer reads. Their statements are in the terms of document 01.
 -- Assumes nothing.
 use Prim.Native.Nat.{ℕ, suc, _+_, _≤_}
-use mathlib.Core.Path.{_≡_, refl, subst}
+use mathlib.Core.Path.{_≡_, subst}
 use mathlib.Core.Bool.{false}
+use mathlib.Core.List.{List}
 use native.Mathlib.Omega.{arith}
 use native.Mathlib.Nat.{le-antisymm}
 use Rattle.cluster.specs.Terms.{Topology, Layout, ValidAt, IsFormer, distance}
@@ -10,47 +11,44 @@ use Rattle.cluster.specs.TermsReading.{Accepted}
 use Rattle.incidence.proofs.TieLayouts.{valid-of-within}
 use Rattle.sizing.specs.ModelSizing.{Fits32, sizeOf}
 use Rattle.sizing.proofs.Sizes.{size-none, none-size, size-largest}
-use Rattle.improve.specs.ModelImprove.{ranIn}
-use Rattle.planner.specs.Demand.{Demand3}
-use Rattle.planner.specs.ModelPlan.{ranFrom, ranOf, planOf, bitsAt, startRows, layoutRows, farRows, improvesAt, nextAt}
-use Rattle.planner.proofs.Rules.{good, rules}
-use Rattle.planner.proofs.Machines.{Good, start-good, machine}
+use Rattle.planner.specs.Demand.{Rules, Demand3}
+use Rattle.planner.specs.ModelPlan.{planFrom, planOf, startRows, layoutRows, farRows, improvesAt, nextAt}
+use Rattle.sets.specs.ModelBits.{bitsAt}
+use Rattle.planner.proofs.Rules.{rules}
+use Rattle.planner.proofs.Machines.{GoodRows, start-good, machine}
 
--- A cluster with a layout valid at size 1 has a size.
-has-size : (t : Topology) → Accepted t → Fits32 t → (L : Layout) → ValidAt t L 1 → 1 ≤ sizeOf t
-has-size t a low L v = size-largest t a low L 1 v
-
--- The beginning is valid at the size.
-start-valid : (t : Topology) (a : Accepted t) → 1 ≤ sizeOf t → ValidAt t (layoutRows t (startRows t)) (sizeOf t)
-unfolding layoutRows
-start-valid t a large = valid-of-within t (a .ids) (bitsAt (startRows t)) (sizeOf t) large (start-good t a large .within)
-
--- Every run ends in rows of a layout valid at the size.
-pub good-state : (t : Topology) (a : Accepted t) → Fits32 t → 1 ≤ sizeOf t → (F : Layout) → IsFormer t F → (n : ℕ) → Good t a (ranOf t F n .state)
-unfolding ranFrom ranIn startRows
-good-state t a low large F fo n =
-    good t F (sizeOf t) (improvesAt t F) (nextAt t F) (layoutRows t) (farRows t F) (startRows t) (Good t a) (machine t a F fo low large) n
+-- From any good first rows the answers of planning obey the rules of planning by allowance, with the layout of these rows as the beginning.
+pub rules-from : (t : Topology) → Accepted t → Fits32 t → 1 ≤ sizeOf t → (F : Layout) → IsFormer t F → (start : List ℕ) → GoodRows t start
+    → Rules t (layoutRows t start) F (planFrom t F start)
+unfolding planFrom
+rules-from t a low large F fo start g =
+    rules t F (sizeOf t) (improvesAt t F) (nextAt t F) (layoutRows t) (farRows t F) start (GoodRows t) (machine t a F fo low large start g)
 
 -- Demand 3: whatever the former layout and the allowance, the answers of planning obey the rules of planning by allowance.
 pub demand3 : (t : Topology) → Accepted t → Fits32 t → (L : Layout) → ValidAt t L 1 → Demand3 t (planOf t)
-unfolding planOf ranFrom ranIn startRows
+unfolding planOf layoutRows
 demand3 t a low L v =
-    let large = has-size t a low L v in
     record {
       beginning = layoutRows t (startRows t);
       beginning-valid = λ s h.
           subst (λ (k : ℕ). ValidAt t (layoutRows t (startRows t)) k)
-          (le-antisymm (h .largest (layoutRows t (startRows t)) (sizeOf t) (start-valid t a large)) (size-largest t a low (h .reached .0) s (h .reached .1)))
-          (start-valid t a large);
-      rules = λ F fo.
-          rules t F (sizeOf t) (improvesAt t F) (nextAt t F) (layoutRows t) (farRows t F) (startRows t) (Good t a) (machine t a F fo low large)
-          (layoutRows t (startRows t)) refl;
+          (le-antisymm (h .largest (layoutRows t (startRows t)) (sizeOf t) valid) (size-largest t a low (h .reached .0) s (h .reached .1))) valid;
+      rules = λ F fo. rules-from t a low large F fo (startRows t) good;
     }
+  where
+    large : 1 ≤ sizeOf t
+    large = size-largest t a low L 1 v
+
+    good : GoodRows t (startRows t)
+    good = start-good t a large
+
+    valid : ValidAt t (layoutRows t (startRows t)) (sizeOf t)
+    valid = unfold layoutRows in valid-of-within t (a .ids) (bitsAt (startRows t)) (sizeOf t) large (good .within)
 
 -- A stopped answer is never the nearest: one more improvement reaches a layout valid at the size that is nearer by two at least.
 pub stopped-nearer : (t : Topology) → Accepted t → Fits32 t → (L : Layout) → ValidAt t L 1 → (F : Layout) → IsFormer t F → (n : ℕ)
     → planOf t F n .finished ≡ false → (M : Layout) × (ValidAt t M (planOf t F n .size) × (distance t M F + 2 ≤ planOf t F n .distance))
-unfolding planOf
+unfolding planOf planFrom
 stopped-nearer t a low L v F fo n e =
     let r = demand3 t a low L v .rules F fo in
     (planOf t F (suc n) .layout, (r .valid (suc n), omega (arith, r .measured (suc n), r .stopped n e .lower)))

@@ -1,5 +1,4 @@
 pub mod Rules
-pub mod GoodRows
 pub mod Machines
 pub mod Demands
 pub mod Refusals

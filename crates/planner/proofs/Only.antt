@@ -1,11 +1,10 @@
 -- The answer of planning looks at the nodes in use and at the first P former rows alone: what stands in the other slots and rows, and beyond the
 -- cells of a buffer, alters nothing.
 -- Assumes nothing.
-use Prim.Native.Nat.{ℕ, zero, suc, _≤_, _<_}
-use mathlib.Core.Path.{_≡_, refl, sym, ap, ap₂, _∙_}
-use mathlib.Core.Bool.{Bool, _&&_, _||_, cond}
+use Prim.Native.Nat.{ℕ, _≤_, _<_}
+use mathlib.Core.Path.{_≡_, sym, ap, ap₂, _∙_}
+use mathlib.Core.Bool.{Bool, _||_, cond}
 use mathlib.Core.List.{List, _++_}
-use native.Mathlib.Omega.{arith}
 use lib.Dec.{ltb, eqb}
 use lib.ListN.{length, drop, replicate}
 use borrow.Author.Tests.{le-ltb}
@@ -13,8 +12,10 @@ use Rattle.cells.proofs.Cells.{tab-cong}
 use Rattle.cluster.specs.Terms.{Topology, topology, partitions, idsOf, rising, rowAt, idsIn, formed, rowsIn, cellsOf, faultOf, outOfRange}
 use Rattle.cluster.specs.declared.Cluster.{Cluster}
 use Rattle.sizing.specs.ModelSizing.{sizeOf}
+use Rattle.sums.specs.TermsSums.{everyTo}
 use Rattle.planner.specs.ModelPlan.{planOf}
-use Rattle.planner.specs.TermsPlan.{formedRows, unusable, planRefusal, refusedWith, answered, plannedOf, assignmentAfter, scratchAfter}
+use Rattle.planner.specs.TermsPlan.{unusable, planRefusal, refusedWith, answered, plannedOf, assignmentAfter, scratchAfter}
+use Rattle.planner.proofs.Refusals.{every-cong}
 
 module _ (c d : Cluster) (nodes : topology c ≡ topology d) (few : c .count ≤ 32) (few′ : d .count ≤ 32) (f g : List ℕ) (whole : 2048 ≤ length f)
     (whole′ : 2048 ≤ length g) (rows : (p : ℕ) → p < partitions (topology c) → rowAt f p ≡ rowAt g p)
@@ -29,11 +30,6 @@ module _ (c d : Cluster) (nodes : topology c ≡ topology d) (few : c .count ≤
         ap (λ (b : Bool). cond b 6 (fault-of (topology c))) (le-ltb 32 (c .count) few)
         ∙ (ap fault-of nodes ∙ sym (ap (λ (b : Bool). cond b 6 (fault-of (topology d))) (le-ltb 32 (d .count) few′)))
 
-    same-formed : (n : ℕ) → n ≤ partitions (topology c) → formedRows n f ≡ formedRows n g
-    unfolding formedRows
-    same-formed zero l = refl
-    same-formed (suc n) l = ap₂ _&&_ (same-formed n (omega arith)) (ap formed (rows n (omega arith)))
-
     same-former : rowsIn (partitions (topology c)) f ≡ rowsIn (partitions (topology d)) g
     unfolding rowsIn
     same-former =
@@ -46,8 +42,8 @@ module _ (c d : Cluster) (nodes : topology c ≡ topology d) (few : c .count ≤
       same-unusable =
           ap₂ (λ (x y : Bool). cond (x || ltb a 2048 || ltb s 16384) 8 (cond (eqb (faultOf c) 0) (cond y 0 5) (faultOf c)))
           (le-ltb (length f) 2048 whole ∙ sym (le-ltb (length g) 2048 whole′))
-          (same-formed (partitions (topology c)) (omega arith) ∙ ap (λ (t : Topology). formedRows (partitions t) g) nodes)
-          ∙ ap (λ (n : ℕ). cond (ltb (length g) 2048 || ltb a 2048 || ltb s 16384) 8 (cond (eqb n 0) (cond (formedRows (partitions (topology d)) g) 0 5) n)) same-fault
+          (every-cong (partitions (topology c)) (λ p. formed (rowAt f p)) (λ p. formed (rowAt g p)) (λ p l. ap formed (rows p l)) ∙ ap (λ (t : Topology). everyTo (partitions t) (λ p. formed (rowAt g p))) nodes)
+          ∙ ap (λ (n : ℕ). cond (ltb (length g) 2048 || ltb a 2048 || ltb s 16384) 8 (cond (eqb n 0) (cond (everyTo (partitions (topology d)) (λ p. formed (rowAt g p))) 0 5) n)) same-fault
 
       same-refusal : planRefusal c f a s ≡ planRefusal d g a s
       unfolding planRefusal

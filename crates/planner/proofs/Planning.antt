@@ -9,14 +9,14 @@ use native.Mathlib.Omega.{arith}
 use lib.Dec.{eqb}
 use lib.ListN.{length, drop, replicate}
 use borrow.Author.Tests.{eq-eqb, ne-eqb}
-use Rattle.cluster.specs.Terms.{topology, cellsOf, faultOf}
+use Rattle.cluster.specs.Terms.{topology, partitions, IsFormer, cellsOf, rowsIn, faultOf}
 use Rattle.cluster.specs.declared.Cluster.{Cluster}
 use Rattle.cluster.proofs.Accepting.{accepted}
 use Rattle.sizing.specs.ModelSizing.{Fits32, sizeOf, sizeIn}
 use Rattle.sizing.proofs.Reading.{size-in}
-use Rattle.planner.specs.TermsPlan.{unusable, planRefusal, answerOf, refusedWith, answered, plannedOf, assignmentAfter, scratchAfter, Owed}
+use Rattle.planner.specs.TermsPlan.{unusable, planRefusal, planIn, refusedWith, answered, plannedOf, assignmentAfter, scratchAfter, Owed}
 use Rattle.planner.specs.declared.Planned.{Planned}
-use Rattle.planner.proofs.Refusals.{usable-has}
+use Rattle.planner.proofs.Refusals.{usable-has, lent-former}
 use Rattle.planner.proofs.Demands.{demand3, no-layout}
 
 module _ (c : Cluster) (former : List ℕ) (allowance : ℕ) (assignment scratch : List ℕ) where
@@ -30,14 +30,14 @@ module _ (c : Cluster) (former : List ℕ) (allowance : ℕ) (assignment scratch
   abbrev Ends : Planned → List ℕ → List ℕ → Type 0
   Ends r cells rest =
       (r ≡ plannedOf c former allowance a s) × (cells ≡ assignmentAfter c former allowance assignment s) × (rest ≡ scratchAfter c former a scratch)
-      × Owed c former a s (r .refusal)
+      × (unusable c former a s ≡ 0 → Owed (topology c) (rowsIn (partitions (topology c)) former) (r .refusal))
 
   -- The answer and the assignment with a refusal.
   with-refusal : (n : ℕ) → planRefusal c former a s ≡ n → (n ≡ 0 → ⊥) → (refusedWith n ≡ plannedOf c former allowance a s) × (assignment ≡ assignmentAfter c former allowance assignment s)
   unfolding plannedOf assignmentAfter
   with-refusal n e some = (
-    sym (ap (λ (b : Bool). cond b (answered (answerOf c former allowance)) (refusedWith (planRefusal c former a s))) test ∙ ap refusedWith e),
-    sym (ap (λ (b : Bool). cond b (cellsOf (answerOf c former allowance .layout) ++ drop 2048 assignment) assignment) test),
+    sym (ap (λ (b : Bool). cond b (answered (planIn c former allowance)) (refusedWith (planRefusal c former a s))) test ∙ ap refusedWith e),
+    sym (ap (λ (b : Bool). cond b (cellsOf (planIn c former allowance .layout) ++ drop 2048 assignment) assignment) test),
   )
     where
       test : eqb (planRefusal c former a s) 0 ≡ false
@@ -50,7 +50,7 @@ module _ (c : Cluster) (former : List ℕ) (allowance : ℕ) (assignment scratch
     q ∙ (ap refusedWith e ∙ w .0),
     w .1,
     sym (ap (λ (b : Bool). cond b (replicate 16384 0 ++ drop 16384 scratch) scratch) test),
-    record { nine = λ z. absurd (not-zero z); none = λ z. absurd (not-zero z); nearest = λ z. absurd (not-zero z) },
+    λ z. absurd (not-zero z),
   )
     where
       not-zero : unusable c former a s ≡ 0 → ⊥
@@ -67,6 +67,9 @@ module _ (c : Cluster) (former : List ℕ) (allowance : ℕ) (assignment scratch
   module _ (u : unusable c former a s ≡ 0) where
     faultless : faultOf c ≡ 0
     faultless = usable-has c former a s u .faultless
+
+    lent : IsFormer (topology c) (rowsIn (partitions (topology c)) former)
+    lent = lent-former c former a s (usable-has c former a s u)
 
     none-or-nine : planRefusal c former a s ≡ cond (eqb (sizeOf (topology c)) 0) 9 0
     unfolding planRefusal
@@ -87,30 +90,27 @@ module _ (c : Cluster) (former : List ℕ) (allowance : ℕ) (assignment scratch
           q ∙ w .0,
           w .1,
           cleared rest er,
-          record {
-            nine = λ v x. empty;
-            none = λ v x. ap (λ (p : Planned). p .refusal) q;
-            nearest = λ v L x. absurd (empty L x);
-          },
+          λ v. record { nine = λ x. empty; none = λ x. ap (λ (p : Planned). p .refusal) q; nearest = λ L x. absurd (empty L x); former = lent },
         )
 
     -- The plan is made.
     pub planned-ends : (size : ℕ) → size ≡ sizeIn c → (size ≡ 0 → ⊥) → (rest : List ℕ) → rest ≡ replicate 16384 0 ++ drop 16384 scratch
-        → (r : Planned) → r ≡ answered (answerOf c former allowance) → (cells : List ℕ)
-        → cells ≡ cellsOf (answerOf c former allowance .layout) ++ drop 2048 assignment → Fits32 (topology c) → Ends r cells rest
+        → (r : Planned) → r ≡ answered (planIn c former allowance) → (cells : List ℕ)
+        → cells ≡ cellsOf (planIn c former allowance .layout) ++ drop 2048 assignment → Fits32 (topology c) → Ends r cells rest
     unfolding plannedOf assignmentAfter
     planned-ends size e some rest er r q cells ec low =
         let large : sizeOf (topology c) ≡ 0 → ⊥ = λ z. some (e ∙ (size-in c faultless ∙ z)) in
         let no-refusal : planRefusal c former a s ≡ 0 = none-or-nine ∙ ap (λ (b : Bool). cond b 9 0) (ne-eqb (sizeOf (topology c)) 0 large) in
         let test = eq-eqb (planRefusal c former a s) 0 no-refusal in
         let zero : r .refusal ≡ 0 = ap (λ (p : Planned). p .refusal) q in (
-          q ∙ sym (ap (λ (b : Bool). cond b (answered (answerOf c former allowance)) (refusedWith (planRefusal c former a s))) test),
-          ec ∙ sym (ap (λ (b : Bool). cond b (cellsOf (answerOf c former allowance .layout) ++ drop 2048 assignment) assignment) test),
+          q ∙ sym (ap (λ (b : Bool). cond b (answered (planIn c former allowance)) (refusedWith (planRefusal c former a s))) test),
+          ec ∙ sym (ap (λ (b : Bool). cond b (cellsOf (planIn c former allowance .layout) ++ drop 2048 assignment) assignment) test),
           cleared rest er,
-          record {
-            nine = λ v x. absurd (omega (arith, zero, x));
-            none = λ v x. absurd (large (no-layout (topology c) (accepted c faultless) .1 x));
-            nearest = λ v L x. demand3 (topology c) (accepted c faultless) low L x;
+          λ v. record {
+            nine = λ x. absurd (omega (arith, zero, x));
+            none = λ x. absurd (large (no-layout (topology c) (accepted c faultless) .1 x));
+            nearest = demand3 (topology c) (accepted c faultless) low;
+            former = lent;
           },
         )
 

@@ -8,7 +8,7 @@ use native.Mathlib.Omega.{arith}
 use lib.Dec.{ltb, eqb}
 use lib.ListN.{length}
 use borrow.Author.Tests.{le-leb, lt-ltb, le-ltb, eq-eqb, ne-eqb, eqb-true, ltb-false}
-use Rattle.cluster.specs.Terms.{topology, partitions, rowAt, idsIn, formed, faultOf}
+use Rattle.cluster.specs.Terms.{topology, partitions, IsFormer, rowAt, idsIn, formed, rowsIn, faultOf}
 use Rattle.cluster.specs.ModelRows.{illFormed, idCount, rowIds}
 use Rattle.cluster.specs.declared.Cluster.{Cluster}
 use Rattle.cluster.proofs.Accepting.{accepted}
@@ -17,8 +17,15 @@ use Rattle.cluster.proofs.RowScans.{row-of-buffer}
 use Rattle.masks.specs.ModelMasks.{rowsFormed}
 use Rattle.sums.specs.TermsSums.{everyTo}
 use Rattle.improve.proofs.Runs.{not-both}
-use Rattle.planner.specs.TermsPlan.{formedRows, unusable}
+use Rattle.masks.proofs.Laws.{formed-former}
+use Rattle.planner.specs.TermsPlan.{unusable}
 use Rattle.planner.proofs.Machines.{few-partitions}
+
+-- Tests that are the same at each index are the same of all.
+pub every-cong : (n : ℕ) (f g : ℕ → Bool) → ((i : ℕ) → i < n → f i ≡ g i) → everyTo n f ≡ everyTo n g
+unfolding everyTo
+every-cong zero f g h = refl
+every-cong (suc n) f g h = ap₂ _&&_ (every-cong n f g (λ i l. h i (omega arith))) (h n (omega arith))
 
 -- The test of the former rows that code makes is the one of the definition.
 module _ (cells : List ℕ) (whole : 2048 ≤ length cells) where
@@ -32,18 +39,13 @@ module _ (cells : List ℕ) (whole : 2048 ≤ length cells) where
       ap (λ (b : Bool). ltb (cond b (idCount (rowAt cells p)) illFormed) illFormed) (row-of-buffer cells p whole l)
       ∙ test (formed (rowAt cells p)) (length (idsIn (rowAt cells p))) (few-ids cells p)
 
-  all-rows : (n : ℕ) → n ≤ 256 → everyTo n (λ p. ltb (rowIds cells p) illFormed) ≡ formedRows n cells
-  unfolding everyTo formedRows
-  all-rows zero l = refl
-  all-rows (suc n) l = ap₂ _&&_ (all-rows n (omega arith)) (one-row n (omega arith))
-
-  rows-same : (n : ℕ) → n ≤ 256 → formedRows n cells ≡ rowsFormed cells n
+  rows-same : (n : ℕ) → n ≤ 256 → everyTo n (λ p. formed (rowAt cells p)) ≡ rowsFormed cells n
   unfolding rowsFormed
-  rows-same n l = sym (ap (λ (b : Bool). b && everyTo n (λ p. ltb (rowIds cells p) illFormed)) (le-leb n 256 l) ∙ all-rows n l)
+  rows-same n l = sym (ap (λ (b : Bool). b && everyTo n (λ p. ltb (rowIds cells p) illFormed)) (le-leb n 256 l) ∙ every-cong n (λ p. ltb (rowIds cells p) illFormed) (λ p. formed (rowAt cells p)) (λ p h. one-row p (omega arith)))
 
 -- The same of the former rows of a cluster without fault.
 former-same : (c : Cluster) (former : List ℕ) → 2048 ≤ length former → faultOf c ≡ 0
-    → formedRows (partitions (topology c)) former ≡ rowsFormed former (partitions (topology c))
+    → everyTo (partitions (topology c)) (λ p. formed (rowAt former p)) ≡ rowsFormed former (partitions (topology c))
 former-same c former whole e = rows-same former whole (partitions (topology c)) (few-partitions (topology c) (accepted c e))
 
 module _ (c : Cluster) (former : List ℕ) (a s : ℕ) where
@@ -85,21 +87,25 @@ pub usable-has : (c : Cluster) (former : List ℕ) (a s : ℕ) → unusable c fo
 unfolding unusable
 usable-has c former a s e = go (ltb (length former) 2048) refl (ltb a 2048) refl (ltb s 16384) refl e
   where
-    rows : 2048 ≤ length former → 2048 ≤ a → 16384 ≤ s → faultOf c ≡ 0 → (r : Bool) → formedRows (partitions (topology c)) former ≡ r
+    rows : 2048 ≤ length former → 2048 ≤ a → 16384 ≤ s → faultOf c ≡ 0 → (r : Bool) → everyTo (partitions (topology c)) (λ p. formed (rowAt former p)) ≡ r
         → _≡_ {A = ℕ} (cond r 0 5) 0 → Usable c former a s
     rows f g h z true q k = record { former-long = f; assignment-long = g; scratch-long = h; faultless = z; rows-formed = sym (former-same c former f z) ∙ q }
     rows f g h z false q k = absurd (omega arith)
 
     fault : 2048 ≤ length former → 2048 ≤ a → 16384 ≤ s → (t : Bool) → eqb (faultOf c) 0 ≡ t
-        → _≡_ {A = ℕ} (cond t (cond (formedRows (partitions (topology c)) former) 0 5) (faultOf c)) 0 → Usable c former a s
-    fault f g h true q k = rows f g h (eqb-true (faultOf c) 0 q) (formedRows (partitions (topology c)) former) refl k
+        → _≡_ {A = ℕ} (cond t (cond (everyTo (partitions (topology c)) (λ p. formed (rowAt former p))) 0 5) (faultOf c)) 0 → Usable c former a s
+    fault f g h true q k = rows f g h (eqb-true (faultOf c) 0 q) (everyTo (partitions (topology c)) (λ p. formed (rowAt former p))) refl k
     fault f g h false q k = absurd (not-both (eqb (faultOf c) 0) (eq-eqb (faultOf c) 0 k) q)
 
     go : (x : Bool) → ltb (length former) 2048 ≡ x → (y : Bool) → ltb a 2048 ≡ y → (z : Bool) → ltb s 16384 ≡ z
-        → _≡_ {A = ℕ} (cond (x || y || z) 8 (cond (eqb (faultOf c) 0) (cond (formedRows (partitions (topology c)) former) 0 5) (faultOf c))) 0
+        → _≡_ {A = ℕ} (cond (x || y || z) 8 (cond (eqb (faultOf c) 0) (cond (everyTo (partitions (topology c)) (λ p. formed (rowAt former p))) 0 5) (faultOf c))) 0
         → Usable c former a s
     go true p y q z r k = absurd (omega arith)
     go false p true q z r k = absurd (omega arith)
     go false p false q true r k = absurd (omega arith)
     go false p false q false r k =
         fault (ltb-false (length former) 2048 p) (ltb-false a 2048 q) (ltb-false s 16384 r) (eqb (faultOf c) 0) refl k
+
+-- The former layout that a usable call is lent.
+pub lent-former : (c : Cluster) (former : List ℕ) (a s : ℕ) → Usable c former a s → IsFormer (topology c) (rowsIn (partitions (topology c)) former)
+lent-former c former a s u = formed-former (topology c) former (u .rows-formed)

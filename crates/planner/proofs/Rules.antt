@@ -1,18 +1,19 @@
 -- From a machine that improves layouts step by step to the rules of planning by allowance.
 -- Assumes nothing.
 use mathlib.Core.List.{[]}
-use Prim.Native.Nat.{ℕ, zero, suc, _+_, _*_, _≤_, _<_, min}
-use mathlib.Core.Path.{_≡_, sym, ap, _∙_, subst}
+use Prim.Native.Nat.{ℕ, suc, _+_, _*_, _≤_, _<_, min}
+use mathlib.Core.Path.{_≡_, sym, ap, _∙_}
 use mathlib.Core.Bool.{Bool, true, false, not}
 use mathlib.Core.Logic.{_⊎_, ⊎-elim}
 use native.Mathlib.Omega.{arith}
 use lib.ListN.{length}
 use Rattle.sums.proofs.Sum.{lt-or-ge}
 use Rattle.cluster.specs.Terms.{Topology, partitions, Layout, row, ValidAt, IsSize, distance}
-use Rattle.improve.specs.ModelRun.{Ran, after, run}
-use Rattle.planner.specs.Demand.{Answer, Finished, Stopped, Rules}
+use Rattle.improve.specs.ModelRun.{Ran, run}
+use Rattle.planner.specs.Demand.{Answer, Rules}
+use Rattle.planner.specs.ModelPlan.{reached, answerAt}
 use Rattle.sums.proofs.Tests.{true-or-false}
-use Rattle.improve.proofs.Runs.{not-both, run-is, after-next, stopped-improves, finished-done, stopped-spent, finished-larger, finished-smallest, stopped-next}
+use Rattle.improve.proofs.Runs.{not-both, run-is, run-none, run-keeps, stopped-improves, finished-done, stopped-spent, finished-larger, finished-smallest, stopped-next}
 
 module _ (t : Topology) (F : Layout) (s : ℕ) {A : Type 0} (improves : A → Bool) (next : A → A) (lay : A → Layout) (far : A → ℕ) (start : A) (Good : A → Type 0) where
   -- States that stand for layouts valid at the size s: an improvement brings the layout nearer, and where there is none, no layout is nearer.
@@ -25,97 +26,78 @@ module _ (t : Topology) (F : Layout) (s : ℕ) {A : Type 0} (improves : A → Bo
     pub falls : (x : A) → Good x → improves x ≡ true → far (next x) + 2 ≤ far x
     pub bounded : (x : A) → Good x → improves x ≡ true → far x ≤ far (next x) + 2 * length (t .nodes)
     pub nearest : (x : A) → Good x → improves x ≡ false → (L : Layout) → ValidAt t L s → far x ≤ distance t L F
-    pub near : (x : A) → Good x → far start ≤ far x + 2 * 2048
+    pub enough : run improves next 2048 start .finished ≡ true
     pub blank : ((p : ℕ) → p < partitions t → row F p ≡ []) → (improves start ≡ false) × (far start ≡ t .replication * partitions t)
 
-  -- The answer with an allowance.
-  abbrev pub answer : ℕ → Answer
-  answer a =
-      let r = run improves next a start in
-      record { layout = lay (r .state); size = s; distance = far (r .state); finished = r .finished; improvements = r .steps }
+  abbrev plan : ℕ → Answer
+  plan = answerAt improves next lay far s start
 
   module _ (machine : Machine) where
-    -- All states on the way are good, and each improvement brought its layout two nearer at least.
-    on-the-way : (n : ℕ) → ((j : ℕ) → j < n → improves (after improves next j start) ≡ true)
-        → Good (after improves next n start) × (far (after improves next n start) + 2 * n ≤ far start)
-    unfolding after
-    on-the-way zero h = (machine .starts, omega arith)
-    on-the-way (suc n) h =
-        let w = on-the-way n (λ j l. h j (omega arith)) in
-        let can = h n (omega arith) in
-        subst (λ (x : A). Good x × (far x + 2 * suc n ≤ far start)) (sym (after-next improves next n start))
-        (machine .stays _ (w .0) can, omega (arith, w .1, machine .falls _ (w .0) can))
-
     abbrev state : ℕ → A
-    state a = run improves next a start .state
+    state = reached improves next lay far s start
 
-    pub good : (a : ℕ) → Good (state a)
-    good a =
-        let x = run-is improves next a start in
-        subst Good (sym (x .there)) (on-the-way (run improves next a start .steps) (x .before) .0)
+    -- All states that a run reaches are good.
+    good : (a : ℕ) → Good (state a)
+    good a = run-keeps improves next Good (machine .stays) _ start (machine .starts)
 
-    stopped : (a : ℕ) → run improves next a start .finished ≡ false → Stopped t answer a
-    stopped a e =
-        let can = stopped-improves improves next start a e in
-        let to = stopped-next improves next start a e in
-        record {
-          spent = stopped-spent improves next start a e;
-          lower = omega (arith, ap far to, machine .falls (state a) (good a) can);
-          bounded = omega (arith, ap far to, machine .bounded (state a) (good a) can);
-        }
+    begins : plan 0 .distance ≡ distance t (lay start) F
+    begins = ap (λ (r : Ran A). far (r .state)) (run-none improves next start) ∙ machine .measured start (machine .starts)
+
+    -- ---- a stopped run: it can still be improved
+
+    module _ (a : ℕ) (e : plan a .finished ≡ false) where
+      lower : plan (suc a) .distance + 2 ≤ plan a .distance
+      lower =
+          omega (
+            arith,
+            ap far (stopped-next improves next start a (cc)),
+            machine .falls (state a) (good a) (stopped-improves improves next start a (cc)),
+          )
+
+      spent : plan a .improvements ≡ a
+      spent = omega (arith, stopped-spent improves next start a (cc))
+
+      bounded : plan a .distance ≤ plan (suc a) .distance + 2 * length (t .nodes)
+      bounded =
+          omega (
+            arith,
+            ap far (stopped-next improves next start a (cc)),
+            machine .bounded (state a) (good a) (stopped-improves improves next start a (cc)),
+          )
+
+    -- ---- a finished run
 
     steps-few : (a : ℕ) → run improves next a start .steps ≤ a
     steps-few a = run-is improves next a start .few
 
-    same-answer : (a b : ℕ) → run improves next a start ≡ run improves next b start → answer a ≡ answer b
-    same-answer a b e =
-        ap (λ (r : Ran A). record { layout = lay (r .state); size = s; distance = far (r .state); finished = r .finished; improvements = r .steps }) e
+    module _ (a : ℕ) (e : plan a .finished ≡ true) where
+      nearest : (L : Layout) → ValidAt t L s → plan a .distance ≤ distance t L F
+      nearest = machine .nearest (state a) (good a) (finished-done improves next start a (cc))
 
-    finished : (a : ℕ) → run improves next a start .finished ≡ true → Finished t F answer a
-    finished a e =
-        let m = run improves next a start .steps in
-        record {
-          nearest = machine .nearest (state a) (good a) (finished-done improves next start a e);
-          finishes = ap (λ (r : Ran A). r .finished) (finished-larger improves next start a e m (omega arith)) ∙ e;
-          smallest = finished-smallest improves next start a e;
-          larger = λ b l. same-answer b a (finished-larger improves next start a e b (omega (arith, steps-few a)));
-        }
+      smallest : (b : ℕ) → plan b .finished ≡ true → plan a .improvements ≤ b
+      smallest b f = finished-smallest improves next start a (cc) b (cc)
 
-    -- 2,048 improvements always finish: each brings the layout two nearer, and it is at most twice as far from the nearest.
-    enough : run improves next 2048 start .finished ≡ true
-    enough =
-        ⊎-elim (λ e. e)
-        (λ e.
-        let x = run-is improves next 2048 start in
-        let w = on-the-way (run improves next 2048 start .steps) (x .before) in
-        let can = stopped-improves improves next start 2048 e in
-        let g = good 2048 in
-        absurd
-        (omega (
-          arith,
-          w .1,
-          ap far (x .there),
-          stopped-spent improves next start 2048 e,
-          machine .falls (state 2048) g can,
-          machine .near (next (state 2048)) (machine .stays (state 2048) g can),
-        )))
-        (true-or-false (run improves next 2048 start .finished))
+      -- An allowance of at least its improvements ends in the same way.
+      same : (b : ℕ) → run improves next a start .steps ≤ b → plan b ≡ plan a
+      same b l =
+          let q = finished-larger improves next start a e b l in
+          λ i. record { layout = lay (q i .state); size = s; distance = far (q i .state); finished = q i .finished; improvements = q i .steps }
 
-    counted : (a : ℕ) → run improves next a start .steps ≡ min a (run improves next 2048 start .steps)
+    -- ---- the rules
+
+    counted : (a : ℕ) → plan a .improvements ≡ min a (plan 2048 .improvements)
     counted a =
         ⊎-elim
         (λ e.
-        let l = finished-smallest improves next start a e 2048 enough in
-        let q = ap (λ (r : Ran A). r .steps) (finished-larger improves next start a e 2048 l) in
-        omega (arith, steps-few a, q))
+        let l = smallest a e 2048 (machine .enough) in
+        omega (arith, steps-few a, ap (λ (x : Answer). x .improvements) (same a e 2048 l)))
         (λ e.
-        ⊎-elim (λ l. omega (arith, stopped-spent improves next start a e))
-        (λ g. absurd (not-both (run improves next a start .finished)
-        (ap (λ (r : Ran A). r .finished) (finished-larger improves next start 2048 enough a g) ∙ enough) e))
-        (lt-or-ge a (run improves next 2048 start .steps)))
-        (true-or-false (run improves next a start .finished))
+        ⊎-elim (λ l. omega (arith, spent a e))
+        (λ g. absurd (not-both (plan a .finished) (ap (λ (x : Answer). x .finished) (same 2048 (machine .enough) a g) ∙ machine .enough) e))
+        (lt-or-ge a (plan 2048 .improvements)))
+        (true-or-false (plan a .finished))
 
-    exactly : (a : ℕ) → ((L : Layout) → ValidAt t L s → far (state a) ≤ distance t L F) → run improves next a start .finished ≡ true
+    exactly : (a : ℕ) → ((L : Layout) → ValidAt t L s → plan a .distance ≤ distance t L F) → plan a .finished ≡ true
     exactly a h =
         ⊎-elim (λ e. e)
         (λ e.
@@ -128,21 +110,28 @@ module _ (t : Topology) (F : Layout) (s : ℕ) {A : Type 0} (improves : A → Bo
           machine .measured (next (state a)) g,
           h (lay (next (state a))) (machine .valid (next (state a)) g),
         )))
-        (true-or-false (run improves next a start .finished))
+        (true-or-false (plan a .finished))
 
     -- The rules hold of the answers of such a machine.
-    pub rules : (beginning : Layout) → lay start ≡ beginning → Rules t beginning F answer
-    unfolding run
-    rules beginning e =
+    pub rules : Rules t (lay start) F plan
+    rules =
         record {
           size = λ a. machine .sized;
           valid = λ a. machine .valid (state a) (good a);
           measured = λ a. machine .measured (state a) (good a);
-          begins = machine .measured start (machine .starts) ∙ ap (λ (L : Layout). distance t L F) e;
-          stopped = stopped;
-          finished = finished;
+          begins = begins;
+          stopped = λ a e. record { spent = spent a e; lower = lower a e; bounded = bounded a e };
+          finished = λ a e.
+              record {
+                nearest = nearest a e;
+                finishes = ap (λ (x : Answer). x .finished) (same a e (plan a .improvements) (omega arith)) ∙ e;
+                smallest = smallest a e;
+                larger = λ b l. same a e b (omega (arith, steps-few a));
+              };
           exactly = exactly;
           counted = counted;
-          enough = enough;
-          nothing-former = λ h. let b = machine .blank h in (ap not (b .0), b .1);
+          enough = machine .enough;
+          nothing-former = λ h.
+              let b = machine .blank h in
+              (ap (λ (r : Ran A). r .finished) (run-none improves next start) ∙ ap not (b .0), begins ∙ (sym (machine .measured start (machine .starts)) ∙ b .1));
         }

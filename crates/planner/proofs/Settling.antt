@@ -21,15 +21,15 @@ use Rattle.cluster.proofs.CellLayouts.{row-rowsIn}
 use Rattle.incidence.proofs.TieDistance.{former-few}
 use Rattle.masks.specs.ModelMasks.{masksRead, rowMask, cellsWritten, idsTotal, rowsFormed}
 use Rattle.masks.proofs.Laws.{mask-bits, formed-each, formed-former, ids-pairs, written-layout}
-use Rattle.sizing.specs.ModelSizing.{nodesOf, mateCells, capCells, Fits32, sizeOf, dealtRows, dealtIn}
+use Rattle.sizing.specs.ModelSizing.{nodesOf, mateCells, capCells, Fits32, sizeOf, dealtIn}
 use Rattle.sizing.proofs.Reading.{deal-in}
 use Rattle.improve.specs.ModelRun.{Ran}
 use Rattle.improve.specs.ModelImprove.{ranIn, agreementIn, sharedIn}
-use Rattle.planner.specs.ModelPlan.{formerMasks, ranFrom, ranOf, layoutRows, farRows, planOf}
-use Rattle.planner.specs.TermsPlan.{answerOf, answered}
+use Rattle.planner.specs.ModelPlan.{formerMasks, dealtAt, startRows, ranFrom, layoutRows, farRows, planFrom, planOf}
+use Rattle.planner.specs.TermsPlan.{planIn, answered}
 use Rattle.planner.specs.declared.Planned.{Planned}
-use Rattle.planner.proofs.Machines.{Good, few-partitions, fm-long, far-fits}
-use Rattle.planner.proofs.Demands.{good-state}
+use Rattle.improve.proofs.Ground.{run-good}
+use Rattle.planner.proofs.Machines.{GoodRows, few-partitions, start-good, fm-long, ground, measure}
 
 -- ---- the numbers of a cluster without fault
 
@@ -49,13 +49,13 @@ module _ (c : Cluster) (size P n : ℕ) (before rows zones mates caps dealt : Li
     (en : n ≡ nodesOf (topology c)) (e-rows : rows ≡ replicate 256 0) (e-dealt : dealt ≡ dealtIn c size rows) (e-zones : zones ≡ zoneCells (topology c))
     (e-mates : mates ≡ mateCells zones n) (e-caps : caps ≡ capCells (topology c) size)
   where
-    the-dealt : dealt ≡ dealtRows (topology c) size (replicate 256 0)
+    the-dealt : dealt ≡ dealtAt (topology c) size
     the-dealt =
         e-dealt
         ∙ (ap (dealtIn c size) e-rows
         ∙ deal-in c size (replicate 256 0) e (omega (arith, few-partitions (topology c) (accepted c e), length-replicate {A = ℕ} 256 0)))
 
-    pub run-is : ranIn before P mates caps n (c .redundancy) a dealt ≡ ranFrom (topology c) size before a
+    pub run-is : ranIn before P mates caps n (c .redundancy) a dealt ≡ ranFrom (topology c) size before (dealtAt (topology c) size) a
     unfolding ranFrom
     run-is = λ i. ranIn before (eP i) (the-mates i) (e-caps i) (en i) (c .redundancy) a (the-dealt i)
       where
@@ -67,7 +67,7 @@ module _ (c : Cluster) (size P n : ℕ) (before rows zones mates caps dealt : Li
 module _ (c : Cluster) (former : List ℕ) (a size P : ℕ) (before rows : List ℕ) (e : faultOf c ≡ 0)
     (formed : rowsFormed former (partitions (topology c)) ≡ true) (es : size ≡ sizeOf (topology c)) (large : 1 ≤ size)
     (eP : P ≡ partitions (topology c)) (eb : before ≡ masksRead (topology c .nodes) former P (replicate 256 0))
-    (er : rows ≡ ranFrom (topology c) size before a .state) (low : Fits32 (topology c))
+    (er : rows ≡ ranFrom (topology c) size before (dealtAt (topology c) size) a .state) (low : Fits32 (topology c))
   where
     abbrev t : Topology
     t = topology c
@@ -102,14 +102,19 @@ module _ (c : Cluster) (former : List ℕ) (a size P : ℕ) (before rows : List 
         (ap (λ (l : List ℕ). l ++ drop (partitions t) (replicate 256 0))
         (tab-cong (λ p. rowMask (t .nodes) former p) (λ p. maskOf (incidence t F p) (nodesOf t)) (partitions t) mask-is))))
 
-    ran-is : ranFrom t size before a ≡ ranOf t F a
-    ran-is = λ i. ranFrom t (es i) (before-is i) a
+    abbrev ran : Ran (List ℕ)
+    ran = ranFrom t (sizeOf t) (formerMasks t F) (startRows t) a
 
-    rows-are : rows ≡ ranOf t F a .state
+    ran-is : ranFrom t size before (dealtAt t size) a ≡ ran
+    unfolding startRows
+    ran-is = λ i. ranFrom t (es i) (before-is i) (dealtAt t (es i)) a
+
+    rows-are : rows ≡ ran .state
     rows-are = er ∙ ap (λ (r : Ran (List ℕ)). r .state) ran-is
 
-    good : Good t acc rows
-    good = subst (Good t acc) (sym rows-are) (good-state t acc low has-size F fo a)
+    good : GoodRows t rows
+    unfolding ranFrom
+    good = subst (GoodRows t) (sym rows-are) (run-good (ground t acc F) (startRows t) (start-good t acc has-size) a)
 
     ids-are : idsTotal former P ≡ formerPairs t F
     ids-are = ap (idsTotal former) eP ∙ ids-pairs t former formed
@@ -123,21 +128,21 @@ module _ (c : Cluster) (former : List ℕ) (a size P : ℕ) (before rows : List 
     measurable = (
       acc .replication .1,
       omega (arith, eP, few-partitions t acc),
-      omega (arith, eP, few-partitions t acc, ap length before-is, fm-long t acc F),
-      omega (arith, eP, few-partitions t acc, good .long),
+      omega (arith, eP, ap length before-is, fm-long t acc F),
+      omega (arith, eP, good .long),
       omega (arith, ids-are, former-few t F fo, few-partitions t acc),
-      omega (arith, ids-are, agreement-is, ap (λ (n : ℕ). c .replication * n) eP, far-fits t acc F fo rows good),
+      omega (arith, ids-are, agreement-is, ap (λ (n : ℕ). c .replication * n) eP, measure t acc F fo rows good),
     )
 
     -- The answer is that of the definition.
-    pub answer-is : (d : ℕ) → d ≡ c .replication * P + idsTotal former P - 2 * agreementIn rows before P → (f : Bool) → f ≡ ranFrom t size before a .finished
-        → (s : ℕ) → s ≡ ranFrom t size before a .steps
-        → _≡_ {A = Planned} (record { refusal = 0; size = size; distance = d; finished = f; improvements = s }) (answered (answerOf c former a))
-    unfolding planOf farRows
+    pub answer-is : (d : ℕ) → d ≡ c .replication * P + idsTotal former P - 2 * agreementIn rows before P → (f : Bool) → f ≡ ranFrom t size before (dealtAt t size) a .finished
+        → (s : ℕ) → s ≡ ranFrom t size before (dealtAt t size) a .steps
+        → _≡_ {A = Planned} (record { refusal = 0; size = size; distance = d; finished = f; improvements = s }) (answered (planIn c former a))
+    unfolding planOf planFrom farRows ranFrom ranIn
     answer-is d ed f ef s es′ =
         λ i. record { refusal = 0; size = es i; distance = far i; finished = (ef ∙ ap (λ (r : Ran (List ℕ)). r .finished) ran-is) i; improvements = (es′ ∙ ap (λ (r : Ran (List ℕ)). r .steps) ran-is) i }
       where
-        far : d ≡ farRows t F (ranOf t F a .state)
+        far : d ≡ farRows t F (ran .state)
         far =
             ed
             ∙ ((λ i. c .replication * eP i + ids-are i - 2 * agreement-is i)
@@ -145,10 +150,10 @@ module _ (c : Cluster) (former : List ℕ) (a size P : ℕ) (before rows : List 
 
     -- The cells written are those of its layout.
     pub cells-are : (cells : List ℕ) → 2048 ≤ length cells
-        → cellsWritten (t .nodes) rows P cells ≡ cellsOf (answerOf c former a .layout) ++ drop 2048 cells
-    unfolding planOf layoutRows
+        → cellsWritten (t .nodes) rows P cells ≡ cellsOf (planIn c former a .layout) ++ drop 2048 cells
+    unfolding planOf planFrom layoutRows ranFrom ranIn
     cells-are cells whole =
         ap (λ (n : ℕ). cellsWritten (t .nodes) rows n cells) eP
-        ∙ (written-layout t rows cells (few-partitions t acc) (omega (arith, few-partitions t acc, good .long)) whole
+        ∙ (written-layout t rows cells (few-partitions t acc) (good .long) whole
         (λ p l. omega (arith, good .within .rows p l .size, acc .replication .1))
         ∙ ap (λ (l : List ℕ). cellsOf (layoutRows t l) ++ drop 2048 cells) rows-are)

@@ -4,21 +4,17 @@
 use Prim.Native.Nat.{ℕ, _+_, _-_, _*_}
 use mathlib.Core.Bool.{Bool}
 use mathlib.Core.List.{List, _++_}
-use lib.ListN.{getD, drop, replicate}
-use Rattle.sets.specs.ModelBits.{bit, maskOf}
+use lib.ListN.{drop, replicate}
+use Rattle.sets.specs.ModelBits.{bitsAt, maskOf}
 use Rattle.sums.specs.TermsSums.{tab}
 use Rattle.cluster.specs.Terms.{bufferRows, Topology, partitions, Layout}
 use Rattle.incidence.specs.ModelIncidence.{incidence, layoutOf, formerPairs, zoneCells}
 use Rattle.sizing.specs.ModelSizing.{nodesOf, mateCells, capCells, sizeOf, dealtRows}
-use Rattle.improve.specs.ModelRun.{Ran}
+use Rattle.improve.specs.ModelRun.{Ran, run}
 use Rattle.improve.specs.ModelImprove.{improvesIn, nextIn, ranIn, agreementIn}
 use Rattle.planner.specs.Demand.{Answer}
 
 -- ---- the plan of a topology
-
--- The rows as 0/1 rows of the theory.
-abbrev pub bitsAt : List ℕ → ℕ → ℕ → ℕ
-bitsAt rows p b = bit (getD rows p 0) b
 
 -- The nodes of each node's zone.
 abbrev pub matesOf : Topology → List ℕ
@@ -28,9 +24,13 @@ matesOf t = mateCells (zoneCells t) (nodesOf t)
 unfoldable pub formerMasks : Topology → Layout → List ℕ
 formerMasks t F = tab (λ p. maskOf (incidence t F p) (nodesOf t)) (partitions t) ++ drop (partitions t) (replicate bufferRows 0)
 
+-- The rows dealt at a size.
+abbrev pub dealtAt : Topology → ℕ → List ℕ
+dealtAt t s = dealtRows t s (replicate bufferRows 0)
+
 -- The rows of the beginning.
 unfoldable pub startRows : Topology → List ℕ
-startRows t = dealtRows t (sizeOf t) (replicate bufferRows 0)
+startRows t = dealtAt t (sizeOf t)
 
 -- The layout that rows stand for.
 unfoldable pub layoutRows : Topology → List ℕ → Layout
@@ -47,16 +47,29 @@ improvesAt t F = improvesIn (formerMasks t F) (partitions t) (matesOf t) (capCel
 abbrev pub nextAt : Topology → Layout → List ℕ → List ℕ
 nextAt t F = nextIn (formerMasks t F) (partitions t) (matesOf t) (capCells t (sizeOf t)) (nodesOf t) (t .redundancy)
 
--- Where the run with an allowance ends, from the rows dealt at a size, `before` the former rows as masks.
-unfoldable pub ranFrom : Topology → ℕ → List ℕ → ℕ → Ran (List ℕ)
-ranFrom t s before a =
-    ranIn before (partitions t) (matesOf t) (capCells t s) (nodesOf t) (t .redundancy) a (dealtRows t s (replicate bufferRows 0))
+-- Where the run with an allowance ends, from any first rows within the caps of a size, `before` the former rows as masks.
+unfoldable pub ranFrom : Topology → ℕ → List ℕ → List ℕ → ℕ → Ran (List ℕ)
+ranFrom t s before rows a = ranIn before (partitions t) (matesOf t) (capCells t s) (nodesOf t) (t .redundancy) a rows
 
-abbrev pub ranOf : Topology → Layout → ℕ → Ran (List ℕ)
-ranOf t F a = ranFrom t (sizeOf t) (formerMasks t F) a
+-- ---- the answer
 
--- The answer of planning, of the nodes in use, the first P former rows and the allowance alone.
+module _ {A : Type 0} (improves : A → Bool) (next : A → A) (lay : A → Layout) (far : A → ℕ) (s : ℕ) (start : A) where
+  -- How the run with an allowance ended.
+  abbrev pub ended : ℕ → Ran A
+  ended a = run improves next a start
+
+  -- The state that it reached.
+  abbrev pub reached : ℕ → A
+  reached a = ended a .state
+
+  -- The answer with an allowance, s the size, `lay` the layout that a state stands for and `far` its distance.
+  abbrev pub answerAt : ℕ → Answer
+  answerAt a = record { layout = lay (reached a); size = s; distance = far (reached a); finished = ended a .finished; improvements = ended a .steps }
+
+-- The answer of planning from any first rows.
+unfoldable pub planFrom : Topology → Layout → List ℕ → ℕ → Answer
+planFrom t F rows = answerAt (improvesAt t F) (nextAt t F) (layoutRows t) (farRows t F) (sizeOf t) rows
+
+-- The answer of planning, of the nodes in use, the first P former rows and the allowance alone: the run from the beginning.
 unfoldable pub planOf : Topology → Layout → ℕ → Answer
-planOf t F a =
-    let r = ranOf t F a in
-    record { layout = layoutRows t (r .state); size = sizeOf t; distance = farRows t F (r .state); finished = r .finished; improvements = r .steps }
+planOf t F = planFrom t F (startRows t)

@@ -1,7 +1,8 @@
 // Planning: the size, the beginning, the run of improvements, and the plan.
 ghost use mathlib.Core.Path.{_≡_};
 ghost use lib.ListN.{length};
-ghost use Rattle.planner.specs.TermsPlan.{plannedOf, assignmentAfter, scratchAfter, refusedWith, Owed};
+ghost use Rattle.cluster.specs.Terms.{topology, partitions, rowsIn};
+ghost use Rattle.planner.specs.TermsPlan.{unusable, plannedOf, assignmentAfter, scratchAfter, refusedWith, Owed};
 use cluster::Cluster;
 use cluster::refusal;
 
@@ -43,7 +44,8 @@ pub fn plan(
     ensures { λ r. ⌜ (r ≡ plannedOf c (now (former .entry)) allowance (length (now (assignment .entry))) (length (now (scratch .entry))))
         × (now (assignment .exit) ≡ assignmentAfter c (now (former .entry)) allowance (now (assignment .entry)) (length (now (scratch .entry))))
         × (now (scratch .exit) ≡ scratchAfter c (now (former .entry)) (length (now (assignment .entry))) (now (scratch .entry)))
-        × Owed c (now (former .entry)) (length (now (assignment .entry))) (length (now (scratch .entry))) (r .refusal) ⌝ }
+        × (unusable c (now (former .entry)) (length (now (assignment .entry))) (length (now (scratch .entry))) ≡ 0
+            → Owed (topology c) (rowsIn (partitions (topology c)) (now (former .entry))) (r .refusal)) ⌝ }
 {
     let unusable = refuse::unusable(c, former, assignment.len(), scratch.len());
     if unusable != 0 {

@@ -1,18 +1,8 @@
 // What planning cannot use: short buffers, a cluster with a fault, ill-formed former rows.
 ghost use mathlib.Core.Path.{_≡_};
-ghost use Prim.Native.Nat.{_≤_, _^_};
 ghost use Rattle.planner.specs.TermsPlan.{unusable};
 use cluster::Cluster;
 use cluster::refusal;
-
-// The number of partitions of a cluster in range.
-pub(crate) fn partitions(bits: u32) -> usize
-    requires { ⌜ bits ≤ 8 ⌝ }
-    ensures { λ r. ⌜ (r ≡ 2 ^ bits) × (r ≤ 256) ⌝ }
-{
-    let number: u32 = 1 << bits;
-    number as usize
-}
 
 // The first refusal but that of a cluster without layout: 8, 6, 4, 5, or 0.
 pub fn unusable(c: Cluster, former: &[u32], assignment: usize, scratch: usize) -> u32
@@ -31,7 +21,7 @@ pub fn unusable(c: Cluster, former: &[u32], assignment: usize, scratch: usize) -
     if fault != 0 {
         return fault;
     }
-    if masks::rows_formed(former, partitions(c.bits)) {
+    if masks::rows_formed(former, cluster::partitions(c.bits)) {
         0
     } else {
         refusal::ORDER

@@ -8,10 +8,9 @@ ghost use Rattle.cluster.specs.Terms.{topology, partitions, cellsOf, faultOf};
 ghost use Rattle.masks.specs.ModelMasks.{rowsFormed, idsTotal};
 ghost use Rattle.sizing.specs.ModelSizing.{Fits32, sizeOf};
 ghost use Rattle.improve.specs.ModelImprove.{agreementIn};
-ghost use Rattle.planner.specs.ModelPlan.{ranFrom};
-ghost use Rattle.planner.specs.TermsPlan.{answerOf, answered};
+ghost use Rattle.planner.specs.ModelPlan.{dealtAt, ranFrom};
+ghost use Rattle.planner.specs.TermsPlan.{planIn, answered};
 use super::Planned;
-use super::refuse;
 use cluster::Cluster;
 use improve::Ended;
 use incidence::zones;
@@ -25,12 +24,12 @@ pub(crate) fn improved(
     rows: &mut [u32],
 ) -> Ended
     requires { ⌜ (faultOf c ≡ 0) × (now rows ≡ replicate 256 0) ⌝ }
-    ensures { λ r. ⌜ (now (rows .exit) ≡ ranFrom (topology c) size (now (before .entry)) allowance .state)
-        × (r .finished ≡ ranFrom (topology c) size (now (before .entry)) allowance .finished)
-        × (r .improvements ≡ ranFrom (topology c) size (now (before .entry)) allowance .steps)
+    ensures { λ r. ⌜ (now (rows .exit) ≡ ranFrom (topology c) size (now (before .entry)) (dealtAt (topology c) size) allowance .state)
+        × (r .finished ≡ ranFrom (topology c) size (now (before .entry)) (dealtAt (topology c) size) allowance .finished)
+        × (r .improvements ≡ ranFrom (topology c) size (now (before .entry)) (dealtAt (topology c) size) allowance .steps)
         × Fits32 (topology c) ⌝ }
 {
-    let partitions = refuse::partitions(c.bits);
+    let partitions = cluster::partitions(c.bits);
     let count = c.count;
     sizing::deal(c, size, rows);
     let zones = zones::zones(c);
@@ -77,11 +76,11 @@ pub(crate) fn settle(
 ) -> Planned
     requires { ⌜ (faultOf c ≡ 0) × (2048 ≤ length (now assignment)) × (rowsFormed (now former) (partitions (topology c)) ≡ true)
         × (size ≡ sizeOf (topology c)) × (1 ≤ size) ⌝ }
-    ensures { λ r. ⌜ (r ≡ answered (answerOf c (now (former .entry)) allowance))
-        × (now (assignment .exit) ≡ cellsOf (answerOf c (now (former .entry)) allowance .layout) ++ drop 2048 (now (assignment .entry)))
+    ensures { λ r. ⌜ (r ≡ answered (planIn c (now (former .entry)) allowance))
+        × (now (assignment .exit) ≡ cellsOf (planIn c (now (former .entry)) allowance .layout) ++ drop 2048 (now (assignment .entry)))
         × Fits32 (topology c) ⌝ }
 {
-    let partitions = refuse::partitions(c.bits);
+    let partitions = cluster::partitions(c.bits);
     let mut before = [0u32; 256];
     masks::read_masks(c, former, partitions, &mut before);
     let mut rows = [0u32; 256];

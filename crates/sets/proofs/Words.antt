@@ -1,4 +1,4 @@
--- What the operations of a 32-bit word compute, as operations on sets: each has the bits of the set, and is below 2 ^ 32.
+-- What the operations of a word compute, as operations on sets: each has the bits of the set, and is a word.
 -- Assumes nothing.
 use Prim.Native.Nat.{ℕ, zero, suc, _-_, _*_, _/_, _%_, _^_, _<_, min, max}
 use mathlib.Core.Path.{_≡_, refl, sym, ap, _∙_}
@@ -11,8 +11,9 @@ use lib.Dec.{eqb}
 use lib.Pow.{pow-pos, pow-lt, pow-mono, ones-lt, ones-sub-lt, shl-exact}
 use Rattle.sums.specs.ModelSums.{is}
 use Rattle.sums.proofs.Sum.{lt-or-ge, is-le}
-use Rattle.sets.specs.ModelBits.{bit, firstTo, memberOf, withOf, withoutOf, unionOf, meetOf, differenceOf, belowOf, countOf, leastOf}
-use Rattle.sets.proofs.Laws.{bit-le, bit-zero, bit-shr, bit-high, bit-ext, bit-or, bit-and, bit-not, bit-pow, ones-bits, mask-unique, bit-below, bit-below-not, below-lt}
+use Rattle.sets.specs.ModelBits.{maskBits, bit, firstTo, memberOf, withOf, withoutOf, unionOf, meetOf, differenceOf, belowOf, countOf, leastOf}
+use Rattle.sets.proofs.Bits.{bit-le, bit-zero, bit-shr, bit-high, bit-ext, bit-or, bit-and, bit-not, bit-pow, ones-bits, mask-unique}
+use Rattle.sets.proofs.Laws.{bit-below, bit-below-not, below-lt}
 
 -- A shift and a remainder tell a member.
 pub word-member : (s i : ℕ) → eqb (s / 2 ^ i % 2) 1 ≡ memberOf s i
@@ -20,48 +21,48 @@ unfolding memberOf
 word-member s i = ap (λ (x : ℕ). eqb x 1) (sym (bit-shr s i))
 
 -- An or is a union.
-pub word-union : (s t : ℕ) → s < 2 ^ 32 → t < 2 ^ 32 → bitOr s t ≡ unionOf s t
+pub word-union : (s t : ℕ) → s < 2 ^ maskBits → t < 2 ^ maskBits → bitOr s t ≡ unionOf s t
 unfolding unionOf
 word-union s t hs ht =
-    mask-unique 32 (bitOr s t) (λ j. max (bit s j) (bit t j)) (or-lt 32 s t hs ht) (λ j l. omega (arith, bit-or s t j, bit-le s j, bit-le t j))
+    mask-unique maskBits (bitOr s t) (λ j. max (bit s j) (bit t j)) (or-lt maskBits s t hs ht) (λ j l. omega (arith, bit-or s t j, bit-le s j, bit-le t j))
 
 -- An and is a meet.
-pub word-meet : (s t : ℕ) → s < 2 ^ 32 → t < 2 ^ 32 → bitAnd s t ≡ meetOf s t
+pub word-meet : (s t : ℕ) → s < 2 ^ maskBits → t < 2 ^ maskBits → bitAnd s t ≡ meetOf s t
 unfolding meetOf
 word-meet s t hs ht =
-    mask-unique 32 (bitAnd s t) (λ j. min (bit s j) (bit t j)) (and-lt 32 s t hs ht) (λ j l. omega (arith, bit-and s t j, bit-le s j))
+    mask-unique maskBits (bitAnd s t) (λ j. min (bit s j) (bit t j)) (and-lt maskBits s t hs ht) (λ j l. omega (arith, bit-and s t j, bit-le s j))
 
 -- An and with the complement is a difference.
-pub word-difference : (s t : ℕ) → s < 2 ^ 32 → t < 2 ^ 32 → bitAnd s (2 ^ 32 - 1 - t) ≡ differenceOf s t
+pub word-difference : (s t : ℕ) → s < 2 ^ maskBits → t < 2 ^ maskBits → bitAnd s (2 ^ maskBits - 1 - t) ≡ differenceOf s t
 unfolding differenceOf
 word-difference s t hs ht =
-    mask-unique 32 (bitAnd s (2 ^ 32 - 1 - t)) (λ j. bit s j - bit t j) (and-lt 32 s (2 ^ 32 - 1 - t) hs (ones-sub-lt 32 t))
-    (λ j l. omega (arith, bit-and s (2 ^ 32 - 1 - t) j, bit-not 32 t j ht l, bit-le s j))
+    mask-unique maskBits (bitAnd s (2 ^ maskBits - 1 - t)) (λ j. bit s j - bit t j) (and-lt maskBits s (2 ^ maskBits - 1 - t) hs (ones-sub-lt maskBits t))
+    (λ j l. omega (arith, bit-and s (2 ^ maskBits - 1 - t) j, bit-not maskBits t j ht l, bit-le s j))
 
 -- 1 shifted by i is the set of i alone.
-pub word-one : (i : ℕ) → i < 32 → 1 * 2 ^ i % 2 ^ 32 ≡ 2 ^ i
-word-one i l = shl-exact 1 i 32 (omega arith) (omega arith) ∙ one-mul (2 ^ i)
+pub word-one : (i : ℕ) → i < maskBits → 1 * 2 ^ i % 2 ^ maskBits ≡ 2 ^ i
+word-one i l = shl-exact 1 i maskBits (omega arith) (omega arith) ∙ one-mul (2 ^ i)
 
 -- An or with the set of i alone adds i.
-pub word-with : (s i : ℕ) → s < 2 ^ 32 → i < 32 → bitOr s (1 * 2 ^ i % 2 ^ 32) ≡ withOf s i
+pub word-with : (s i : ℕ) → s < 2 ^ maskBits → i < maskBits → bitOr s (1 * 2 ^ i % 2 ^ maskBits) ≡ withOf s i
 unfolding withOf
 word-with s i hs l =
     ap (λ (x : ℕ). bitOr s x) (word-one i l)
-    ∙ mask-unique 32 (bitOr s (2 ^ i)) (λ j. max (bit s j) (is i j)) (or-lt 32 s (2 ^ i) hs (pow-lt l))
+    ∙ mask-unique maskBits (bitOr s (2 ^ i)) (λ j. max (bit s j) (is i j)) (or-lt maskBits s (2 ^ i) hs (pow-lt l))
     (λ j k. omega (arith, bit-or s (2 ^ i) j, bit-pow i j, bit-le s j, is-le i j))
 
 -- An and with its complement takes i.
-pub word-without : (s i : ℕ) → s < 2 ^ 32 → i < 32 → bitAnd s (2 ^ 32 - 1 - 1 * 2 ^ i % 2 ^ 32) ≡ withoutOf s i
+pub word-without : (s i : ℕ) → s < 2 ^ maskBits → i < maskBits → bitAnd s (2 ^ maskBits - 1 - 1 * 2 ^ i % 2 ^ maskBits) ≡ withoutOf s i
 unfolding withoutOf
 word-without s i hs l =
-    ap (λ (x : ℕ). bitAnd s (2 ^ 32 - 1 - x)) (word-one i l)
-    ∙ mask-unique 32 (bitAnd s (2 ^ 32 - 1 - 2 ^ i)) (λ j. bit s j - is i j) (and-lt 32 s (2 ^ 32 - 1 - 2 ^ i) hs (ones-sub-lt 32 (2 ^ i)))
-    (λ j k. omega (arith, bit-and s (2 ^ 32 - 1 - 2 ^ i) j, bit-not 32 (2 ^ i) j (pow-lt l) k, bit-pow i j, bit-le s j))
+    ap (λ (x : ℕ). bitAnd s (2 ^ maskBits - 1 - x)) (word-one i l)
+    ∙ mask-unique maskBits (bitAnd s (2 ^ maskBits - 1 - 2 ^ i)) (λ j. bit s j - is i j) (and-lt maskBits s (2 ^ maskBits - 1 - 2 ^ i) hs (ones-sub-lt maskBits (2 ^ i)))
+    (λ j k. omega (arith, bit-and s (2 ^ maskBits - 1 - 2 ^ i) j, bit-not maskBits (2 ^ i) j (pow-lt l) k, bit-pow i j, bit-le s j))
 
 -- A power of two less 1 is the set of the numbers below its exponent.
-pub word-below : (k n : ℕ) → k ≡ min n 32 → 2 ^ k - 1 ≡ belowOf n
+pub word-below : (k n : ℕ) → k ≡ min n maskBits → 2 ^ k - 1 ≡ belowOf n
 word-below k n e =
-    bit-ext 32 (2 ^ k - 1) (belowOf n) (omega (arith, pow-pos k, pow-mono {i = k} {j = 32} (omega arith))) (below-lt n)
+    bit-ext maskBits (2 ^ k - 1) (belowOf n) (omega (arith, pow-pos k, pow-mono {i = k} {j = maskBits} (omega arith))) (below-lt n)
     (λ j l. ⊎-elim
     (λ a. low j (omega arith) ∙ sym (bit-below n j l a))
     (λ b. bit-high k (2 ^ k - 1) j (ones-lt k) (omega arith) ∙ sym (bit-below-not n j b)) (lt-or-ge j n))
@@ -72,9 +73,9 @@ word-below k n e =
         omega (arith, ap (λ (x : ℕ). bit x j) e, bit-not k 0 j (pow-pos k) l, bit-zero j)
 
 -- The set digits are the members.
-pub word-count : (s : ℕ) → s < 2 ^ 32 → ones s ≡ countOf s
+pub word-count : (s : ℕ) → s < 2 ^ maskBits → ones s ≡ countOf s
 unfolding countOf
-word-count s h = ones-bits 32 s h
+word-count s h = ones-bits maskBits s h
 
 first-bit : (k m : ℕ) → trailingZeros k m ≡ firstTo k (λ j. bit m j)
 unfolding trailingZeros firstTo bit
@@ -82,6 +83,6 @@ first-bit zero m = refl
 first-bit (suc k) m = ap (under (m % 2)) (first-bit k (m / 2))
 
 -- The zeros below the lowest set digit are as many as the least member.
-pub word-least : (s : ℕ) → trailingZeros 32 s ≡ leastOf s
+pub word-least : (s : ℕ) → trailingZeros maskBits s ≡ leastOf s
 unfolding leastOf
-word-least s = first-bit 32 s
+word-least s = first-bit maskBits s

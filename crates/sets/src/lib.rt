@@ -1,26 +1,29 @@
-// Sets of numbers below 32, each in one u32 by shifts and masks. Every function is total: a number of 32 or more is no member of any set.
+// Sets of numbers below WIDTH, each in one u32 by shifts and masks. Every function is total: a number of WIDTH or more is no member of any set.
 ghost use mathlib.Core.Path.{_≡_};
 ghost use Rattle.sets.specs.ModelBits.{memberOf, withOf, withoutOf, unionOf, meetOf, differenceOf, belowOf, countOf, leastOf};
+
+// How many numbers a set can hold: the digits of a u32.
+pub const WIDTH: u32 = 32;
 
 // Whether i is a member of s.
 pub fn member(s: u32, i: u32) -> bool
     ensures { λ r. ⌜ r ≡ memberOf s i ⌝ }
 {
-    if i < 32 { (s >> i) % 2 == 1 } else { false }
+    if i < WIDTH { (s >> i) % 2 == 1 } else { false }
 }
 
-// The members of s, and i; s itself where i is 32 or more.
+// The members of s, and i; s itself where i is WIDTH or more.
 pub fn with(s: u32, i: u32) -> u32
     ensures { λ r. ⌜ r ≡ withOf s i ⌝ }
 {
-    if i < 32 { s | (1 << i) } else { s }
+    if i < WIDTH { s | (1 << i) } else { s }
 }
 
-// The members of s but i; s itself where i is 32 or more.
+// The members of s but i; s itself where i is WIDTH or more.
 pub fn without(s: u32, i: u32) -> u32
     ensures { λ r. ⌜ r ≡ withoutOf s i ⌝ }
 {
-    if i < 32 { s & !(1 << i) } else { s }
+    if i < WIDTH { s & !(1 << i) } else { s }
 }
 
 // The members of s and those of t.
@@ -44,11 +47,11 @@ pub fn difference(s: u32, t: u32) -> u32
     s & !t
 }
 
-// The set of the numbers below n; all 32 where n is 32 or more.
+// The set of the numbers below n; all of them where n is WIDTH or more.
 pub fn below(n: u32) -> u32
     ensures { λ r. ⌜ r ≡ belowOf n ⌝ }
 {
-    if n < 32 { (1 << n) - 1 } else { 4294967295 }
+    if n < WIDTH { (1 << n) - 1 } else { u32::MAX }
 }
 
 // How many members s has.
@@ -58,7 +61,7 @@ pub fn count(s: u32) -> u32
     u32::count_ones(s)
 }
 
-// The least member of s; 32 where s is empty.
+// The least member of s; WIDTH where s is empty.
 pub fn least(s: u32) -> u32
     ensures { λ r. ⌜ r ≡ leastOf s ⌝ }
 {

@@ -1,6 +1,6 @@
 -- The test of caps and the dealt layout look at zones, caps and copies of the N nodes alone: what agrees below N gives the same.
 -- Assumes nothing.
-use Prim.Native.Nat.{ℕ, _+_, _-_, _*_, _≤_, _<_, min}
+use Prim.Native.Nat.{suc, ℕ, _+_, _-_, _*_, _≤_, _<_, min}
 use mathlib.Core.Path.{_≡_, ap, ap₂, _∙_}
 use mathlib.Core.Bool.{cond, _&&_}
 use native.Mathlib.Omega.{arith}
@@ -8,7 +8,7 @@ use lib.Dec.{leb, ltb}
 use Rattle.sums.specs.TermsSums.{sumTo}
 use Rattle.sums.specs.ModelSums.{is}
 use Rattle.sums.proofs.Sum.{sum-cong}
-use Rattle.dealing.specs.ModelDeal.{inZone, fits, pour, zoned, first, more, given, light, heavy, zoneStart, start, among, dealt}
+use Rattle.dealing.specs.ModelDeal.{totals, inZone, fits, pour, zoned, first, more, given, light, heavy, zoneStart, start, among, dealt}
 
 -- Two functions agree below N.
 abbrev pub SameBelow : ℕ → (ℕ → ℕ) → (ℕ → ℕ) → Type 0
@@ -18,6 +18,19 @@ SameBelow N f g = (b : ℕ) → b < N → f b ≡ g b
 pub pour-agree : (N room : ℕ) (f g : ℕ → ℕ) → SameBelow N f g → SameBelow N (pour room f) (pour room g)
 unfolding pour
 pour-agree N room f g h b l = ap₂ (λ (x s : ℕ). min x (room - s)) (h b l) (sum-cong b f g (λ i m. h i (omega arith)))
+
+-- Where a zone begins.
+pub zone-start-agree : (P N m : ℕ) (t t′ : ℕ → ℕ) → SameBelow m t t′ → N ≤ m → (z : ℕ) → z < m → zoneStart P N t z ≡ zoneStart P N t′ z
+unfolding zoneStart light heavy
+zone-start-agree P N m t t′ h few z low =
+    ap (λ (k : ℕ). cond (ltb k P) (sumTo z (light P t)) (sumTo N (light P t) + sumTo z (heavy P t))) (h z low)
+    ∙ ap₂ (λ (x y : ℕ). cond (ltb (t′ z) P) x y) (lights z (omega arith)) (ap₂ _+_ (lights N few) heavies)
+  where
+    lights : (n : ℕ) → n ≤ m → sumTo n (light P t) ≡ sumTo n (light P t′)
+    lights n l = sum-cong n (light P t) (light P t′) (λ x k. ap (λ (a : ℕ). cond (ltb a P) a 0) (h x (omega arith)))
+
+    heavies : sumTo z (heavy P t) ≡ sumTo z (heavy P t′)
+    heavies = sum-cong z (heavy P t) (heavy P t′) (λ x k. ap (λ (a : ℕ). cond (ltb a P) 0 a) (h x (omega arith)))
 
 module _ (N : ℕ) (zone zone′ : ℕ → ℕ) (same : SameBelow N zone zone′) where
   -- The sum of a zone.
@@ -57,23 +70,12 @@ module _ (N : ℕ) (zone zone′ : ℕ → ℕ) (same : SameBelow N zone zone′
 
   -- Where a node's copies begin.
   pub start-agree : (P : ℕ) (f g : ℕ → ℕ) → SameBelow N f g → SameBelow N (start P N zone f) (start P N zone′ g)
-  unfolding start zoneStart light heavy
+  unfolding start
   start-agree P f g h b l =
-      ap₂ _+_ (ap (λ (z : ℕ). zoneStart P N zone f z) (same b l) ∙ starts (zone′ b)) (own-agree f g h b b l (omega arith))
-    where
-      lights : (n : ℕ) → sumTo n (light P N zone f) ≡ sumTo n (light P N zone′ g)
-      lights n = sum-cong n (light P N zone f) (light P N zone′ g)
-          (λ z m. ap (λ (t : ℕ). cond (ltb t P) t 0) (inZone-agree f g h z N (omega arith)))
-
-      heavies : (n : ℕ) → sumTo n (heavy P N zone f) ≡ sumTo n (heavy P N zone′ g)
-      heavies n = sum-cong n (heavy P N zone f) (heavy P N zone′ g)
-          (λ z m. ap (λ (t : ℕ). cond (ltb t P) 0 t) (inZone-agree f g h z N (omega arith)))
-
-      starts : (z : ℕ) → zoneStart P N zone f z ≡ zoneStart P N zone′ g z
-      starts z =
-          ap (λ (t : ℕ). cond (ltb t P) (sumTo z (light P N zone f)) (sumTo N (light P N zone f) + sumTo z (heavy P N zone f)))
-          (inZone-agree f g h z N (omega arith))
-          ∙ ap₂ (λ (x y : ℕ). cond (ltb (inZone zone′ g z N) P) x y) (lights z) (ap₂ _+_ (lights N) (heavies z))
+      ap₂ _+_
+      (ap (zoneStart P N (totals zone f N)) (same b l)
+      ∙ zone-start-agree P N (suc (N + zone′ b)) (totals zone f N) (totals zone′ g N) (λ z k. inZone-agree f g h z N (omega arith)) (omega arith) (zone′ b) (omega arith))
+      (own-agree f g h b b l (omega arith))
 
   -- The dealt rows.
   pub dealt-agree : (P R : ℕ) (f g : ℕ → ℕ) → SameBelow N f g → (p : ℕ) → SameBelow N (dealt P N R zone f p) (dealt P N R zone′ g p)

@@ -1,44 +1,45 @@
 -- What the arrays of zones and caps hold, and what they give the test and the dealt rows of a cluster.
 -- Assumes nothing.
-use Prim.Native.Nat.{ℕ, _≤_}
+use Prim.Native.Nat.{_^_, min, ℕ, _≤_}
 use mathlib.Core.Path.{_≡_, ap, ap₂, _∙_}
 use mathlib.Core.Bool.{Bool}
 use mathlib.Core.List.{List}
 use native.Mathlib.Omega.{arith}
 use lib.ListN.{length}
-use lib.Pow.{pow-mono, pow-pos}
-use Rattle.cluster.specs.Terms.{mostBits, Topology, partitions}
+use lib.Pow.{pow-pos}
+use Rattle.cluster.proofs.Accepting.{partitions-in-range}
+use Rattle.cluster.specs.Terms.{mostNodes, mostBits, Topology, partitions}
 use Rattle.cluster.specs.TermsReading.{Accepted}
 use Rattle.incidence.specs.ModelIncidence.{zoneIndex, capAt, cell, column, zoneCells}
 use Rattle.incidence.proofs.TieZones.{zone-below}
 use Rattle.dealing.specs.ModelDeal.{fits}
-use Rattle.sizing.specs.ModelSizing.{AtMost, nodesOf, capCells}
+use Rattle.sizing.specs.ModelSizing.{Below, AtMost, nodesOf, capCells}
 use Rattle.incidence.proofs.Columns.{cell-column, length-column}
 use Rattle.sizing.proofs.Agree.{SameBelow, fits-agree}
 
 -- The cells of an array that is a column.
-pub cells-agree : (f : ℕ → ℕ) (n : ℕ) (l : List ℕ) → n ≤ 32 → l ≡ column f n → SameBelow n (cell l) f
+pub cells-agree : (f : ℕ → ℕ) (n : ℕ) (l : List ℕ) → n ≤ mostNodes → l ≡ column f n → SameBelow n (cell l) f
 cells-agree f n l h e b m = ap (λ (k : List ℕ). cell k b) e ∙ cell-column f n b h m
 
--- An array that is a column has 32 cells.
-pub cells-long : (f : ℕ → ℕ) (n : ℕ) (l : List ℕ) → l ≡ column f n → length l ≡ 32
+-- An array that is a column has a cell for each node that there can be.
+pub cells-long : (f : ℕ → ℕ) (n : ℕ) (l : List ℕ) → l ≡ column f n → length l ≡ mostNodes
 cells-long f n l e = ap (λ (k : List ℕ). length k) e ∙ length-column f n
 
--- A cluster without fault has at most 256 partitions, and one at least.
-pub partitions-few : (t : Topology) → Accepted t → (1 ≤ partitions t) × (partitions t ≤ 256)
-partitions-few t a = (pow-pos (t .bits), pow-mono {i = t .bits} {j = mostBits} (a .bits))
+-- The number of partitions that is counted for a cluster without fault: its own, and one at least.
+pub partitions-known : (t : Topology) → Accepted t → (r : ℕ) → r ≡ 2 ^ min (t .bits) mostBits → (r ≡ partitions t) × (1 ≤ r)
+partitions-known t a r e = let d = e ∙ partitions-in-range (t .bits) (a .bits) in (d, omega (arith, pow-pos (t .bits)))
 
-module _ (t : Topology) (few : nodesOf t ≤ 32) where
+module _ (t : Topology) (few : nodesOf t ≤ mostNodes) where
   -- The array of zones holds the zone indices.
   pub zones-hold : (l : List ℕ) → l ≡ zoneCells t → SameBelow (nodesOf t) (cell l) (zoneIndex t)
   unfolding zoneCells
   zones-hold l e = cells-agree (zoneIndex t) (nodesOf t) l few e
 
   -- They are indices of nodes.
-  pub zones-most : (l : List ℕ) → l ≡ zoneCells t → AtMost 31 (nodesOf t) l
+  pub zones-most : (l : List ℕ) → l ≡ zoneCells t → Below mostNodes (nodesOf t) l
   zones-most l e b h = omega (arith, zones-hold l e b h, zone-below t b h)
 
-  pub zones-long : (l : List ℕ) → l ≡ zoneCells t → length l ≡ 32
+  pub zones-long : (l : List ℕ) → l ≡ zoneCells t → length l ≡ mostNodes
   unfolding zoneCells
   zones-long l e = cells-long (zoneIndex t) (nodesOf t) l e
 
@@ -52,7 +53,7 @@ module _ (t : Topology) (few : nodesOf t ≤ 32) where
     pub caps-most : (l : List ℕ) → l ≡ capCells t s → AtMost (partitions t) (nodesOf t) l
     caps-most l e b h = unfold capAt in omega (arith, caps-hold l e b h)
 
-    pub caps-long : (l : List ℕ) → l ≡ capCells t s → length l ≡ 32
+    pub caps-long : (l : List ℕ) → l ≡ capCells t s → length l ≡ mostNodes
     unfolding capCells
     caps-long l e = cells-long (capAt t s) (nodesOf t) l e
 

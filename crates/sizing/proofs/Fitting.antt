@@ -7,15 +7,17 @@ use mathlib.Core.List.{List}
 use native.Mathlib.Omega.{arith}
 use lib.Dec.{leb}
 use borrow.Author.Tests.{le-leb, lt-leb}
+use Rattle.sizing.proofs.Adding.{sum-whole}
+use Rattle.cluster.specs.Terms.{mostNodes}
 use Rattle.sums.specs.TermsSums.{sumTo}
 use Rattle.sums.proofs.Sum.{sum-cong}
-use Rattle.dealing.specs.ModelDeal.{inZone, fits}
+use Rattle.dealing.specs.ModelDeal.{totals, inZone, fits}
 use Rattle.incidence.specs.ModelIncidence.{cell, column}
 use Rattle.incidence.proofs.Columns.{cell-column}
 
-module _ (P n R Z : ℕ) (zone cap : ℕ → ℕ) (few : n ≤ 32) (caps : (b : ℕ) → b < n → cap b ≤ P) where
+module _ (P n R Z : ℕ) (zone cap : ℕ → ℕ) (few : n ≤ mostNodes) (caps : (b : ℕ) → b < n → cap b ≤ P) where
   total-caps : (s : ℕ) → s ≡ sumTo n (λ b. min P (cap b)) → s ≡ sumTo n cap
-  total-caps s e = e ∙ sum-cong n (λ b. min P (cap b)) cap (λ b l. omega (arith, caps b l))
+  total-caps s e = e ∙ sum-whole cap n P caps
 
   -- Caps with too small a sum do not fit.
   pub fits-not : (s : ℕ) → s ≡ sumTo n (λ b. min P (cap b)) → s < R * P → false ≡ fits P n R Z zone cap
@@ -25,7 +27,7 @@ module _ (P n R Z : ℕ) (zone cap : ℕ → ℕ) (few : n ≤ 32) (caps : (b : 
       (sym (lt-leb (R * P) (sumTo n cap) (omega (arith, total-caps s e))))
 
   -- Caps with a sum large enough fit where the zones are wide enough.
-  pub fits-wide : (s w : ℕ) (l : List ℕ) → s ≡ sumTo n (λ b. min P (cap b)) → R * P ≤ s → l ≡ column (λ z. inZone zone cap z n) 32
+  pub fits-wide : (s w : ℕ) (l : List ℕ) → s ≡ sumTo n (λ b. min P (cap b)) → R * P ≤ s → l ≡ column (totals zone cap n) mostNodes
       → w ≡ sumTo n (λ z. min P (cell l z)) → leb (Z * P) w ≡ fits P n R Z zone cap
   unfolding fits
   fits-wide s w l e h d q =
@@ -33,4 +35,4 @@ module _ (P n R Z : ℕ) (zone cap : ℕ → ℕ) (few : n ≤ 32) (caps : (b : 
       ∙ ap (λ (k : ℕ). leb (R * P) (sumTo n cap) && leb (Z * P) k)
       (q ∙ sum-cong n (λ z. min P (cell l z)) (λ z. min P (inZone zone cap z n))
       (λ z m. ap (λ (k : ℕ). min P k)
-      (ap (λ (r : List ℕ). cell r z) d ∙ cell-column (λ z. inZone zone cap z n) 32 z (omega arith) (omega arith))))
+      (ap (λ (r : List ℕ). cell r z) d ∙ cell-column (totals zone cap n) mostNodes z (omega arith) (omega arith))))

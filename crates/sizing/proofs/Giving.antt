@@ -4,6 +4,8 @@ use Prim.Native.Nat.{ℕ, _+_, _-_, _*_, _≤_, _<_, min}
 use mathlib.Core.Path.{_≡_, ap, ap₂, _∙_}
 use mathlib.Core.List.{List}
 use native.Mathlib.Omega.{arith}
+use Rattle.sizing.proofs.Adding.{sum-whole}
+use Rattle.cluster.specs.Terms.{mostNodes, bufferRows}
 use Rattle.sums.specs.TermsSums.{sumTo}
 use Rattle.sums.proofs.Sum.{sum-cong}
 use Rattle.dealing.specs.ModelDeal.{pour, zoned, first, more, given}
@@ -14,7 +16,7 @@ use Rattle.incidence.proofs.Columns.{column-cong}
 use Rattle.sizing.proofs.Agree.{SameBelow, pour-agree}
 use Rattle.sizing.proofs.Arrays.{cells-agree}
 
-module _ (P n R : ℕ) (zone cap : ℕ → ℕ) (few : n ≤ 32) (firsts : List ℕ) (e : firsts ≡ column (pour (R * P) (zoned P zone cap)) n) where
+module _ (P n R : ℕ) (zone cap : ℕ → ℕ) (few : n ≤ mostNodes) (firsts : List ℕ) (e : firsts ≡ column (pour (R * P) (zoned P zone cap)) n) where
   -- The array of the first pass holds the first pass.
   first-holds : SameBelow n (cell firsts) (first P R zone cap)
   unfolding first
@@ -25,7 +27,7 @@ module _ (P n R : ℕ) (zone cap : ℕ → ℕ) (few : n ≤ 32) (firsts : List 
   first-most m h b l = omega (arith, first-holds b l, first-le P n R zone cap b, h b l)
 
   -- The second pass completes what is given.
-  pub second-given : (placed left : ℕ) (copies : List ℕ) → ((b : ℕ) → b < n → cap b ≤ 256) → placed ≡ sumTo n (λ b. min 256 (cell firsts b))
+  pub second-given : (placed left : ℕ) (copies : List ℕ) → ((b : ℕ) → b < n → cap b ≤ bufferRows) → placed ≡ sumTo n (λ b. min bufferRows (cell firsts b))
       → left ≡ R * P - placed → copies ≡ column (λ b. cell firsts b + pour left (λ x. cap x - cell firsts x) b) n
       → copies ≡ column (given P n R zone cap) n
   unfolding given more
@@ -36,5 +38,5 @@ module _ (P n R : ℕ) (zone cap : ℕ → ℕ) (few : n ≤ 32) (firsts : List 
       ∙ pour-agree n (R * P - sumTo n (first P R zone cap)) (λ x. cap x - cell firsts x) (λ x. cap x - first P R zone cap x)
       (λ x m. ap (λ (k : ℕ). cap x - k) (first-holds x m)) b l))
     where
-      all : sumTo n (λ b. min 256 (cell firsts b)) ≡ sumTo n (first P R zone cap)
-      all = sum-cong n (λ b. min 256 (cell firsts b)) (first P R zone cap) (λ b l. omega (arith, first-holds b l, first-most 256 h b l))
+      all : sumTo n (λ b. min bufferRows (cell firsts b)) ≡ sumTo n (first P R zone cap)
+      all = sum-whole (cell firsts) n bufferRows (first-most bufferRows h) ∙ sum-cong n (cell firsts) (first P R zone cap) first-holds

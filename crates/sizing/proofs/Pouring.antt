@@ -5,7 +5,7 @@ use mathlib.Core.Path.{_≡_, refl}
 use native.Mathlib.Omega.{arith}
 use Rattle.sums.specs.TermsSums.{sumTo}
 use Rattle.dealing.specs.ModelDeal.{pour}
-use Rattle.sizing.proofs.Adding.{sum-next}
+use Rattle.sums.proofs.Sum.{sum-next}
 
 module _ (f : ℕ → ℕ) (room b left v x : ℕ) (l : left ≡ room - sumTo b f) (e : v ≡ f b) (h : x ≡ min v left) where
   -- What of the next number still goes in.

@@ -7,16 +7,16 @@ use mathlib.Core.List.{List}
 use native.Mathlib.Nat.{zero-add}
 use native.Mathlib.Omega.{arith}
 use lib.ListN.{length}
-use borrow.Author.Tests.{eq-eqb, ne-eqb, le-leb}
+use borrow.Author.Tests.{eq-eqb, le-leb}
 use Rattle.sums.specs.ModelSums.{is}
 use Rattle.sets.specs.ModelBits.{bit, maskOf}
 use Rattle.sets.proofs.Bits.{bit-maskOf, mask-cong}
 use Rattle.cells.specs.ModelCells.{put}
-use Rattle.cells.proofs.Cells.{length-put, getD-put-in, getD-put-out}
-use Rattle.cluster.specs.Terms.{Topology, topology, partitions, faultOf}
+use Rattle.cells.proofs.Cells.{length-put, getD-put-in}
+use Rattle.cluster.specs.Terms.{mostBits, mostNodes, Topology, topology, partitions, faultOf}
 use Rattle.incidence.specs.ModelIncidence.{zoneIndex, cell, column, zoneCells}
 use Rattle.cluster.specs.declared.Cluster.{Cluster}
-use Rattle.sizing.specs.ModelSizing.{nodesOf, mateCells, sizeOf, sizeIn, beginning, dealtRows, dealtIn}
+use Rattle.sizing.specs.ModelSizing.{capCells, capsIn, nodesOf, mateCells, sizeOf, sizeIn, beginning, dealtRows, dealtIn}
 use Rattle.sizing.proofs.Agree.{SameBelow}
 use Rattle.sizing.proofs.Arrays.{cells-agree, zones-hold}
 use Rattle.sizing.proofs.Sizes.{beginning-le}
@@ -26,17 +26,19 @@ pub size-in : (c : Cluster) → faultOf c ≡ 0 → sizeIn c ≡ sizeOf (topolog
 unfolding sizeIn
 size-in c e = ap (λ (b : Bool). cond b (sizeOf (topology c)) 0) (eq-eqb (faultOf c) 0 e)
 
--- With a fault it is 0.
-pub size-fault : (c : Cluster) → (faultOf c ≡ 0 → ⊥) → sizeIn c ≡ 0
-unfolding sizeIn
-size-fault c h = ap (λ (b : Bool). cond b (sizeOf (topology c)) 0) (ne-eqb (faultOf c) 0 h)
+-- The caps of a cluster with bits in range are answered.
+pub caps-in : (c : Cluster) (s : ℕ) → c .bits ≤ mostBits → capsIn c s ≡ capCells (topology c) s
+unfolding capsIn
+caps-in c s h =
+    let e : min (c .bits) mostBits ≡ c .bits = omega arith in
+    ap (λ (k : ℕ). capCells (record { bits = k; replication = c .replication; redundancy = c .redundancy; nodes = topology c .nodes }) s) e
 
 -- The mates of each node, from the array of zones.
-pub mates-hold : (t : Topology) → nodesOf t ≤ 32 → (zones mates : List ℕ) → zones ≡ zoneCells t → mates ≡ mateCells zones (nodesOf t)
+pub mates-hold : (t : Topology) → nodesOf t ≤ mostNodes → (zones mates : List ℕ) → zones ≡ zoneCells t → mates ≡ mateCells zones (nodesOf t)
     → SameBelow (nodesOf t) (cell mates) (λ b. maskOf (λ x. is (zoneIndex t x) (zoneIndex t b)) (nodesOf t))
 unfolding mateCells
 mates-hold t few zones mates z e b l =
-    let n : min (nodesOf t) 32 ≡ nodesOf t = omega arith in
+    let n : min (nodesOf t) mostNodes ≡ nodesOf t = omega arith in
     cells-agree (λ b. maskOf (λ x. is (cell zones x) (cell zones b)) (nodesOf t)) (nodesOf t) mates few
     (e ∙ ap (λ (k : ℕ). column (λ b. maskOf (λ x. is (cell zones x) (cell zones b)) k) k) n) b l
     ∙ mask-cong (λ x. is (cell zones x) (cell zones b)) (λ x. is (zoneIndex t x) (zoneIndex t b)) (nodesOf t)
@@ -54,11 +56,6 @@ module _ (t : Topology) (s : ℕ) (l : List ℕ) where
   pub deal-length : length (dealtRows t s l) ≡ length l
   unfolding dealtRows
   deal-length = length-put 0 (λ p. maskOf (beginning t s p) (nodesOf t)) (partitions t) l
-
-  -- The cells from P on are kept.
-  pub deal-kept : (p : ℕ) → partitions t ≤ p → cell (dealtRows t s l) p ≡ cell l p
-  unfolding dealtRows
-  deal-kept p h = getD-put-out 0 (λ p. maskOf (beginning t s p) (nodesOf t)) (partitions t) l p 0 (λ j m e. omega arith)
 
   -- A cell before P is the row of its partition.
   pub deal-cell : partitions t ≤ length l → (p : ℕ) → p < partitions t → cell (dealtRows t s l) p ≡ maskOf (beginning t s p) (nodesOf t)

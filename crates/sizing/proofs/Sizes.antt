@@ -14,7 +14,7 @@ use Rattle.incidence.proofs.TieLayouts.{within-of-valid, valid-of-within}
 use Rattle.dealing.specs.ModelSize.{Caps, Best}
 use Rattle.dealing.proofs.Size.{best-size}
 use Rattle.dealing.proofs.Exists.{dealt-le}
-use Rattle.sizing.specs.ModelSizing.{nodesOf, Fits32, sizeOf, beginning}
+use Rattle.sizing.specs.ModelSizing.{sizeBits, nodesOf, Fits32, sizeOf, beginning}
 
 -- A larger size leaves room for no more copies.
 copies-fall : (n s s′ : ℕ) → 1 ≤ s → s ≤ s′ → n / s′ ≤ n / s
@@ -41,10 +41,10 @@ beginning-le t s p b = dealt-le (partitions t) (nodesOf t) (t .replication) (zon
 
 module _ (t : Topology) (a : Accepted t) where
   -- The size is the best one, in the terms of 0/1 rows.
-  pub size-best : Best (2 ^ 32) (partitions t) (nodesOf t) (t .replication) (t .redundancy) (zoneIndex t) (capAt t) (sizeOf t)
+  pub size-best : Best (2 ^ sizeBits) (partitions t) (nodesOf t) (t .replication) (t .redundancy) (zoneIndex t) (capAt t) (sizeOf t)
   unfolding sizeOf
   size-best =
-      best-size 32 (partitions t) (nodesOf t) (t .replication) (t .redundancy) (zoneIndex t) (capAt t) (omega arith) (pow-pos (t .bits))
+      best-size sizeBits (partitions t) (nodesOf t) (t .replication) (t .redundancy) (zoneIndex t) (capAt t) (omega arith) (pow-pos (t .bits))
       (a .redundancy .1) (zone-below t) (caps-law t)
 
   -- At the size, and at every smaller one from 1 up, the beginning is within the caps.
@@ -60,7 +60,7 @@ module _ (t : Topology) (a : Accepted t) where
   -- No layout is valid at a larger size.
   pub size-largest : Fits32 t → (L : Layout) (s : ℕ) → ValidAt t L s → s ≤ sizeOf t
   size-largest low L s v =
-      size-best .ofAll (a .replication .0) (λ b h. caps-none t (2 ^ 32) b (low b h)) s (incidence t L) (v .positive)
+      size-best .ofAll (a .replication .0) (λ b h. caps-none t (2 ^ sizeBits) b (low b h)) s (incidence t L) (v .positive)
       (within-of-valid t (a .ids) L s v)
 
   -- Where it is not 0, it is the size of the cluster.

@@ -1,2 +1,1 @@
-pub mod ModelLine
 pub mod ModelSizing

@@ -1,6 +1,6 @@
 -- What the functions of this crate answer, in the terms of a cluster's topology.
 -- Assumes nothing.
-use Prim.Native.Nat.{ℕ, _^_, _≤_, _<_, min}
+use Prim.Native.Nat.{ℕ, _*_, _^_, _≤_, _<_, min}
 use mathlib.Core.List.{List}
 use mathlib.Core.Bool.{_&&_, cond}
 use lib.Dec.{eqb, leb}
@@ -8,7 +8,7 @@ use lib.ListN.{length}
 use Rattle.sums.specs.ModelSums.{is}
 use Rattle.sets.specs.ModelBits.{maskOf}
 use Rattle.cells.specs.ModelCells.{put}
-use Rattle.cluster.specs.Terms.{mostNodes, Topology, topology, partitions, nodeAt, faultOf}
+use Rattle.cluster.specs.Terms.{mostBits, mostNodes, bufferRows, Topology, topology, partitions, nodeAt, faultOf}
 use Rattle.incidence.specs.ModelIncidence.{zoneIndex, capAt, cell, column}
 use Rattle.cluster.specs.declared.Cluster.{Cluster}
 use Rattle.dealing.specs.ModelDeal.{dealt}
@@ -18,11 +18,23 @@ use Rattle.dealing.specs.ModelSize.{bestSize}
 abbrev pub AtMost : ℕ → ℕ → List ℕ → Type 0
 AtMost m n l = (b : ℕ) → b < n → cell l b ≤ m
 
+-- The first n cells are below m.
+abbrev pub Below : ℕ → ℕ → List ℕ → Type 0
+Below m n l = (b : ℕ) → b < n → cell l b < m
+
+-- The most copies that a zone can have: one of each partition on each node.
+abbrev pub mostInZone : ℕ
+mostInZone = mostNodes * bufferRows
+
+-- The bits of a size: as many as a capacity has, in the code a u32, since no size is above all capacities.
+abbrev pub sizeBits : ℕ
+sizeBits = 32
+
 -- How many nodes a topology has.
 abbrev pub nodesOf : Topology → ℕ
 nodesOf t = length (t .nodes)
 
--- For each of the first n nodes, at most 32, the set of the nodes of its zone.
+-- For each of the first n nodes, at most as many as a cluster has, the set of the nodes of its zone.
 unfoldable pub mateCells : List ℕ → ℕ → List ℕ
 mateCells zones n = column (λ b. maskOf (λ x. is (cell zones x) (cell zones b)) (min n mostNodes)) (min n mostNodes)
 
@@ -30,13 +42,21 @@ mateCells zones n = column (λ b. maskOf (λ x. is (cell zones x) (cell zones b)
 unfoldable pub capCells : Topology → ℕ → List ℕ
 capCells t s = column (capAt t s) (nodesOf t)
 
--- Capacities as a cluster in hand has them: each below 2 ^ 32.
-abbrev pub Fits32 : Topology → Type 0
-Fits32 t = (b : ℕ) → b < nodesOf t → nodeAt t b .capacity < 2 ^ 32
+-- A topology with no more bits than a cluster has.
+abbrev pub cutBits : Topology → Topology
+cutBits t = record { bits = min (t .bits) mostBits; replication = t .replication; redundancy = t .redundancy; nodes = t .nodes }
 
--- The largest size below 2 ^ 32 whose caps have room for a layout; 0 where none has.
+-- The caps that are answered, of a cluster of any bits.
+unfoldable pub capsIn : Cluster → ℕ → List ℕ
+capsIn c s = capCells (cutBits (topology c)) s
+
+-- Capacities as a cluster in hand has them: numbers of 32 bits.
+abbrev pub Fits32 : Topology → Type 0
+Fits32 t = (b : ℕ) → b < nodesOf t → nodeAt t b .capacity < 2 ^ sizeBits
+
+-- The largest size of so many bits whose caps have room for a layout; 0 where none has.
 unfoldable pub sizeOf : Topology → ℕ
-sizeOf t = bestSize 32 (partitions t) (nodesOf t) (t .replication) (t .redundancy) (zoneIndex t) (capAt t)
+sizeOf t = bestSize sizeBits (partitions t) (nodesOf t) (t .replication) (t .redundancy) (zoneIndex t) (capAt t)
 
 -- The dealt layout at a size, as 0/1 rows.
 unfoldable pub beginning : Topology → ℕ → ℕ → ℕ → ℕ

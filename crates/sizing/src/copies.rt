@@ -2,11 +2,13 @@
 ghost use mathlib.Core.Path.{_≡_};
 ghost use Prim.Native.Nat.{_≤_, _<_, _-_, _+_};
 ghost use lib.ListN.{length};
+ghost use Rattle.cluster.specs.Terms.{mostCopies, mostNodes, bufferRows};
 ghost use Rattle.dealing.specs.ModelDeal.{pour, zoned, given};
 ghost use Rattle.incidence.specs.ModelIncidence.{cell, column};
 ghost use Rattle.sizing.specs.ModelSizing.{AtMost};
 use super::totals;
 use super::totals::least;
+use cluster::Cluster;
 
 // What is left of x when y is taken, or 0.
 pub fn less(x: u32, y: u32) -> u32
@@ -17,7 +19,7 @@ pub fn less(x: u32, y: u32) -> u32
 
 // What of node b's cap still goes into its zone.
 fn zoned(zones: &[u32], caps: &[u32], partitions: u32, b: usize) -> u32
-    requires { ⌜ (b < 32) × (length (now zones) ≡ 32) × (length (now caps) ≡ 32) × AtMost 256 b (now caps) ⌝ }
+    requires { ⌜ (b < mostNodes) × (length (now zones) ≡ mostNodes) × (length (now caps) ≡ mostNodes) × AtMost bufferRows b (now caps) ⌝ }
     ensures { λ r. ⌜ r ≡ zoned partitions (cell (now (zones .entry))) (cell (now (caps .entry))) b ⌝ }
 {
     least(
@@ -27,11 +29,11 @@ fn zoned(zones: &[u32], caps: &[u32], partitions: u32, b: usize) -> u32
 }
 
 // The first pass: at most P copies to a zone, `room` copies in all.
-fn first(zones: &[u32], caps: &[u32], n: usize, partitions: u32, room: u32) -> [u32; 32]
-    requires { ⌜ (n ≤ 32) × (length (now zones) ≡ 32) × (length (now caps) ≡ 32) × AtMost 256 n (now caps) ⌝ }
+fn first(zones: &[u32], caps: &[u32], n: usize, partitions: u32, room: u32) -> [u32; Cluster::NODES]
+    requires { ⌜ (n ≤ mostNodes) × (length (now zones) ≡ mostNodes) × (length (now caps) ≡ mostNodes) × AtMost bufferRows n (now caps) ⌝ }
     ensures { λ r. ⌜ r ≡ column (pour room (zoned partitions (cell (now (zones .entry))) (cell (now (caps .entry))))) n ⌝ }
 {
-    let mut copies = [0u32; 32];
+    let mut copies = [0u32; Cluster::NODES];
     let mut left = room;
     let mut b = 0;
     while b < n {
@@ -44,12 +46,12 @@ fn first(zones: &[u32], caps: &[u32], n: usize, partitions: u32, room: u32) -> [
 }
 
 // Both passes: the copies of the first, and what is left of `room`, up to the caps.
-fn second(caps: &[u32], first: &[u32], n: usize, room: u32) -> [u32; 32]
-    requires { ⌜ (n ≤ 32) × (length (now caps) ≡ 32) × (length (now first) ≡ 32) × AtMost 256 n (now caps) × AtMost 256 n (now first) ⌝ }
+fn second(caps: &[u32], first: &[u32], n: usize, room: u32) -> [u32; Cluster::NODES]
+    requires { ⌜ (n ≤ mostNodes) × (length (now caps) ≡ mostNodes) × (length (now first) ≡ mostNodes) × AtMost bufferRows n (now caps) × AtMost bufferRows n (now first) ⌝ }
     ensures { λ r. ⌜ r ≡ column (λ b. cell (now (first .entry)) b
         + pour room (λ x. cell (now (caps .entry)) x - cell (now (first .entry)) x) b) n ⌝ }
 {
-    let mut copies = [0u32; 32];
+    let mut copies = [0u32; Cluster::NODES];
     let mut left = room;
     let mut b = 0;
     while b < n {
@@ -68,12 +70,12 @@ pub(crate) fn given(
     n: usize,
     partitions: u32,
     replication: u32,
-) -> [u32; 32]
-    requires { ⌜ (n ≤ 32) × (length (now zones) ≡ 32) × (length (now caps) ≡ 32) × (partitions ≤ 256) × (replication ≤ 8) × AtMost 256 n (now caps) ⌝ }
+) -> [u32; Cluster::NODES]
+    requires { ⌜ (n ≤ mostNodes) × (length (now zones) ≡ mostNodes) × (length (now caps) ≡ mostNodes) × (partitions ≤ bufferRows) × (replication ≤ mostCopies) × AtMost bufferRows n (now caps) ⌝ }
     ensures { λ r. ⌜ r ≡ column (given partitions n replication (cell (now (zones .entry))) (cell (now (caps .entry)))) n ⌝ }
 {
     let room = replication * partitions;
     let first = first(zones, caps, n, partitions, room);
-    let placed = totals::total(&first, n, 256);
+    let placed = totals::total(&first, n, Cluster::PARTITIONS as u32);
     second(caps, &first, n, less(room, placed))
 }

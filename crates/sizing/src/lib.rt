@@ -6,7 +6,7 @@ ghost use lib.ListN.{length};
 ghost use Rattle.cluster.specs.Terms.{topology, partitions, faultOf};
 ghost use Rattle.incidence.specs.ModelIncidence.{zoneIndex, capAt, zoneCells};
 ghost use Rattle.dealing.specs.ModelDeal.{fits};
-ghost use Rattle.sizing.specs.ModelSizing.{mateCells, capCells, Fits32, sizeOf, sizeIn, dealtRows, dealtIn};
+ghost use Rattle.sizing.specs.ModelSizing.{mateCells, capsIn, Fits32, sizeOf, sizeIn, dealtRows, dealtIn};
 use cluster::Cluster;
 use incidence::zones;
 
@@ -15,12 +15,15 @@ mod line;
 mod nodes;
 mod totals;
 
-// For each of the first n nodes, at most 32, the set of the nodes of its zone, then zeros.
-pub fn mates(zones: [u32; 32], n: usize) -> [u32; 32]
+// The bits of a size: it is at most a capacity, which is a u32.
+const SIZE_BITS: u32 = 32;
+
+// For each of the first n nodes, at most as many as a cluster has, the set of the nodes of its zone, then zeros.
+pub fn mates(zones: [u32; Cluster::NODES], n: usize) -> [u32; Cluster::NODES]
     ensures { λ r. ⌜ r ≡ mateCells zones n ⌝ }
 {
     let m = nodes::cut(n);
-    let mut mates = [0u32; 32];
+    let mut mates = [0u32; Cluster::NODES];
     let mut b = 0;
     while b < m {
         let z = zones[b];
@@ -30,14 +33,21 @@ pub fn mates(zones: [u32; 32], n: usize) -> [u32; 32]
     mates
 }
 
-// The most copies that each node in use may hold at a size, then zeros; none at the size 0. That
-// capacities are below 2 ^ 32 is known here, and told with it.
-pub fn caps(c: Cluster, size: u32) -> [u32; 32]
-    ensures { λ r. ⌜ (r ≡ capCells (topology c) size) × Fits32 (topology c) ⌝ }
+// The most copies that each node in use may hold at a size, then zeros; none at the size 0. It tells too that capacities are numbers of
+// 32 bits.
+pub fn caps(c: Cluster, size: u32) -> [u32; Cluster::NODES]
+    ensures { λ r. ⌜ (r ≡ capsIn c size) × Fits32 (topology c) ⌝ }
 {
     let n = zones::used(c);
-    let capacities = nodes::capacities(c);
-    nodes::caps_at(&capacities, n, c.bits, size)
+    let most = cluster::partitions(c.bits) as u32;
+    let mut caps = [0u32; Cluster::NODES];
+    let mut b = 0;
+    while b < n {
+        let node = c.nodes[b];
+        caps[b] = nodes::cap(node.capacity, most, size);
+        b += 1;
+    }
+    caps
 }
 
 // Whether the caps of a size have room for a layout.
@@ -52,7 +62,7 @@ fn passes(c: Cluster, zones: &[u32], size: u32) -> bool
         zones,
         &caps,
         n,
-        nodes::partitions(c.bits),
+        cluster::partitions(c.bits) as u32,
         c.replication,
         c.redundancy,
     )
@@ -65,7 +75,7 @@ fn bisected(c: Cluster) -> u32
 {
     let zones = zones::zones(c);
     let mut size = 0;
-    let mut i: u32 = 32;
+    let mut i = SIZE_BITS;
     while 0 < i {
         i -= 1;
         let larger = size + (1 << i);
@@ -89,7 +99,7 @@ fn begin(c: Cluster, size: u32, rows: &mut [u32])
     ensures { λ _. ⌜ now (rows .exit) ≡ dealtRows (topology c) size (now (rows .entry)) ⌝ }
 {
     let n = zones::used(c);
-    let most = nodes::partitions(c.bits);
+    let most = cluster::partitions(c.bits) as u32;
     let zones = zones::zones(c);
     let caps = caps(c, size);
     let copies = copies::given(&zones, &caps, n, most, c.replication);
@@ -103,7 +113,7 @@ pub fn deal(c: Cluster, size: u32, rows: &mut [u32])
     ensures { λ _. ⌜ now (rows .exit) ≡ dealtIn c size (now (rows .entry)) ⌝ }
 {
     if c.fault() == 0 {
-        if nodes::partitions(c.bits) as usize <= rows.len() {
+        if cluster::partitions(c.bits) <= rows.len() {
             begin(c, size, rows);
         }
     }

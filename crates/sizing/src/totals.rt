@@ -1,11 +1,16 @@
-// Sums over the nodes, of numbers that are at most 256 each.
+// Sums over the nodes, and over the zones.
 ghost use mathlib.Core.Path.{_≡_};
 ghost use Prim.Native.Nat.{_≤_, _<_, _*_, min};
 ghost use lib.ListN.{length};
 ghost use Rattle.sums.specs.TermsSums.{sumTo};
-ghost use Rattle.dealing.specs.ModelDeal.{inZone, fits};
+ghost use Rattle.cluster.specs.Terms.{mostCopies, mostNodes, bufferRows};
+ghost use Rattle.dealing.specs.ModelDeal.{inZone, totals, fits};
 ghost use Rattle.incidence.specs.ModelIncidence.{cell, column};
-ghost use Rattle.sizing.specs.ModelSizing.{AtMost};
+ghost use Rattle.sizing.specs.ModelSizing.{AtMost, Below, mostInZone};
+use cluster::Cluster;
+
+// The most copies that a zone can have: one of each partition on each node.
+pub const ZONE: u32 = (Cluster::NODES * Cluster::PARTITIONS) as u32;
 
 // The lesser of two numbers.
 pub fn least(x: u32, y: u32) -> u32
@@ -16,7 +21,7 @@ pub fn least(x: u32, y: u32) -> u32
 
 // The sum of the first n numbers, each counted up to `most`.
 pub(crate) fn total(numbers: &[u32], n: usize, most: u32) -> u32
-    requires { ⌜ (n ≤ 32) × (length (now numbers) ≡ 32) × (most ≤ 256) ⌝ }
+    requires { ⌜ (n ≤ mostNodes) × (length (now numbers) ≡ mostNodes) × (most ≤ mostInZone) ⌝ }
     ensures { λ r. ⌜ r ≡ sumTo n (λ b. min most (cell (now (numbers .entry)) b)) ⌝ }
 {
     let mut sum = 0;
@@ -30,7 +35,7 @@ pub(crate) fn total(numbers: &[u32], n: usize, most: u32) -> u32
 
 // The sum of the numbers of zone z among the first n nodes.
 pub(crate) fn in_zone(zones: &[u32], numbers: &[u32], z: u32, n: usize) -> u32
-    requires { ⌜ (n ≤ 32) × (length (now zones) ≡ 32) × (length (now numbers) ≡ 32) × AtMost 256 n (now numbers) ⌝ }
+    requires { ⌜ (n ≤ mostNodes) × (length (now zones) ≡ mostNodes) × (length (now numbers) ≡ mostNodes) × AtMost bufferRows n (now numbers) ⌝ }
     ensures { λ r. ⌜ r ≡ inZone (cell (now (zones .entry))) (cell (now (numbers .entry))) z n ⌝ }
 {
     let mut sum = 0;
@@ -45,11 +50,11 @@ pub(crate) fn in_zone(zones: &[u32], numbers: &[u32], z: u32, n: usize) -> u32
 }
 
 // The sum of the numbers of each zone.
-pub(crate) fn zone_totals(zones: &[u32], numbers: &[u32], n: usize) -> [u32; 32]
-    requires { ⌜ (n ≤ 32) × (length (now zones) ≡ 32) × (length (now numbers) ≡ 32) × AtMost 31 n (now zones) × AtMost 256 n (now numbers) ⌝ }
-    ensures { λ r. ⌜ r ≡ column (λ z. inZone (cell (now (zones .entry))) (cell (now (numbers .entry))) z n) 32 ⌝ }
+pub(crate) fn zone_totals(zones: &[u32], numbers: &[u32], n: usize) -> [u32; Cluster::NODES]
+    requires { ⌜ (n ≤ mostNodes) × (length (now zones) ≡ mostNodes) × (length (now numbers) ≡ mostNodes) × Below mostNodes n (now zones) × AtMost bufferRows n (now numbers) ⌝ }
+    ensures { λ r. ⌜ r ≡ column (totals (cell (now (zones .entry))) (cell (now (numbers .entry))) n) mostNodes ⌝ }
 {
-    let mut sums = [0u32; 32];
+    let mut sums = [0u32; Cluster::NODES];
     let mut b = 0;
     while b < n {
         let z = zones[b] as usize;
@@ -68,8 +73,8 @@ pub(crate) fn fit(
     replication: u32,
     redundancy: u32,
 ) -> bool
-    requires { ⌜ (n ≤ 32) × (length (now zones) ≡ 32) × (length (now caps) ≡ 32) × (partitions ≤ 256) × (replication ≤ 8) × (redundancy ≤ 8)
-        × AtMost 31 n (now zones) × AtMost partitions n (now caps) ⌝ }
+    requires { ⌜ (n ≤ mostNodes) × (length (now zones) ≡ mostNodes) × (length (now caps) ≡ mostNodes) × (partitions ≤ bufferRows) × (replication ≤ mostCopies) × (redundancy ≤ mostCopies)
+        × Below mostNodes n (now zones) × AtMost partitions n (now caps) ⌝ }
     ensures { λ r. ⌜ r ≡ fits partitions n replication redundancy (cell (now (zones .entry))) (cell (now (caps .entry))) ⌝ }
 {
     if total(caps, n, partitions) < replication * partitions {

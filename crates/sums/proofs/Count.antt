@@ -1,30 +1,13 @@
--- Counting over the indices below a bound: a first index that passes a test, the largest value, two indices of bits, the pigeonhole.
+-- Counting over the indices below a bound: the largest value, two indices of bits, the pigeonhole.
 -- Assumes nothing.
 use Prim.Native.Nat.{ℕ, zero, suc, _*_, _≤_, _<_, max}
-use mathlib.Core.Path.{_≡_, refl, sym, ap, _∙_, subst}
-use mathlib.Core.Bool.{Bool, true, false}
+use mathlib.Core.Path.{_≡_, refl, sym, ap, _∙_}
 use mathlib.Core.Logic.{_⊎_, inl, inr, ⊎-elim}
 use native.Mathlib.Nat.{mul-one, one-mul, mul-le-mul-left, mul-le-mul-right}
 use native.Mathlib.Omega.{arith}
 use Rattle.sums.specs.TermsSums.{sumTo}
 use Rattle.sums.specs.ModelSums.{is, maxTo, hits}
 use Rattle.sums.proofs.Sum.{lt-or-ge, is-le, is-one, sum-const, sum-zero, sum-swap, sum-is, sum-witness, sum-cong}
-
--- Where a test holds of some index below the bound, it holds of a first one; else it fails of each.
-pub first-index : (n : ℕ) (t : ℕ → Bool) → ((i : ℕ) × (i < n) × (t i ≡ true) × ((j : ℕ) → j < i → t j ≡ false)) ⊎ ((i : ℕ) → i < n → t i ≡ false)
-first-index zero t = inr (λ i l. absurd (omega arith))
-first-index (suc n) t = go (first-index n t)
-  where
-    last : ((i : ℕ) → i < n → t i ≡ false) → (b : Bool) → t n ≡ b
-        → ((i : ℕ) × (i < suc n) × (t i ≡ true) × ((j : ℕ) → j < i → t j ≡ false)) ⊎ ((i : ℕ) → i < suc n → t i ≡ false)
-    last none true e = inl (n, omega arith, e, none)
-    last none false e =
-        inr (λ i l. ⊎-elim (λ a. none i a) (λ b. let q : n ≡ i = omega arith in subst (λ (k : ℕ). t k ≡ false) q e) (lt-or-ge i n))
-
-    go : ((i : ℕ) × (i < n) × (t i ≡ true) × ((j : ℕ) → j < i → t j ≡ false)) ⊎ ((i : ℕ) → i < n → t i ≡ false)
-        → ((i : ℕ) × (i < suc n) × (t i ≡ true) × ((j : ℕ) → j < i → t j ≡ false)) ⊎ ((i : ℕ) → i < suc n → t i ≡ false)
-    go (inl w) = inl (w .0, omega (arith, w .1), w .2, w .3)
-    go (inr none) = last none (t n) refl
 
 -- ---- the largest value
 

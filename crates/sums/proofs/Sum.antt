@@ -8,6 +8,7 @@ use native.Mathlib.Nat.{add-zero, add-suc, zero-mul, suc-mul, one-mul, mul-zero,
 use native.Mathlib.Omega.{arith}
 use lib.Dec.{ltb, eqb}
 use borrow.Author.Tests.{ltb-true, ltb-false, eqb-true, eqb-false, eq-eqb, ne-eqb}
+use native.Mathlib.Numerals.{add-one}
 use Rattle.sums.specs.TermsSums.{sumTo, one-if}
 use Rattle.sums.specs.ModelSums.{is}
 
@@ -66,6 +67,11 @@ pub sum-cong : (n : ℕ) (f g : ℕ → ℕ) → ((i : ℕ) → i < n → f i �
 unfolding sumTo
 sum-cong zero f g h = refl
 sum-cong (suc n) f g h = ap₂ _+_ (sum-cong n f g (λ i l. h i (omega arith))) (h n (omega arith))
+
+-- One term more, as the turn of a loop adds it.
+pub sum-next : (f : ℕ → ℕ) (n s v : ℕ) → s ≡ sumTo n f → v ≡ f n → s + v ≡ sumTo (n + 1) f
+unfolding sumTo
+sum-next f n s v e d = ap₂ _+_ e d ∙ ap (λ (k : ℕ). sumTo k f) (sym (add-one n))
 
 -- Smaller terms give a smaller sum.
 pub sum-le : (n : ℕ) (f g : ℕ → ℕ) → ((i : ℕ) → i < n → f i ≤ g i) → sumTo n f ≤ sumTo n g

@@ -10,8 +10,8 @@ use lib.Dec.{ltb}
 use borrow.Author.Tests.{lt-ltb, le-ltb}
 use Rattle.sums.specs.ModelSums.{is}
 use Rattle.sums.proofs.Sum.{lt-or-ge, is-le}
-use Rattle.sets.specs.ModelBits.{bit, unionOf, meetOf, differenceOf, belowOf, countOf}
-use Rattle.sets.proofs.Laws.{bit-le, bit-high, bit-union, bit-meet, bit-difference, bit-below, bit-below-not, meet-lt, difference-lt}
+use Rattle.sets.specs.ModelBits.{maskBits, bit, unionOf, meetOf, differenceOf, belowOf, countOf}
+use Rattle.sets.proofs.Laws.{bit-le, bit-union, bit-meet, bit-difference, bit-below}
 use Rattle.exchange.specs.ModelRow.{zoneCount, cover, Valid, swap}
 use Rattle.exchange.specs.ModelSwap.{fits}
 use Rattle.exchange.proofs.Row.{fits-valid, valid-fits}
@@ -40,36 +40,13 @@ free-fit r x y i u h l = omega arith
 few-fit : (r x y i u : ℕ) → i ≤ 1 → x + y ≡ 0 → r ≤ 1 → min r (max i u) ≡ min r (x + i + u + y)
 few-fit r x y i u h e l = omega arith
 
--- Targets are a word.
-pub targets-lt : (mates : List ℕ) (all z row a : ℕ) → targetsOf mates all z row a < 2 ^ 32
-unfolding targetsOf
-targets-lt mates all z row a =
-    ⊎-elim (λ w. subst (λ (t : ℕ). t < 2 ^ 32) (sym (w .0)) (difference-lt all row))
-    (λ w. subst (λ (t : ℕ). t < 2 ^ 32) (sym (w .0)) (meet-lt (differenceOf all row) (unionOf (getD mates a 0) (differenceOf all (coveredOf mates row)))))
-    (free-or-few all row (getD mates a 0) z (coverOf mates row) (coveredOf mates row))
-
--- A target is a node of `all` outside the row.
-pub targets-free : (mates : List ℕ) (all z row a b : ℕ) → b < 32 → bit (targetsOf mates all z row a) b ≤ bit all b - bit row b
-unfolding targetsOf
-targets-free mates all z row a b l =
-    let u = unionOf (getD mates a 0) (differenceOf all (coveredOf mates row)) in
-    ⊎-elim (λ w. omega (arith, ap (λ (t : ℕ). bit t b) (w .0), bit-difference all row b l))
-    (λ w. omega (arith, ap (λ (t : ℕ). bit t b) (w .0), bit-meet (differenceOf all row) u b l, bit-difference all row b l))
-    (free-or-few all row (getD mates a 0) z (coverOf mates row) (coveredOf mates row))
-
--- There is no target from N on.
-pub targets-high : (mates : List ℕ) (N z row a b : ℕ) → N ≤ b → bit (targetsOf mates (belowOf N) z row a) b ≡ 0
-targets-high mates N z row a b g =
-    ⊎-elim (λ l. omega (arith, targets-free mates (belowOf N) z row a b l, bit-below-not N b g))
-    (λ h. bit-high 32 (targetsOf mates (belowOf N) z row a) b (targets-lt mates (belowOf N) z row a) h) (lt-or-ge b 32)
-
 module _ (N : ℕ) (zone : ℕ → ℕ) (mates : List ℕ) (M : Mates N zone mates) (Z row a : ℕ) (small : row < 2 ^ N) (a-node : a < N) (a-in : bit row a ≡ 1) where
   -- The targets of a are the nodes outside the row that fit in its place.
   pub targets-fit : (b : ℕ) → b < N
       → bit (targetsOf mates (belowOf N) Z row a) b ≡ min (1 - bit row b) (fits N Z zone (bit row) (zone a) b)
   unfolding targetsOf fits
   targets-fit b l =
-      let k : b < 32 = omega (arith, M .few) in
+      let k : b < maskBits = omega (arith, M .few) in
       let C = coveredOf mates row in
       let m = getD mates a 0 in
       let x = zoneCount N zone (bit row) (zone a) - 1 in

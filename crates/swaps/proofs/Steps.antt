@@ -10,12 +10,12 @@ use lib.Dec.{ltb}
 use lib.ListN.{getD}
 use borrow.Author.Tests.{eq-eqb, ne-eqb, lt-ltb, le-ltb}
 use Rattle.sums.proofs.Sum.{eq-or-ne}
-use Rattle.sets.specs.ModelBits.{withoutOf, unionOf, meetOf, differenceOf, countOf, leastOf}
+use Rattle.sets.specs.ModelBits.{maskBits, withoutOf, unionOf, meetOf, differenceOf, countOf, leastOf}
 use Rattle.sets.proofs.Laws.{without-lt, without-none, least-none, least-taken, count-difference, count-empty}
 use Rattle.swaps.specs.ModelSwaps.{restOf, coverIn, coveredIn, coverOf, coveredOf, targetsIn, targetsOf}
 
 -- A scan's next fuel.
-pub fuel : (n : ℕ) → n < 32 → 32 - n ≡ suc (32 - (n + 1))
+pub fuel : (n : ℕ) → n < maskBits → maskBits - n ≡ suc (maskBits - (n + 1))
 fuel n l = omega arith
 
 -- A zone more.
@@ -42,29 +42,29 @@ covered-done zero mates left nodes e = refl
 covered-done (suc k) mates left nodes e = rw (eq-eqb left 0 e)
 
 -- Each step leaves fewer nodes.
-pub rest-count : (mates : List ℕ) (left : ℕ) → left < 2 ^ 32 → (left ≡ 0 → ⊥) → countOf (restOf mates left) + 1 ≤ countOf left
+pub rest-count : (mates : List ℕ) (left : ℕ) → left < 2 ^ maskBits → (left ≡ 0 → ⊥) → countOf (restOf mates left) + 1 ≤ countOf left
 unfolding restOf
 rest-count mates left h n =
     omega (arith, least-taken left h n, count-difference (withoutOf left (leastOf left)) (getD mates (leastOf left) 0))
 
 -- A set that is not empty has a count of 1 or more.
-pub some-count : (s : ℕ) → s < 2 ^ 32 → (s ≡ 0 → ⊥) → 1 ≤ countOf s
+pub some-count : (s : ℕ) → s < 2 ^ maskBits → (s ≡ 0 → ⊥) → 1 ≤ countOf s
 some-count s h n = omega (arith, least-taken s h n)
 
 -- A set without its least member counts one less, if it has any.
-pub least-less : (s : ℕ) → s < 2 ^ 32 → countOf (withoutOf s (leastOf s)) ≡ countOf s - 1
+pub least-less : (s : ℕ) → s < 2 ^ maskBits → countOf (withoutOf s (leastOf s)) ≡ countOf s - 1
 least-less s h =
     ⊎-elim
-    (λ e. let g : leastOf s ≡ 32 = ap leastOf e ∙ least-none in
+    (λ e. let g : leastOf s ≡ maskBits = ap leastOf e ∙ least-none in
     omega (arith, ap countOf (without-none s (leastOf s) h (omega arith)), ap countOf e, count-empty))
     (λ n. omega (arith, least-taken s h n)) (eq-or-ne s 0)
 
 -- A set that has members without its least has two.
-pub two-members : (s : ℕ) → s < 2 ^ 32 → (withoutOf s (leastOf s) ≡ 0 → ⊥) → 1 < countOf s
+pub two-members : (s : ℕ) → s < 2 ^ maskBits → (withoutOf s (leastOf s) ≡ 0 → ⊥) → 1 < countOf s
 two-members s h n = omega (arith, least-less s h, some-count (withoutOf s (leastOf s)) (without-lt s (leastOf s)) n)
 
 -- A set that has none has one at most.
-pub one-member : (s : ℕ) → s < 2 ^ 32 → withoutOf s (leastOf s) ≡ 0 → countOf s ≤ 1
+pub one-member : (s : ℕ) → s < 2 ^ maskBits → withoutOf s (leastOf s) ≡ 0 → countOf s ≤ 1
 one-member s h e = omega (arith, least-less s h, ap countOf e, count-empty)
 
 -- The row has a zone to spare.

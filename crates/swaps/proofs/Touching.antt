@@ -11,7 +11,7 @@ use lib.Pow.{pow-mono}
 use Rattle.sums.specs.TermsSums.{sumTo}
 use Rattle.sums.specs.ModelSums.{is}
 use Rattle.sums.proofs.Sum.{lt-or-ge, eq-or-ne, is-eq, is-ne, is-le, is-cases, sum-cong, sum-add, sum-zero, sum-is}
-use Rattle.sets.specs.ModelBits.{bit, withoutOf, unionOf, meetOf, countOf, leastOf}
+use Rattle.sets.specs.ModelBits.{maskBits, bit, withoutOf, unionOf, meetOf, countOf, leastOf}
 use Rattle.sets.proofs.Laws.{bit-le, bit-zero, bit-high, bit-lt, bit-maskOf, bit-without, bit-union, bit-meet, bit-difference, meet-lt, difference-lt, count-sum, count-none, count-le, least-some, least-at}
 use Rattle.exchange.specs.ModelRow.{zoneCount, cover}
 use Rattle.exchange.proofs.Row.{zone-one}
@@ -27,8 +27,8 @@ min-is x a b h =
 
 module _ (N : ℕ) (zone : ℕ → ℕ) (mates : List ℕ) (M : Mates N zone mates) where
   -- A row is a word.
-  pub row-word : (row : ℕ) → row < 2 ^ N → row < 2 ^ 32
-  row-word row h = omega (arith, pow-mono {i = N} {j = 32} (M .few))
+  pub row-word : (row : ℕ) → row < 2 ^ N → row < 2 ^ maskBits
+  row-word row h = omega (arith, pow-mono {i = N} {j = maskBits} (M .few))
 
   -- The mates of b are the nodes of its zone.
   pub bit-mate : (b c : ℕ) → b < N → c < N → bit (getD mates b 0) c ≡ is (zone c) (zone b)
@@ -40,7 +40,7 @@ module _ (N : ℕ) (zone : ℕ → ℕ) (mates : List ℕ) (M : Mates N zone mat
   unfolding zoneCount
   mates-count row a h l =
       count-sum N (meetOf row (getD mates a 0)) (M .few)
-      (bit-lt 32 N (meetOf row (getD mates a 0)) (meet-lt row (getD mates a 0)) (λ i g k. omega (arith, bit-meet row (getD mates a 0) i k, bit-high N row i h g)))
+      (bit-lt maskBits N (meetOf row (getD mates a 0)) (meet-lt row (getD mates a 0)) (λ i g k. omega (arith, bit-meet row (getD mates a 0) i k, bit-high N row i h g)))
       ∙ sum-cong N (bit (meetOf row (getD mates a 0))) (λ x. bit row x * is (zone x) (zone a))
       (λ c k. bit-meet row (getD mates a 0) c (omega (arith, M .few))
       ∙ (ap (λ (t : ℕ). min (bit row c) t) (bit-mate a c l k) ∙ min-is (bit row c) (zone c) (zone a) (bit-le row c)))
@@ -69,7 +69,7 @@ module _ (N : ℕ) (zone : ℕ → ℕ) (mates : List ℕ) (M : Mates N zone mat
     rest-bit : (c : ℕ) → c < N → bit (restOf mates left) c ≡ bit left c - is (zone c) (zone (leastOf left))
     unfolding restOf
     rest-bit c l =
-        let k : c < 32 = omega (arith, M .few) in
+        let k : c < maskBits = omega (arith, M .few) in
         let m = bit-mate (leastOf left) c (first-node .0) l in
         let d = bit-difference (withoutOf left (leastOf left)) (getD mates (leastOf left) 0) c k in
         ⊎-elim
@@ -79,7 +79,7 @@ module _ (N : ℕ) (zone : ℕ → ℕ) (mates : List ℕ) (M : Mates N zone mat
     rest-small : restOf mates left < 2 ^ N
     unfolding restOf
     rest-small =
-        bit-lt 32 N (restOf mates left) (difference-lt (withoutOf left (leastOf left)) (getD mates (leastOf left) 0))
+        bit-lt maskBits N (restOf mates left) (difference-lt (withoutOf left (leastOf left)) (getD mates (leastOf left) 0))
         (λ i g k. omega (
           arith,
           bit-difference (withoutOf left (leastOf left)) (getD mates (leastOf left) 0) i k,
@@ -163,10 +163,10 @@ module _ (N : ℕ) (zone : ℕ → ℕ) (mates : List ℕ) (M : Mates N zone mat
   -- The cover of a row is the number of zones that it touches.
   pub cover-law : (row : ℕ) → row < 2 ^ N → coverOf mates row ≡ cover N zone (bit row)
   unfolding coverOf
-  cover-law row h = omega (arith, cover-in 32 row 0 h (count-le 32 row (omega arith) (row-word row h)))
+  cover-law row h = omega (arith, cover-in maskBits row 0 h (count-le maskBits row (omega arith) (row-word row h)))
 
   -- A node is covered where the row touches its zone.
   pub covered-law : (row c : ℕ) → row < 2 ^ N → c < N → bit (coveredOf mates row) c ≡ min 1 (zoneCount N zone (bit row) (zone c))
   unfolding coveredOf
   covered-law row c h l =
-      omega (arith, covered-in 32 row 0 c h (count-le 32 row (omega arith) (row-word row h)) l, bit-zero c)
+      omega (arith, covered-in maskBits row 0 c h (count-le maskBits row (omega arith) (row-word row h)) l, bit-zero c)

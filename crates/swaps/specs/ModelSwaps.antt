@@ -5,7 +5,7 @@ use mathlib.Core.Bool.{Bool, _||_, cond}
 use mathlib.Core.List.{List}
 use lib.ListN.{getD}
 use lib.Dec.{eqb, ltb}
-use Rattle.sets.specs.ModelBits.{withoutOf, unionOf, meetOf, differenceOf, countOf, leastOf}
+use Rattle.sets.specs.ModelBits.{maskBits, withoutOf, unionOf, meetOf, differenceOf, countOf, leastOf}
 
 -- What is left of a set without its least node and that node's zone.
 unfoldable pub restOf : List ℕ → ℕ → ℕ
@@ -24,11 +24,11 @@ coveredIn (suc k) mates left nodes =
 
 -- How many zones a row touches.
 unfoldable pub coverOf : List ℕ → ℕ → ℕ
-coverOf mates row = coverIn 32 mates row 0
+coverOf mates row = coverIn maskBits mates row 0
 
 -- The nodes of the zones that a row touches.
 unfoldable pub coveredOf : List ℕ → ℕ → ℕ
-coveredOf mates row = coveredIn 32 mates row 0
+coveredOf mates row = coveredIn maskBits mates row 0
 
 -- The nodes of `all` that may take the place of a node of the zone `mate` in the row.
 unfoldable pub targetsIn : ℕ → ℕ → ℕ → Bool → ℕ → ℕ

@@ -1,4 +1,4 @@
-// Which zones a row touches, and which nodes may take a node's place in it. A row is a set of nodes below 32; mates[b] is the set of the nodes of
+// Which zones a row touches, and which nodes may take a node's place in it. A row is a set of nodes; mates[b] is the set of the nodes of
 // b's zone. Every function is total: a cell past a slice's end counts as 0.
 ghost use mathlib.Core.Path.{_≡_};
 ghost use lib.ListN.{getD};
@@ -32,22 +32,6 @@ pub fn touched(mates: &[u32], row: u32) -> Zones
         count += 1;
     }
     Zones { count, nodes }
-}
-
-// How many zones a row touches.
-pub fn cover(mates: &[u32], row: u32) -> u32
-    ensures { λ r. ⌜ r ≡ coverOf (now (mates .entry)) row ⌝ }
-{
-    let t = touched(mates, row);
-    t.count
-}
-
-// The nodes of the zones that a row touches.
-pub fn covered(mates: &[u32], row: u32) -> u32
-    ensures { λ r. ⌜ r ≡ coveredOf (now (mates .entry)) row ⌝ }
-{
-    let t = touched(mates, row);
-    t.nodes
 }
 
 // The nodes of `all` that may take the place of a node of the row whose zone is `mate`: all outside the row where the row has a zone to spare or

@@ -9,12 +9,8 @@ use lib.Dec.{eqb, ltb}
 use Rattle.sets.specs.ModelBits.{bit, memberOf}
 use Rattle.swaps.specs.ModelSwaps.{targetsOf}
 use Rattle.cycles.specs.ModelGraph.{weightOf}
-use Rattle.exchange.specs.ModelLevels.{firstFrom}
+use Rattle.sums.specs.ModelSums.{firstFrom}
 use Rattle.exchange.specs.ModelUncross.{Walk, walk, inner, walk-costs}
-
--- The row of partition p, a list of masks, as a function of the node.
-abbrev pub bitsOf : List ℕ → ℕ → ℕ → ℕ
-bitsOf rows p b = bit (getD rows p 0) b
 
 -- Whether node a of row p may give way to node b.
 unfoldable pub okOf : List ℕ → List ℕ → ℕ → ℕ → ℕ → ℕ → ℕ → Bool

@@ -1,14 +1,15 @@
 // What is read off a closed walk of the exchange graph: the partition in which an arc is an exchange, the first pair of arcs that can be crossed, and
-// whether the part between two arcs gains. A row is a set of nodes below 32; a walk is two slices, its nodes and the partitions of its arcs. Every
+// whether the part between two arcs gains. A row is a set of nodes; a walk is two slices, its nodes and the partitions of its arcs. Every
 // public function is total: a cell past a slice's end counts as 0, and the arcs are numbered by u32, so that the next one is always an index.
 ghost use mathlib.Core.Path.{_≡_};
 ghost use Prim.Native.Nat.{_+_, _-_, _≤_, _<_, _^_};
 ghost use lib.ListN.{getD};
-ghost use Rattle.sets.specs.ModelBits.{bit};
+ghost use Rattle.sets.specs.ModelBits.{bit, bitsAt};
 ghost use Rattle.exchange.specs.ModelCircuit.{cost};
 ghost use Rattle.exchange.specs.ModelUncross.{crosses, partner, first};
 ghost use Rattle.cycles.specs.ModelGraph.{weightOf};
-ghost use Rattle.walks.specs.ModelWalks.{bitsOf, okOf, suitsOf, witnessOf, walkIn, innerGains};
+ghost use Rattle.walks.specs.ModelWalks.{okOf, suitsOf, witnessOf, walkIn, innerGains};
+use cluster::Cluster;
 
 // Digit i of s.
 fn digit(s: u32, i: u32) -> u32
@@ -24,7 +25,7 @@ fn weight(arcs: &[u32], u: u32, v: u32) -> u32
     if sets::member(swaps::cell(arcs, u as usize), v) {
         return 0;
     }
-    if sets::member(swaps::cell(arcs, 32 + u as usize), v) {
+    if sets::member(swaps::cell(arcs, Cluster::NODES + u as usize), v) {
         return 1;
     }
     2
@@ -164,7 +165,7 @@ pub fn earlier(
 
 // What the arc from a to b at q costs: an exchange loses a former node or wins one; a step over the store costs 1.
 fn arc_cost(former: &[u32], partitions: usize, q: u32, a: u32, b: u32) -> usize
-    ensures { λ r. ⌜ (r ≡ cost partitions 1 (bitsOf (now (former .entry))) q a b) × (r ≤ 2) ⌝ }
+    ensures { λ r. ⌜ (r ≡ cost partitions 1 (bitsAt (now (former .entry))) q a b) × (r ≤ 2) ⌝ }
 {
     if (q as usize) < partitions {
         let old = swaps::cell(former, q as usize);
@@ -175,7 +176,7 @@ fn arc_cost(former: &[u32], partitions: usize, q: u32, a: u32, b: u32) -> usize
 
 // Whether the inner part of the walk, at the arcs i and j, gains: the arcs between them, and the one that closes it.
 pub fn gains(y: &[u32], q: &[u32], i: u32, j: u32, former: &[u32], partitions: usize) -> bool
-    ensures { λ r. ⌜ r ≡ innerGains partitions (bitsOf (now (former .entry))) (walkIn (j + 1) (now (y .entry)) (now (q .entry))) i j ⌝ }
+    ensures { λ r. ⌜ r ≡ innerGains partitions (bitsAt (now (former .entry))) (walkIn (j + 1) (now (y .entry)) (now (q .entry))) i j ⌝ }
 {
     if j <= i {
         return false;

@@ -12,19 +12,18 @@ use lib.Dec.{eqb}
 use lib.ListN.{length, drop, getD, List·getD-eq-default}
 use borrow.Author.Tests.{eq-eqb, ne-eqb, eqb-true}
 use Rattle.sums.proofs.Sum.{lt-or-ge}
-use Rattle.cluster.specs.Terms.{layoutCells, Topology, topology, partitions, nodeAt, Layout, row, ValidAt, IsSize, IsFormer, distance, cellsOf, rowsIn}
+use Rattle.cluster.specs.Terms.{layoutCells, Topology, topology, partitions, nodeAt, Layout, row, ValidAt, IsSize, IsFormer, distance, cellsOf}
 use Rattle.cluster.specs.TermsReading.{Accepted}
 use Rattle.incidence.specs.ModelIncidence.{layoutOf}
 use Rattle.cluster.specs.declared.Cluster.{Cluster}
 use Rattle.cluster.proofs.Lists.{index-mem}
 use Rattle.incidence.proofs.TieRows.{known-id}
 use Rattle.incidence.proofs.TieDistance.{former-few, distance-law}
-use Rattle.masks.proofs.Laws.{formed-former}
 use Rattle.sizing.specs.ModelSizing.{Fits32, sizeOf, beginning}
 use Rattle.sizing.proofs.Sizes.{size-best, size-largest, beginning-valid}
 use Rattle.planner.specs.Demand.{Demand3, Rules}
 use Rattle.planner.specs.ModelPlan.{planOf}
-use Rattle.planner.specs.TermsPlan.{unusable, planRefusal, answerOf, refusedWith, answered, plannedOf, assignmentAfter}
+use Rattle.planner.specs.TermsPlan.{unusable, planRefusal, planIn, refusedWith, answered, plannedOf, assignmentAfter}
 use Rattle.planner.proofs.Machines.{few-partitions}
 use Rattle.planner.proofs.Refusals.{Usable, usable-has}
 use Rattle.planner.proofs.Demands.{demand3}
@@ -62,22 +61,22 @@ module _ (c : Cluster) (former : List ℕ) (a s : ℕ) where
     not-refused e = go (eqb (planRefusal c former a s) 0) refl e
       where
         go : (b : Bool) → eqb (planRefusal c former a s) 0 ≡ b
-            → cond b (answered (answerOf c former allowance)) (refusedWith (planRefusal c former a s)) .refusal ≡ 0 → planRefusal c former a s ≡ 0
+            → cond b (answered (planIn c former allowance)) (refusedWith (planRefusal c former a s)) .refusal ≡ 0 → planRefusal c former a s ≡ 0
         go true q h = eqb-true (planRefusal c former a s) 0 q
         go false q h = h
 
     -- Where it did not, the answer is that of the plan.
-    pub plan-answered : planRefusal c former a s ≡ 0 → plannedOf c former allowance a s ≡ answered (answerOf c former allowance)
+    pub plan-answered : planRefusal c former a s ≡ 0 → plannedOf c former allowance a s ≡ answered (planIn c former allowance)
     unfolding plannedOf
     plan-answered e =
-        ap (λ (b : Bool). cond b (answered (answerOf c former allowance)) (refusedWith (planRefusal c former a s))) (eq-eqb (planRefusal c former a s) 0 e)
+        ap (λ (b : Bool). cond b (answered (planIn c former allowance)) (refusedWith (planRefusal c former a s))) (eq-eqb (planRefusal c former a s) 0 e)
 
 -- And the cells are those of its layout.
 pub plan-laid : (c : Cluster) (former : List ℕ) (allowance : ℕ) (assignment : List ℕ) (s : ℕ) → planRefusal c former (length assignment) s ≡ 0
-    → assignmentAfter c former allowance assignment s ≡ cellsOf (answerOf c former allowance .layout) ++ drop layoutCells assignment
+    → assignmentAfter c former allowance assignment s ≡ cellsOf (planIn c former allowance .layout) ++ drop layoutCells assignment
 unfolding assignmentAfter
 plan-laid c former allowance assignment s e =
-    ap (λ (b : Bool). cond b (cellsOf (answerOf c former allowance .layout) ++ drop layoutCells assignment) assignment)
+    ap (λ (b : Bool). cond b (cellsOf (planIn c former allowance .layout) ++ drop layoutCells assignment) assignment)
     (eq-eqb (planRefusal c former (length assignment) s) 0 e)
 
 -- ---- the terms
@@ -114,10 +113,6 @@ module _ (t : Topology) (acc : Accepted t) where
       (λ g. omega (arith, List·getD-eq-default (row L p) 0 {n = j} g)) (lt-or-ge j (length (row L p))))
       (λ g. omega (arith, ap (λ (r : List ℕ). getD r j 0) (List·getD-eq-default L [] {n = p} (omega (arith, v .partition-rows)))))
       (lt-or-ge p (partitions t))
-
--- The former layout that a usable call is lent.
-pub lent-former : (c : Cluster) (former : List ℕ) (a s : ℕ) → Usable c former a s → IsFormer (topology c) (rowsIn (partitions (topology c)) former)
-lent-former c former a s u = formed-former (topology c) former (u .rows-formed)
 
 -- The rules of planning, of a cluster that has a size.
 pub plan-rules : (t : Topology) → Accepted t → Fits32 t → 1 ≤ sizeOf t → Demand3 t (planOf t)

@@ -8,7 +8,7 @@ use mathlib.Core.List.{List, _++_}
 use native.Mathlib.Omega.{arith}
 use lib.ListN.{length, take, drop, length-append}
 use lib.Seq.{take-at}
-use Rattle.cluster.specs.Terms.{layoutCells, scratchCells, Topology, topology, partitions, nodeAt, Layout, ValidAt, IsFormer, distance, cellsOf, rowsIn}
+use Rattle.cluster.specs.Terms.{layoutCells, scratchCells, mostDistance, mostImprovements, Topology, topology, partitions, nodeAt, Layout, ValidAt, IsFormer, distance, cellsOf, rowsIn}
 use Rattle.cluster.specs.ModelRows.{FitsCells, HoldsRows}
 use Rattle.cluster.specs.TermsReading.{Accepted}
 use Rattle.cluster.specs.declared.Cluster.{Cluster}
@@ -21,20 +21,21 @@ use Rattle.layouts.proofs.CheckMeaning.{valid-fits, valid-passed}
 use Rattle.sizing.specs.ModelSizing.{Fits32, sizeOf}
 use Rattle.planner.specs.Demand.{Answer, Demand3, Rules}
 use Rattle.planner.specs.ModelPlan.{planOf}
-use Rattle.planner.specs.TermsPlan.{unusable, planRefusal, answerOf, answered, plannedOf, assignmentAfter}
+use Rattle.planner.specs.TermsPlan.{unusable, planRefusal, planIn, answered, plannedOf, assignmentAfter}
 use Rattle.planner.specs.declared.Planned.{Planned}
-use Rattle.planner.proofs.Refusals.{Usable, usable}
+use Rattle.planner.proofs.Refusals.{Usable, usable, lent-former}
 use Rattle.layout_record.specs.declared.Numbers.{Numbers}
 use Rattle.layout_record.specs.declared.ReadLayout.{ReadLayout}
 use Rattle.layout_record.specs.declared.Written.{Written}
-use Rattle.layout_record.specs.RecordLayout.{InRange, HasLayout, layoutRecord, recordLength}
-use Rattle.layout_record.specs.RecordLayoutAnswer.{readAnswer, writeAnswer, outAfter}
-use Rattle.layout_record.specs.RecordLayoutAnswer as records
+use Rattle.layout_record.specs.RecordLayout.{allHold, inRange, HasLayout, layoutRecord, recordLength}
+use Rattle.layout_record.specs.RecordLayoutAnswer.{readLayoutOf, assignmentRead, writeAnswer, outAfter}
+use Rattle.layout_record.specs.RecordLayoutClaims.{ReadsLayout, WritesLayout}
 use Rattle.layout_record.proofs.RecordLaws.{length-record}
-use Rattle.layout_record.proofs.Exact.{Writes, Reads, writes-layout, reads-record}
+use Rattle.layout_record.proofs.NumberFields.{more-hold}
+use Rattle.layout_record.proofs.Exact.{writes-layout, reads-record}
 use Rattle.whole.specs.TermsWhole.{planNumbers, Stays}
 use Rattle.whole.proofs.Alike.{distance-self, distance-none}
-use Rattle.whole.proofs.Plans.{none-refused, usable-sized, not-refused, plan-answered, plan-laid, one-size, size-below, distance-most, valid-words, lent-former, plan-rules, few-improvements}
+use Rattle.whole.proofs.Plans.{none-refused, usable-sized, not-refused, plan-answered, plan-laid, one-size, size-below, distance-most, valid-words, plan-rules, few-improvements}
 
 -- The plan of a cluster c with a former layout and an allowance: its answer r and the cells that it leaves in the lent assignment.
 module _ (c : Cluster) (former : List ℕ) (allowance : ℕ) (assignment scratch : List ℕ) where
@@ -74,7 +75,7 @@ module _ (c : Cluster) (former : List ℕ) (allowance : ℕ) (assignment scratch
     rules = demand .rules F fo
 
     abbrev plan : Answer
-    plan = answerOf c former allowance
+    plan = planIn c former allowance
 
     abbrev L : Layout
     L = plan .layout
@@ -120,20 +121,22 @@ module _ (c : Cluster) (former : List ℕ) (allowance : ℕ) (assignment scratch
       abbrev n : Numbers
       n = planNumbers c r
 
-      in-range : InRange n
+      in-range : inRange n ≡ true
+      unfolding allHold
       in-range =
           let large = valid .positive in
           let below = size-below t acc low (plan .size) (rules .size allowance) in
           let far = distance-most t acc L F (plan .size) valid fo in
           let size : r .size ≡ plan .size = ap (λ (x : Planned). x .size) answer in
-          record {
-            bits = acc .bits;
-            replication = acc .replication;
-            size = (omega arith, omega arith);
-            distance = omega (arith, ap (λ (x : Planned). x .distance) answer, rules .measured allowance);
-            verdict = one-if-le (r .finished);
-            improvements = omega (arith, ap (λ (x : Planned). x .improvements) answer, few-improvements t (demand .beginning) F allowance rules);
-          }
+          let distance : r .distance ≤ mostDistance = omega (arith, ap (λ (x : Planned). x .distance) answer, rules .measured allowance) in
+          let improvements : r .improvements ≤ mostImprovements =
+          omega (arith, ap (λ (x : Planned). x .improvements) answer, few-improvements t (demand .beginning) F allowance rules) in
+          more-hold _ _ _ _ (omega arith) (acc .bits)
+          (more-hold _ _ _ _ (acc .replication .0) (acc .replication .1)
+          (more-hold _ _ _ _ (omega arith) (omega arith)
+          (more-hold _ _ _ _ (omega arith) distance
+          (more-hold _ _ _ _ (omega arith) (one-if-le (r .finished))
+          (more-hold _ _ _ _ (omega arith) improvements refl)))))
 
       has-layout : HasLayout n L
       has-layout = record {
@@ -149,7 +152,7 @@ module _ (c : Cluster) (former : List ℕ) (allowance : ℕ) (assignment scratch
         unfolding recordLength
         long = length-record n L has-layout
 
-        written : Writes n cells out L
+        written : WritesLayout n cells out L
         written =
             writes-layout n cells out L
             (record {
@@ -174,22 +177,22 @@ module _ (c : Cluster) (former : List ℕ) (allowance : ℕ) (assignment scratch
             ∙ take-at (layoutRecord n L) (drop (length (layoutRecord n L)) out) (length (layoutRecord n L)) refl
 
         module _ (lent : List ℕ) (enough : layoutCells ≤ length lent) where
-          read : Reads (layoutRecord n L) lent n L
+          read : ReadsLayout (layoutRecord n L) lent n L
           read = reads-record (layoutRecord n L) lent n L enough (record { bytes = refl; ranges = in-range; layout = has-layout })
 
-          held : records.assignmentAfter bytes lent ≡ cellsOf L ++ drop layoutCells lent
-          held = ap (λ (x : List ℕ). records.assignmentAfter x lent) bytes-are ∙ read .after
+          held : assignmentRead bytes lent ≡ cellsOf L ++ drop layoutCells lent
+          held = ap (λ (x : List ℕ). assignmentRead x lent) bytes-are ∙ read .after
 
           -- What is written reads back: the numbers of the plan, and all 2,048 of its cells.
-          pub plan-returns : (readAnswer bytes lent ≡ record { refusal = 0; byte = 0; numbers = n })
-              × (records.assignmentAfter bytes lent ≡ take layoutCells cells ++ drop layoutCells lent)
+          pub plan-returns : (readLayoutOf bytes lent ≡ record { refusal = 0; byte = 0; numbers = n })
+              × (assignmentRead bytes lent ≡ take layoutCells cells ++ drop layoutCells lent)
           plan-returns = (
-            ap (λ (x : List ℕ). readAnswer x lent) bytes-are ∙ read .answer,
+            ap (λ (x : List ℕ). readLayoutOf x lent) bytes-are ∙ read .answer,
             held ∙ ap (λ (x : List ℕ). x ++ drop layoutCells lent) (sym taken),
           )
 
           -- And passes check as it is read.
-          pub returned-checks : checkOf c (records.assignmentAfter bytes lent) (readAnswer bytes lent .numbers .size) ≡ passed
+          pub returned-checks : checkOf c (assignmentRead bytes lent) (readLayoutOf bytes lent .numbers .size) ≡ passed
           returned-checks =
               ap₂ (checkOf c) held (ap (λ (x : ReadLayout). x .numbers .size) (plan-returns .0)) ∙ laid-checks (drop layoutCells lent)
 

@@ -599,6 +599,13 @@ mod tests {
                 "plan home.txt --allowance 65536",
                 "--allowance takes a number from 0 to 65535",
             ),
+        ];
+        told(&faults);
+    }
+
+    #[test]
+    fn faulty_words_for_boxes_and_changes_are_told() {
+        let faults = [
             (
                 "show home.txt last --box study",
                 "--box takes the id of a box, and not \"study\"",
@@ -628,8 +635,12 @@ mod tests {
                 "--former is given twice",
             ),
         ];
+        told(&faults);
+    }
+
+    fn told(faults: &[(&str, &str)]) {
         for (line, fault) in faults {
-            assert_eq!(called(line), Err(fault.into()), "{line}");
+            assert_eq!(called(line), Err((*fault).into()), "{line}");
         }
     }
 }

@@ -87,8 +87,9 @@ impl Added<'_> {
                 let what = format!("--add \"{words}\": no id is left above {highest}");
                 return Err(Failure::bad(what));
             };
-            if words.contains('\n') {
-                return Err(Failure::Usage("--add takes one line".into()));
+            if words.contains('\n') || words.split_whitespace().count() < 2 {
+                let what = "--add takes a zone and a capacity, as \"attic 4T\", and perhaps a name";
+                return Err(Failure::Usage(what.into()));
             }
             lines.push((id, words));
         }
@@ -144,7 +145,7 @@ impl Step {
     /// The change as a line of a table has it.
     pub fn in_words(&self, described: &Description) -> String {
         match self {
-            Step::Add(node, _, words) => format!("add {words}, as box {}", node.id),
+            Step::Add(node, _, words) => format!("add \"{words}\" as box {}", node.id),
             Step::Remove(id) => format!("remove box {}", labels::in_words(described, *id)),
             Step::Resize(id, capacity) => format!(
                 "resize box {} to {}",
@@ -243,17 +244,17 @@ mod tests {
             Err(failure) => failure.lines(),
             Ok(_) => panic!("{words} is at fault"),
         };
+        let usage =
+            "dezghuri: --add takes a zone and a capacity, as \"attic 4T\", and perhaps a name";
+        assert_eq!(told("attic")[0], usage);
+        assert_eq!(told("a 4T\nbox 8 a 4T")[0], usage);
         assert_eq!(
-            told("attic"),
-            ["--add \"attic\": a box has an id, a zone and a capacity: box 1 home 2T"]
+            told("10 attic 4T"),
+            ["--add \"10 attic 4T\": a zone is one word: write 10-attic, and not '10 attic'"]
         );
         assert_eq!(
             told("Home 4T"),
             ["--add \"Home 4T\": zone 'Home' is written 'home' on line 3: write it one way"]
-        );
-        assert_eq!(
-            told("a 4T\nbox 8 a 4T")[0],
-            "dezghuri: --add takes one line"
         );
     }
 

@@ -107,7 +107,7 @@ fn write_text(f: &mut fmt::Formatter<'_>, text: &str) -> fmt::Result {
             '"' => f.write_str("\\\"")?,
             '\\' => f.write_str("\\\\")?,
             '\n' => f.write_str("\\n")?,
-            '\u{0}'..='\u{1f}' | '\u{7f}' => write!(f, "\\u{:04x}", c as u32)?,
+            _ if c.is_control() => write!(f, "\\u{:04x}", u32::from(c))?,
             _ => f.write_char(c)?,
         }
     }
@@ -201,10 +201,10 @@ mod tests {
 
     #[test]
     fn text_is_escaped() {
-        let text = Json::from("a \"b\" \\ \n\t\u{1}\u{7f} Büro");
+        let text = Json::from("a \"b\" \\ \n\t\u{1}\u{7f}\u{9b} Büro");
         assert_eq!(
             text.to_string(),
-            r#""a \"b\" \\ \n\u0009\u0001\u007f Büro""#
+            r#""a \"b\" \\ \n\u0009\u0001\u007f\u009b Büro""#
         );
     }
 

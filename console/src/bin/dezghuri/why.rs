@@ -9,14 +9,18 @@ use dezghuri::{Counts, Description, Plan, Unused};
 /// no owner asks.
 const FAR: u64 = 100;
 
-/// The sentences that tell why the size of a plan is no larger; nothing where it is about as large
-/// as can be hoped for.
+/// Why the size of a plan is no larger; nothing where it is about as large as can be hoped for.
 pub fn not_more(described: &Description, plan: &Plan, hope: u64) -> String {
-    let size = u64::from(plan.size);
-    if (hope - size) * FAR < hope {
+    if (hope - u64::from(plan.size)) * FAR < hope {
         return String::new();
     }
-    let (cluster, counts) = (&described.cluster, counts(described, plan));
+    let why = sentences(described, plan.size);
+    format!("Why not more: {}\n", why.join("\nAlso, "))
+}
+
+/// What binds at a size, one sentence or two; none where a larger one has a layout.
+pub fn sentences(described: &Description, size: u32) -> Vec<String> {
+    let (cluster, counts) = (&described.cluster, counts(described, size));
     let mut why = Vec::new();
     if counts.lack_zones() && !counts.whole_zones.is_empty() {
         why.push(zones_bind(described, &counts, size));
@@ -25,16 +29,16 @@ pub fn not_more(described: &Description, plan: &Plan, hope: u64) -> String {
     if counts.lack_room() && (why.is_empty() || cluster.redundancy < cluster.replication) {
         why.push(boxes_bind(described, &counts, size));
     }
-    format!("Why not more: {}\n", why.join("\nAlso, "))
+    why
 }
 
-/// The counts at the next size, at which one of them falls short.
-fn counts(described: &Description, plan: &Plan) -> Counts {
-    described.cluster.counts(u64::from(plan.size) + 1)
+/// The counts at the next size.
+fn counts(described: &Description, size: u32) -> Counts {
+    described.cluster.counts(u64::from(size) + 1)
 }
 
 /// Zones with room for everything count once each; the others must take what is left.
-fn zones_bind(described: &Description, counts: &Counts, size: u64) -> String {
+fn zones_bind(described: &Description, counts: &Counts, size: u32) -> String {
     let wanted = u64::from(described.cluster.redundancy);
     let whole = zone_names(described, &counts.whole_zones);
     let left = wanted - counts.whole_zones.len() as u64;
@@ -48,12 +52,12 @@ fn zones_bind(described: &Description, counts: &Counts, size: u64) -> String {
          above {} MB.\nMore disk in {whole} would not help.",
         count(wanted, "zone", "zones"),
         count(left, "more copy", "more copies"),
-        thousands(size),
+        thousands(size.into()),
     )
 }
 
 /// Boxes with room for everything count once each; the others must take what is left.
-fn boxes_bind(described: &Description, counts: &Counts, size: u64) -> String {
+fn boxes_bind(described: &Description, counts: &Counts, size: u32) -> String {
     let cluster = &described.cluster;
     let whole = &counts.whole_nodes;
     if whole.is_empty() {
@@ -78,7 +82,7 @@ fn boxes_bind(described: &Description, counts: &Counts, size: u64) -> String {
         "a box holds each partition once at most, and besides {boxes} {others} no room for {} of \
          each above {} MB.\n{disks} in {boxes} would not help.",
         count(left, "more copy", "more copies"),
-        thousands(size),
+        thousands(size.into()),
     )
 }
 
@@ -92,9 +96,11 @@ fn zone_names(described: &Description, zones: &[u16]) -> String {
     listed(names.iter())
 }
 
-/// A line for each box that holds nothing.
+/// A line for each box that holds nothing; but one of capacity 0 is meant to hold nothing.
 pub fn unused(described: &Description, plan: &Plan) -> String {
-    let unused = described.cluster.unused(&plan.layout, plan.size);
+    let mut unused = described.cluster.unused(&plan.layout, plan.size);
+    let nodes = &described.cluster.nodes;
+    unused.retain(|(id, _)| nodes.iter().any(|node| node.id == *id && node.capacity > 0));
     let line = |(id, why): &(u32, Unused)| {
         let label = labels::of(described, *id);
         let why = match why {
@@ -115,7 +121,7 @@ pub fn unused(described: &Description, plan: &Plan) -> String {
 
 /// The two counts at the next size, and the boxes that hold nothing.
 pub fn json(described: &Description, plan: &Plan) -> [(&'static str, Json); 2] {
-    let counts = counts(described, plan);
+    let counts = counts(described, plan.size);
     let zones = |zones: &[u16]| {
         let zones = zones.iter().map(|zone| zone_names(described, &[*zone]));
         Json::list(zones)
@@ -142,4 +148,56 @@ pub fn json(described: &Description, plan: &Plan) -> [(&'static str, Json); 2] {
         Json::Object(vec![("id", (*id).into()), ("why", why.into())])
     });
     [("binds", binds), ("unused", Json::list(unused))]
+}
+
+#[cfg(test)]
+mod tests {
+    use super::*;
+    use reference::random::Random;
+
+    /// A cluster of some boxes in a few zones, with small disks.
+    fn some_text(r: &mut Random) -> String {
+        let copies = r.between(1, 3);
+        let zones = r.between(1, copies);
+        let mut text = format!("copies {copies}\nzones {zones}\nbits {}\n", r.below(4));
+        for id in 1..=r.between(copies, 6) {
+            let zone = ["home", "shop", "attic", "shed"][r.below(4) as usize];
+            text += &format!("box {id} {zone} {}\n", r.between(1, 90));
+        }
+        text
+    }
+
+    /// At the largest size there is a sentence for what falls short and none for what does not; at
+    /// a smaller one there is none.
+    #[test]
+    fn sentences_name_what_falls_short() {
+        let mut r = Random::new(61);
+        let mut seen = [0; 3];
+        for _ in 0..2000 {
+            let described: Description = some_text(&mut r).parse().unwrap();
+            let Ok(plan) = described.cluster.plan(dezghuri::ENOUGH) else {
+                continue;
+            };
+            let counts = counts(&described, plan.size);
+            let told = sentences(&described, plan.size);
+            let of_zones = |text: &&String| text.starts_with("each partition lies in");
+            let zones = told.iter().filter(of_zones).count();
+            assert!((1..=2).contains(&told.len()), "{told:?}");
+            assert!(zones == 0 || counts.lack_zones());
+            assert!(told.len() == zones || counts.lack_room());
+            if !counts.lack_room() {
+                assert_eq!(zones, 1);
+            }
+            if plan.size > 1 {
+                assert!(sentences(&described, plan.size - 1).is_empty());
+            }
+            let kind = match (told.len(), zones) {
+                (1, 0) => 0,
+                (1, _) => 1,
+                _ => 2,
+            };
+            seen[kind] += 1;
+        }
+        assert!(seen.iter().all(|number| *number > 10), "{seen:?}");
+    }
 }

@@ -2,7 +2,7 @@
 use borrow.Author.Needs.{needs}
 use native.Mathlib.Omega.{arith}
 use Rattle.circuits.proofs.Steps.{inner-in, outer-in, split-inner, split-outer}
-use Rattle.circuits.specs.ModelCircuits.{bitsOf}
+use Rattle.sets.specs.ModelBits.{bitsAt}
 use mathlib.Core.Path.{sym, _∙_}
 use Rattle.circuits.proofs.divide.Statement.{statement}
 use Rattle.circuits.proofs.divide.Tie as tie
@@ -52,7 +52,7 @@ returns c = let k = c .before .before .before .before .before .before .before in
     let a = t .before .before .before .before .before .before .before .args in
     let i = a .i in
     let j = a .j in
-    let g = bitsOf (a .former .now) in (
+    let g = bitsAt (a .former .now) in (
       omega arith,
       search needs,
       omega arith,
@@ -98,7 +98,7 @@ returns-2 c = let k = c .before .before .before .before .before .before in
     let a = t .before .before .before .before .before .before .before .args in
     let i = a .i in
     let j = a .j in
-    let g = bitsOf (a .former .now) in (
+    let g = bitsAt (a .former .now) in (
       omega arith,
       omega arith,
       omega arith,

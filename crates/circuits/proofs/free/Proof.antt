@@ -2,7 +2,8 @@
 use borrow.Author.Needs.{needs}
 use native.Mathlib.Omega.{arith}
 use Rattle.circuits.proofs.Steps.{pair-in, free-stop, free-go, free-end}
-use Rattle.circuits.specs.ModelCircuits.{bitsOf, okOf, walkIn}
+use Rattle.sets.specs.ModelBits.{bitsAt}
+use Rattle.walks.specs.ModelWalks.{okOf, walkIn}
 use Rattle.exchange.proofs.Walk.{same-refl}
 use Rattle.exchange.specs.ModelUncross.{Same, uncross}
 use lib.ListN.{length}
@@ -13,8 +14,8 @@ use Rattle.circuits.proofs.free.Tie as tie
 
 abbrev Inv-loop : tie.InvT-loop
 Inv-loop y₀ q₀ m rows former partitions mates all z len₀ left₀ y q len left = (len ≤ m) × (length y ≡ length y₀) × (length q ≡ length q₀)
-    × Same (uncross m partitions 1 (bitsOf former) (okOf rows mates all z) (walkIn m y₀ q₀))
-    (uncross left partitions 1 (bitsOf former) (okOf rows mates all z) (walkIn len y q))
+    × Same (uncross m partitions 1 (bitsAt former) (okOf rows mates all z) (walkIn m y₀ q₀))
+    (uncross left partitions 1 (bitsAt former) (okOf rows mates all z) (walkIn len y q))
 
 abbrev μ-loop : tie.MeasureT-loop
 μ-loop y₀ q₀ m rows former partitions mates all z len₀ left₀ y q len left = left
@@ -37,7 +38,7 @@ same-length-2 c = omega arith
 returns : tie.Need-returns Inv-loop μ-loop
 returns c = let k = c .before .before .before .before .before in
     let a = k .before .before .before .before .before .before .args in
-    let g = bitsOf (a .former .now) in
+    let g = bitsAt (a .former .now) in
     let ok = okOf (a .rows .now) (a .mates .now) (a .all) (a .z) in
     let w = walkIn (k .loop .len) (k .loop .y) (k .loop .q) in
     let v = uncross (a .m) (a .partitions) 1 g ok (walkIn (a .m) (a .y .now) (a .q .now)) in (
@@ -59,7 +60,7 @@ divide-requires c κs = let r = c .before .before in
     let e = r .before .before .before .before in
     let k = e .before .before .before .before in
     let a = k .before .before .before .before .before .before .args in
-    let g = bitsOf (a .former .now) in
+    let g = bitsAt (a .former .now) in
     let ok = okOf (a .rows .now) (a .mates .now) (a .all) (a .z) in
     let w = walkIn (k .loop .len) (k .loop .y) (k .loop .q) in
     let v = uncross (a .m) (a .partitions) 1 g ok (walkIn (a .m) (a .y .now) (a .q .now)) in
@@ -79,7 +80,7 @@ loop-again c = let d = c .before .before .before .before in
     let e = r .before .before .before .before in
     let k = e .before .before .before .before in
     let a = k .before .before .before .before .before .before .args in
-    let g = bitsOf (a .former .now) in
+    let g = bitsAt (a .former .now) in
     let ok = okOf (a .rows .now) (a .mates .now) (a .all) (a .z) in
     let w = walkIn (k .loop .len) (k .loop .y) (k .loop .q) in
     let v = uncross (a .m) (a .partitions) 1 g ok (walkIn (a .m) (a .y .now) (a .q .now)) in (
@@ -99,7 +100,7 @@ same-length-4 c = omega arith
 returns-2 : tie.Need-returns-2 Inv-loop μ-loop
 returns-2 c = let k = c .before in
     let a = k .before .before .before .before .before .before .args in
-    let g = bitsOf (a .former .now) in
+    let g = bitsAt (a .former .now) in
     let ok = okOf (a .rows .now) (a .mates .now) (a .all) (a .z) in
     let w = walkIn (k .loop .len) (k .loop .y) (k .loop .q) in
     let v = uncross (a .m) (a .partitions) 1 g ok (walkIn (a .m) (a .y .now) (a .q .now)) in (

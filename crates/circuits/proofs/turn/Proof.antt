@@ -4,43 +4,45 @@ use native.Mathlib.Omega.{arith}
 use Rattle.circuits.specs.ModelCircuits.{turnedOf}
 use borrow.Author.Tests.{lt-ltb, le-ltb}
 use lib.ListN.{length}
+use Rattle.cluster.specs.Terms.{bufferRows, mostNodes}
+use Rattle.cycles.specs.ModelGraph.{arcCells}
 use Rattle.circuits.proofs.turn.Statement.{statement}
 use Rattle.circuits.proofs.turn.Tie as tie
 
 returns : tie.Need-returns
 unfolding turnedOf
 returns c = let a = c .before .before .before .before .before .before .args in
-    rw (lt-ltb 32 (a .m) (omega arith))
+    rw (lt-ltb mostNodes (a .m) (omega arith))
 
 returns-2 : tie.Need-returns-2
 unfolding turnedOf
 returns-2 c = let a = c .before .before .before .before .before .before .before .args in
-    let arcs-few = le-ltb 32 (a .m) (omega arith) in
-    rw (arcs-few, lt-ltb 256 (a .partitions) (omega arith))
+    let arcs-few = le-ltb mostNodes (a .m) (omega arith) in
+    rw (arcs-few, lt-ltb bufferRows (a .partitions) (omega arith))
 
 returns-3 : tie.Need-returns-3
 unfolding turnedOf
 returns-3 c = let a = c .before .before .before .before .before .before .before .before .args in
-    let arcs-few = le-ltb 32 (a .m) (omega arith) in
-    let partitions-few = le-ltb 256 (a .partitions) (omega arith) in
+    let arcs-few = le-ltb mostNodes (a .m) (omega arith) in
+    let partitions-few = le-ltb bufferRows (a .partitions) (omega arith) in
     rw (arcs-few, partitions-few, lt-ltb (length (a .rows .now)) (a .partitions) (omega arith))
 
 returns-4 : tie.Need-returns-4
 unfolding turnedOf
 returns-4 c = let a = c .before .before .before .before .before .before .before .before .before .args in
-    let arcs-few = le-ltb 32 (a .m) (omega arith) in
-    let partitions-few = le-ltb 256 (a .partitions) (omega arith) in
+    let arcs-few = le-ltb mostNodes (a .m) (omega arith) in
+    let partitions-few = le-ltb bufferRows (a .partitions) (omega arith) in
     let rows-long = le-ltb (length (a .rows .now)) (a .partitions) (omega arith) in
     rw (arcs-few, partitions-few, rows-long, lt-ltb (length (a .former .now)) (a .partitions) (omega arith))
 
 returns-5 : tie.Need-returns-5
 unfolding turnedOf
 returns-5 c = let a = c .before .before .before .before .before .before .before .before .before .before .args in
-    let arcs-few = le-ltb 32 (a .m) (omega arith) in
-    let partitions-few = le-ltb 256 (a .partitions) (omega arith) in
+    let arcs-few = le-ltb mostNodes (a .m) (omega arith) in
+    let partitions-few = le-ltb bufferRows (a .partitions) (omega arith) in
     let rows-long = le-ltb (length (a .rows .now)) (a .partitions) (omega arith) in
     let former-long = le-ltb (length (a .former .now)) (a .partitions) (omega arith) in
-    rw (arcs-few, partitions-few, rows-long, former-long, lt-ltb (length (a .arcs .now)) 96 (omega arith))
+    rw (arcs-few, partitions-few, rows-long, former-long, lt-ltb (length (a .arcs .now)) arcCells (omega arith))
 
 turn-all-requires : tie.Need-turn-all-requires
 turn-all-requires c κs = search needs
@@ -51,21 +53,21 @@ same-length c = omega arith
 returns-6 : tie.Need-returns-6
 unfolding turnedOf
 returns-6 c = let a = c .before .before .before .before .before .before .before .before .before .before .before .before .before .before .before .args in
-    let arcs-few = le-ltb 32 (a .m) (omega arith) in
-    let partitions-few = le-ltb 256 (a .partitions) (omega arith) in
+    let arcs-few = le-ltb mostNodes (a .m) (omega arith) in
+    let partitions-few = le-ltb bufferRows (a .partitions) (omega arith) in
     let rows-long = le-ltb (length (a .rows .now)) (a .partitions) (omega arith) in
     let former-long = le-ltb (length (a .former .now)) (a .partitions) (omega arith) in
-    let graph-long = le-ltb (length (a .arcs .now)) 96 (omega arith) in
+    let graph-long = le-ltb (length (a .arcs .now)) arcCells (omega arith) in
     rw (arcs-few, partitions-few, rows-long, former-long, graph-long, lt-ltb (a .m) (length (a .walk .now)) (omega arith)) (c .before .before .turn-all .ensures)
 
 returns-7 : tie.Need-returns-7
 unfolding turnedOf
 returns-7 c = let a = c .before .before .before .before .before .before .before .before .before .before .before .args in
-    let arcs-few = le-ltb 32 (a .m) (omega arith) in
-    let partitions-few = le-ltb 256 (a .partitions) (omega arith) in
+    let arcs-few = le-ltb mostNodes (a .m) (omega arith) in
+    let partitions-few = le-ltb bufferRows (a .partitions) (omega arith) in
     let rows-long = le-ltb (length (a .rows .now)) (a .partitions) (omega arith) in
     let former-long = le-ltb (length (a .former .now)) (a .partitions) (omega arith) in
-    let graph-long = le-ltb (length (a .arcs .now)) 96 (omega arith) in
+    let graph-long = le-ltb (length (a .arcs .now)) arcCells (omega arith) in
     rw (arcs-few, partitions-few, rows-long, former-long, graph-long, le-ltb (a .m) (length (a .walk .now)) (omega arith))
 
 pub turn-spec : {M : Type 1} → statement M

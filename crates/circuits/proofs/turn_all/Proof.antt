@@ -2,10 +2,13 @@
 use borrow.Author.Needs.{needs}
 use native.Mathlib.Omega.{arith}
 use Rattle.circuits.proofs.Steps.{loaded, turned-in}
-use Rattle.circuits.specs.ModelCircuits.{walkIn}
+use Rattle.walks.specs.ModelWalks.{walkIn}
+use Rattle.circuits.specs.ModelCircuits.{walkedOf}
 use lib.ListN.{length, replicate}
 use mathlib.Core.Path.{_≡_, refl, _∙_}
 use Prim.Native.Nat.{ℕ, _≤_}
+use Rattle.cluster.specs.Terms.{mostNodes}
+use Rattle.cycles.specs.ModelGraph.{walkCells}
 use Rattle.circuits.proofs.turn_all.Statement.{statement}
 use Rattle.circuits.proofs.turn_all.Tie as tie
 
@@ -44,12 +47,13 @@ returns c = let f = c .before .before .before .before .before .before .before .b
     let l = f .before .before .before .before .before .before .load in
     let s = f .before .before .before .before .before .before .before .before .before .before .before .before .before .before .before in
     let a = s .args in
-    let long : length (replicate {A = ℕ} 33 0) ≡ 33 = refl in
-    let few : a .m ≤ 32 = s .pre .0 in
+    let long : length (replicate {A = ℕ} walkCells 0) ≡ walkCells = refl in
+    let few : a .m ≤ mostNodes = s .pre .0 in
     let cycle =
     loaded (a .rows .now) (a .former .now) (a .partitions) (a .mates .now) (a .arcs .now) (a .all) (a .z) (a .walk .now) (a .m) (l .last .0)
-    (l .last .1 .0) (replicate 33 0) (replicate 33 0) (l .ensures .0) (omega arith) (l .ensures .1) (omega arith) in
-    c .before .before .make .ensures
+    (l .last .1 .0) (replicate walkCells 0) (replicate walkCells 0) (l .ensures .0) (omega arith) (l .ensures .1) (omega arith) in
+    let made : c .before .before .make .last .0 ≡ walkedOf (a .partitions) (walkIn (f .free .result) (f .free .last .0) (f .free .last .1 .0)) (a .rows .now) = c .before .before .make .ensures in
+    made
     ∙ turned-in (a .rows .now) (a .former .now) (a .partitions) (a .mates .now) (a .arcs .now) (a .all) (a .z) (a .walk .now) (a .m)
     (walkIn (a .m) (l .last .0) (l .last .1 .0)) (walkIn (f .free .result) (f .free .last .0) (f .free .last .1 .0)) cycle (f .free .ensures .3)
 

@@ -6,7 +6,7 @@ use mathlib.Core.List.{List, _++_}
 use lib.ListN.{drop}
 use Rattle.cluster.specs.Terms.{layoutCells}
 use Rattle.cluster_record.specs.declared.ReadCluster.{ReadCluster}
-use Rattle.cluster_record.specs.RecordClusterAnswer.{answerOf}
+use Rattle.cluster_record.specs.RecordClusterAnswer.{clusterAnswer}
 use Rattle.cluster_record.proofs.Answers.{short-answer, short-former, long-answer, accepted-former, refused-former}
 use borrow.Author.Needs.{needs}
 use Rattle.cluster_record.proofs.read_cluster.Statement.{statement}
@@ -42,7 +42,7 @@ same-length : tie.Need-same-length
 same-length c = search needs
 
 returns-2 : tie.Need-returns-2
-unfolding answerOf
+unfolding clusterAnswer
 returns-2 c =
     let t = c .before .before .before .before .before in
     let k = t .before .before .before in
@@ -56,7 +56,7 @@ returns-2 c =
     )
 
 returns-3 : tie.Need-returns-3
-unfolding answerOf
+unfolding clusterAnswer
 returns-3 c =
     let k = c .before .before .before in
     let e = k .before .before in

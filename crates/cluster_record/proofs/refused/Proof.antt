@@ -2,7 +2,7 @@
 -- Assumes nothing.
 use mathlib.Core.Path.{ap}
 use Rattle.cluster.specs.declared.Cluster.{Cluster}
-use Rattle.cluster_record.specs.RecordClusterAnswer.{answerOf}
+use Rattle.cluster_record.specs.RecordClusterAnswer.{clusterAnswer}
 use Rattle.cluster.specs.TermsReading.{slotsOf}
 use borrow.Author.Needs.{needs}
 use Rattle.cluster_record.proofs.refused.Statement.{statement}
@@ -15,7 +15,7 @@ none-requires : tie.Need-none-requires
 none-requires c κs = search needs
 
 returns : tie.Need-returns
-unfolding answerOf slotsOf
+unfolding clusterAnswer slotsOf
 returns c = ap (λ (k : Cluster). record { refusal = c .before .args .refusal; byte = c .before .args .byte; cluster = k }) (c .none .ensures)
 
 pub refused-spec : {M : Type 1} → statement M

@@ -2,11 +2,12 @@
 -- Assumes nothing.
 use Prim.Native.Nat.{ℕ, _-_}
 use mathlib.Core.Path.{_≡_, sym, ap, ap₂, _∙_}
+use mathlib.Core.List.{List}
 use lib.ListN.{length}
 use Rattle.fields.specs.RecordField.{fieldAt, refusalOf, placeOf}
 use Rattle.cluster_record.specs.declared.ReadCluster.{ReadCluster}
-use Rattle.cluster_record.specs.RecordClusterFaults.{refusedAt}
-use Rattle.cluster_record.specs.RecordClusterAnswer.{answerOf}
+use Rattle.cluster_record.specs.RecordClusterFaults.{clusterRefused}
+use Rattle.cluster_record.specs.RecordClusterAnswer.{clusterAnswer}
 use Rattle.cluster_record.proofs.Walked.{Walked, Met, walked-start, walked-bits, walked-count, walked-length, walked-missing, walked-cluster, walked-cells, walked-refused, walked-tag, walked-inside, walked-row, walked-fault, walked-room, walked-partition, walked-on}
 use borrow.Author.Needs.{needs}
 use native.Mathlib.Omega.{arith}
@@ -63,16 +64,16 @@ same-length : tie.Need-same-length Inv-loop μ-loop
 same-length c = search needs
 
 returns : tie.Need-returns Inv-loop μ-loop
-unfolding answerOf
+unfolding clusterAnswer
 returns c =
     let k = c .before .before .before .before .before in
     let l = k .before .before .before in
     let told = c .before .before .before .enum-told .given in
     let d = walked-refused (l .loop .inv .1) (k .before .before .loop-test .taken)
-    (ap (λ (m : ℕ). fieldAt (l .before .before .before .before .args .bytes .now) (l .loop .at) m 0) (sym (k .before .allowed-after .ensures)) ∙ (sym (k .field-at .ensures .0) ∙ told .1)) in
+    (ap (λ (m : List ℕ). fieldAt (l .before .before .before .before .args .bytes .now) (l .loop .at) m 0) (sym (k .before .allowed-after .ensures)) ∙ (sym (k .field-at .ensures .0) ∙ told .1)) in
     let n : c .before .before .refusal-of .result ≡ told .0 .0 = c .before .before .refusal-of .ensures ∙ ap refusalOf (told .1) in
     let b : c .before .place-of .result ≡ told .0 .1 .0 = c .before .place-of .ensures ∙ ap placeOf (told .1) in (
-      c .refused .ensures ∙ (ap₂ (λ (x y : ℕ). answerOf (refusedAt x y)) n b ∙ ap answerOf (sym (d .1))),
+      c .refused .ensures ∙ (ap₂ (λ (x y : ℕ). clusterAnswer (clusterRefused x y)) n b ∙ ap clusterAnswer (sym (d .1))),
       λ z. absurd (omega (arith, d .0, ap (λ (r : ReadCluster). r .refusal) (c .refused .ensures))),
     )
 
@@ -86,7 +87,7 @@ met c =
     record {
       walked = l .loop .inv .1;
       more = k .before .before .loop-test .taken;
-      field = ap (λ (m : ℕ). fieldAt (l .before .before .before .before .args .bytes .now) (l .loop .at) m 0) (sym (k .before .allowed-after .ensures))
+      field = ap (λ (m : List ℕ). fieldAt (l .before .before .before .before .args .bytes .now) (l .loop .at) m 0) (sym (k .before .allowed-after .ensures))
           ∙ (sym (k .field-at .ensures .0) ∙ c .f .given .1);
     }
 
@@ -103,11 +104,11 @@ same-length-2 : tie.Need-same-length-2 Inv-loop μ-loop
 same-length-2 c = search needs
 
 returns-2 : tie.Need-returns-2 Inv-loop μ-loop
-unfolding answerOf
+unfolding clusterAnswer
 returns-2 c =
     let j = c .before .before in
     let n = c .before .if1 .taken in (
-      c .refused2 .ensures ∙ ap answerOf (sym (walked-fault (met (j .before .before)) (j .field-fault .ensures) n)),
+      c .refused2 .ensures ∙ ap clusterAnswer (sym (walked-fault (met (j .before .before)) (j .field-fault .ensures) n)),
       λ z. absurd (n (sym (ap (λ (r : ReadCluster). r .refusal) (c .refused2 .ensures)) ∙ z)),
     )
 
@@ -150,10 +151,10 @@ same-length-3 : tie.Need-same-length-3 Inv-loop μ-loop
 same-length-3 c = search needs
 
 returns-3 : tie.Need-returns-3 Inv-loop μ-loop
-unfolding answerOf
+unfolding clusterAnswer
 returns-3 c =
     let l = c .before .before in (
-      c .refused3 .ensures ∙ ap answerOf (sym (walked-missing (l .before .loop .inv .1) (l .loop-test .left) (c .before .if2 .taken))),
+      c .refused3 .ensures ∙ ap clusterAnswer (sym (walked-missing (l .before .loop .inv .1) (l .loop-test .left) (c .before .if2 .taken))),
       λ z. absurd (omega (arith, ap (λ (r : ReadCluster). r .refusal) (c .refused3 .ensures))),
     )
 

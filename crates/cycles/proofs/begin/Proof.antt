@@ -4,6 +4,7 @@ use mathlib.Core.Path.{_≡_, ap, _∙_}
 use native.Mathlib.Omega.{arith}
 use borrow.Author.Needs.{needs}
 use lib.ListN.{length, length-set}
+use Rattle.cluster.specs.Terms.{mostNodes}
 use Rattle.cells.specs.ModelCells.{put}
 use Rattle.cells.proofs.Cells.{put-none, put-next}
 use Rattle.sets.specs.ModelBits.{withOf}
@@ -12,10 +13,10 @@ use Rattle.cycles.proofs.begin.Tie as tie
 
 abbrev Inv-loop : tie.InvT-loop
 Inv-loop way₀ v₀ way v =
-    (v ≤ 32) × (length way ≡ length way₀) × (32 ≤ length way₀) × (way ≡ put 0 (λ v. withOf 0 v) v way₀)
+    (v ≤ mostNodes) × (length way ≡ length way₀) × (mostNodes ≤ length way₀) × (way ≡ put 0 (λ v. withOf 0 v) v way₀)
 
 abbrev μ-loop : tie.MeasureT-loop
-μ-loop way₀ v₀ way v = 32 - v
+μ-loop way₀ v₀ way v = mostNodes - v
 
 loop-holds : tie.Need-loop-holds Inv-loop μ-loop
 loop-holds c = (search needs, search needs, search needs, put-none _ _ _)
@@ -45,7 +46,7 @@ same-length : tie.Need-same-length Inv-loop μ-loop
 same-length c = search needs
 
 returns : tie.Need-returns Inv-loop μ-loop
-returns c = let e : c .before .loop .v ≡ 32 = omega arith in c .before .loop .inv .3 ∙ ap (λ (k : ℕ). put 0 (λ v. withOf 0 v) k (c .before .before .before .args .way .now)) e
+returns c = let e : c .before .loop .v ≡ mostNodes = omega arith in c .before .loop .inv .3 ∙ ap (λ (k : ℕ). put 0 (λ v. withOf 0 v) k (c .before .before .before .args .way .now)) e
 
 pub begin-spec : {M : Type 1} → statement M
 begin-spec =

@@ -4,6 +4,7 @@ use mathlib.Core.Path.{_≡_, sym, ap, _∙_}
 use native.Mathlib.Omega.{arith}
 use borrow.Author.Needs.{needs}
 use lib.ListN.{length, length-set}
+use Rattle.cluster.specs.Terms.{mostNodes}
 use Rattle.cells.specs.ModelCells.{put}
 use Rattle.cells.proofs.Cells.{put-none, put-next}
 use Rattle.sets.specs.ModelBits.{withOf}
@@ -14,7 +15,7 @@ use Rattle.cycles.proofs.close.Tie as tie
 
 abbrev Inv-loop : tie.InvT-loop
 Inv-loop n fell row way grown₀ v₀ grown v =
-    (v ≤ n) × (n ≤ 32) × (32 ≤ length row) × (32 ≤ length way) × (32 ≤ length grown₀) × (length grown ≡ length grown₀)
+    (v ≤ n) × (n ≤ mostNodes) × (mostNodes ≤ length row) × (mostNodes ≤ length way) × (mostNodes ≤ length grown₀) × (length grown ≡ length grown₀)
     × (closer n fell row way ≡ closerFrom n fell row way v) × (grown ≡ put 0 (λ v. withOf (before fell row way v) v) v grown₀)
 
 abbrev μ-loop : tie.MeasureT-loop

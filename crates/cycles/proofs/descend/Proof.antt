@@ -4,6 +4,7 @@ use mathlib.Core.Path.{_≡_, ap, _∙_}
 use native.Mathlib.Omega.{arith}
 use borrow.Author.Needs.{needs}
 use lib.ListN.{length, take, drop, length-take, length-drop}
+use Rattle.cluster.specs.Terms.{mostNodes}
 use Rattle.sets.specs.ModelBits.{meetOf}
 use Rattle.cycles.proofs.Sweeps.{descended}
 use Rattle.cycles.proofs.descend.Statement.{statement}
@@ -48,13 +49,13 @@ same-length c = search needs
 same-length-2 : tie.Need-same-length-2
 same-length-2 c = search needs
 
-row-long : (c : tie.After-sweep) → 32 ≤ length (c .sweep .last .1 .1 .1 .1 .1 .0)
+row-long : (c : tie.After-sweep) → mostNodes ≤ length (c .sweep .last .1 .1 .1 .1 .1 .0)
 row-long c =
     let t = c .before .before .before .before .before .before .before in
-    let i = (t .args .k + 1) * 32 in
+    let i = (t .args .k + 1) * mostNodes in
     let l = t .args .table .now in
-    let e : length (c .sweep .last .1 .1 .1 .1 .1 .0) ≡ length (take (i + 32 - i) (drop i l)) = c .sweep .kept .1 .1 .1 .1 .1 .0 in
-    omega (arith, t .pre, length-take (i + 32 - i) (drop i l), length-drop i l)
+    let e : length (c .sweep .last .1 .1 .1 .1 .1 .0) ≡ length (take (i + mostNodes - i) (drop i l)) = c .sweep .kept .1 .1 .1 .1 .1 .0 in
+    omega (arith, t .pre, length-take (i + mostNodes - i) (drop i l), length-drop i l)
 
 returns : tie.Need-returns
 returns c =
@@ -63,7 +64,7 @@ returns c =
     let t = s .before .before .before .before .before .before .before in
     let a = t .args in
     descended (a .arcs .now) (a .n) (a .k) (a .mask) (s .sweep .result) (c .meet .result) (a .dist .now) (s .sweep .last .1 .1 .1 .1 .0) (a .table .now) (s .sweep .last .1 .1 .1 .1 .1 .0)
-    (drop ((a .k + 1) * 32 + 32 - (a .k + 1) * 32) (drop ((a .k + 1) * 32) (a .table .now)))
+    (drop ((a .k + 1) * mostNodes + mostNodes - (a .k + 1) * mostNodes) (drop ((a .k + 1) * mostNodes) (a .table .now)))
     (omega (arith, t .pre)) (omega (arith, t .pre)) (row-long s) (c .meet .ensures ∙ ap (λ (x : ℕ). meetOf (s .sweep .result) x) (b .below .ensures)) (s .sweep .ensures)
 
 pub descend-spec : {M : Type 1} → statement M

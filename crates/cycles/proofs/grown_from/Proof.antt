@@ -4,6 +4,7 @@ use mathlib.Core.Path.{sym, _∙_}
 use native.Mathlib.Omega.{arith}
 use borrow.Author.Needs.{needs}
 use lib.ListN.{getD}
+use Rattle.cluster.specs.Terms.{mostNodes}
 use Rattle.cycles.proofs.Parts.{before-fallen, before-stayed}
 use Rattle.cycles.proofs.grown_from.Statement.{statement}
 use Rattle.cycles.proofs.grown_from.Tie as tie
@@ -17,7 +18,7 @@ mul-result c = search needs
 shared-slice-read-result : tie.Need-shared-slice-read-result
 shared-slice-read-result c = search needs
 
-from : (c : tie.After-shared-slice-known3) → let a = c .before .before .before .before .before .args in getD (a .row .now) (a .v) 0 < 32
+from : (c : tie.After-shared-slice-known3) → let a = c .before .before .before .before .before .args in getD (a .row .now) (a .v) 0 < mostNodes
 from c =
     let m = c .before .before in
     m .before .before .before .pre .3 (sym (m .member .ensures) ∙ c .before .if1 .taken)

@@ -1,20 +1,22 @@
 -- `cycles::offer` meets its contract. The members that are not left have had the offer.
 -- Assumes nothing.
-use Prim.Native.Nat.{ℕ, _≤_, _<_, _-_}
+use Prim.Native.Nat.{_≤_, _-_}
 use mathlib.Core.Path.{_≡_}
 use lib.ListN.{length, length-set}
 use Rattle.sets.specs.ModelBits.{bit, countOf}
+use Rattle.sets.proofs.Scan.{Left, left-all}
 use Rattle.cycles.specs.ModelTurns.{Turns, offered}
-use Rattle.cycles.proofs.Offers.{Offering, offers-start, offers-end, offers-high, offers-less, offers-node, offers-part, offers-skip, offers-take}
+use Rattle.cycles.proofs.Offers.{Offering, offers-start, offers-end, offers-high, offers-less, offers-node, offers-rest, offers-skip, offers-take}
 use borrow.Author.Needs.{needs}
 use native.Mathlib.Omega.{arith}
+use Rattle.cluster.specs.Terms.{mostNodes}
 use Rattle.cycles.proofs.offer.Statement.{statement}
 use Rattle.cycles.proofs.offer.Tie as tie
 
 abbrev Inv-loop : tie.InvT-loop
 Inv-loop top m c u fell next₀ row₀ marks₀ left₀ next row marks left =
-    (left < 4294967296) × (length next ≡ length next₀) × (length row ≡ length row₀) × (32 ≤ length next₀) × (32 ≤ length row₀)
-    × ((v : ℕ) → v < 32 → bit left v ≤ bit m v) × Turns top (λ v f. offered (bit m v - bit left v) c u f) next₀ row₀ fell next row marks
+    (length next ≡ length next₀) × (length row ≡ length row₀) × (mostNodes ≤ length next₀) × (mostNodes ≤ length row₀) × Left m left
+    × Turns top (λ v f. offered (bit m v - bit left v) c u f) next₀ row₀ fell next row marks
 
 abbrev μ-loop : tie.MeasureT-loop
 μ-loop top m c u fell next₀ row₀ marks₀ left₀ next row marks left = countOf left
@@ -27,7 +29,7 @@ returns c =
 loop-holds : tie.Need-loop-holds Inv-loop μ-loop
 loop-holds c =
     let a = c .before .before .before .args in
-    (search needs, search needs, search needs, search needs, search needs, λ v l. omega arith, offers-start (a .top) (a .m) (a .c) (a .u) (a .fell) (a .next .now) (a .row .now))
+    (search needs, search needs, search needs, search needs, left-all (a .m) (search needs), offers-start (a .top) (a .m) (a .c) (a .u) (a .fell) (a .next .now) (a .row .now))
 
 least-requires : tie.Need-least-requires Inv-loop μ-loop
 least-requires c κs = search needs
@@ -44,7 +46,7 @@ at : (c : tie.After-without Inv-loop μ-loop)
     Offering (a .top) (a .m) (a .c) (a .u) (a .fell) (l .loop .marks) (l .loop .left) (c .before .least .result) (c .without .result) (a .next .now) (a .row .now) (l .loop .next) (l .loop .row)
 at c =
     let i = c .before .before .before .loop .inv in
-    record { some = c .before .before .loop-test .taken; fits = i .0; at-least = c .before .least .ensures; at-rest = c .without .ensures; part = i .5; turns = i .6 }
+    record { some = c .before .before .loop-test .taken; scan = i .4; at-least = c .before .least .ensures; at-rest = c .without .ensures; turns = i .5 }
 
 mul-if2 : tie.Need-mul-if2 Inv-loop μ-loop
 mul-if2 c = search needs
@@ -73,12 +75,11 @@ loop-less c = offers-less (at (c .before .before .before))
 loop-again : tie.Need-loop-again Inv-loop μ-loop
 loop-again c =
     let o = c .before .before .before in (
-      search needs,
       simp length-set (search needs),
       simp length-set (search needs),
       search needs,
       search needs,
-      offers-part (at o),
+      offers-rest (at o),
       offers-take (at o) (c .with .result) (c .with .ensures) (omega arith) (omega arith) (c .before .if2 .taken),
     )
 
@@ -88,7 +89,7 @@ loop-less-2 c = offers-less (at (c .before .before))
 loop-again-2 : tie.Need-loop-again-2 Inv-loop μ-loop
 loop-again-2 c =
     let o = c .before .before in
-    (search needs, search needs, search needs, search needs, search needs, offers-part (at o), offers-skip (at o) (c .if2 .left))
+    (search needs, search needs, search needs, search needs, offers-rest (at o), offers-skip (at o) (c .if2 .left))
 
 same-length : tie.Need-same-length Inv-loop μ-loop
 same-length c = search needs
@@ -101,7 +102,7 @@ returns-2 c =
     let l = c .before in
     let a = l .before .before .before .before .args in
     offers-end (a .top) (a .m) (a .c) (a .u) (a .fell) (l .loop .marks) (l .loop .left) (a .next .now) (a .row .now) (l .loop .next) (l .loop .row)
-    (c .loop-test .left) (l .loop .inv .6)
+    (c .loop-test .left) (l .loop .inv .5)
 
 pub offer-spec : {M : Type 1} → statement M
 offer-spec =

@@ -6,8 +6,9 @@ use native.Mathlib.Omega.{arith}
 use borrow.Author.Needs.{needs}
 use mathlib.Core.List.{List}
 use lib.ListN.{length, take, drop, getD-replicate}
+use Rattle.cluster.specs.Terms.{mostNodes}
 use Rattle.exchange.specs.ModelLevels.{Cycle, outcome, search-from}
-use Rattle.cycles.specs.ModelGraph.{graphOf}
+use Rattle.cycles.specs.ModelGraph.{tableCells, walkCells, arcCells, graphOf}
 use Rattle.cycles.specs.ModelFound.{endWalk}
 use Rattle.cycles.specs.ModelTurns.{before, closer}
 use Rattle.cycles.proofs.States.{State, state-start, state-room, state-next}
@@ -18,8 +19,8 @@ use Rattle.cycles.proofs.search.Tie as tie
 
 abbrev Inv-loop : tie.InvT-loop
 Inv-loop arcs n walk₀ dist₀ next₀ way₀ grown₀ table₀ mask₀ k₀ walk dist next way grown table mask k =
-    (k ≤ n) × (n ≤ 32) × (96 ≤ length arcs) × (33 ≤ length walk₀) × (walk ≡ walk₀) × (length dist ≡ 32) × (length next ≡ 32) × (length way ≡ 32)
-    × (length grown ≡ 32) × (length table ≡ 1056) × (outcome (graphOf arcs n) ≡ search-from (graphOf arcs n) (n - k) k)
+    (k ≤ n) × (n ≤ mostNodes) × (arcCells ≤ length arcs) × (walkCells ≤ length walk₀) × (walk ≡ walk₀) × (length dist ≡ mostNodes) × (length next ≡ mostNodes) × (length way ≡ mostNodes)
+    × (length grown ≡ mostNodes) × (length table ≡ tableCells) × (outcome (graphOf arcs n) ≡ search-from (graphOf arcs n) (n - k) k)
     × State (graphOf arcs n) k mask dist next way table
 
 abbrev μ-loop : tie.MeasureT-loop
@@ -38,7 +39,7 @@ loop-holds : tie.Need-loop-holds Inv-loop μ-loop
 loop-holds c =
     let b = c .before .before in
     let a = b .before .before .before .before .args in
-    let s : a .n ≤ 32 = omega arith in (
+    let s : a .n ≤ mostNodes = omega arith in (
       search needs,
       s,
       search needs,
@@ -50,7 +51,7 @@ loop-holds c =
       refl,
       refl,
       search-start (graphOf (a .arcs .now) (a .n)),
-      state-start (a .arcs .now) (a .n) (c .below .result) _ _ _ (b .begin .last .0) _ s (omega arith) (c .below .ensures) (λ v h. getD-replicate 32 v (a .n) 0 (omega arith)) (λ v h. getD-replicate 32 v (a .n) 0 (omega arith)) (b .begin .ensures),
+      state-start (a .arcs .now) (a .n) (c .below .result) _ _ _ (b .begin .last .0) _ s (omega arith) (c .below .ensures) (λ v h. getD-replicate mostNodes v (a .n) 0 (omega arith)) (λ v h. getD-replicate mostNodes v (a .n) 0 (omega arith)) (b .begin .ensures),
     )
 
 slice-aggregate-descend : tie.Need-slice-aggregate-descend Inv-loop μ-loop
@@ -62,10 +63,14 @@ slice-aggregate-descend-2 c = sym (c .before .before .before .loop .inv .6)
 slice-aggregate-descend-3 : tie.Need-slice-aggregate-descend-3 Inv-loop μ-loop
 slice-aggregate-descend-3 c = sym (c .before .before .before .before .loop .inv .9)
 
-low : (c : tie.In-loop Inv-loop μ-loop) → c .before .loop .k < 32
-low c = level-lt (c .before .loop .k) (c .before .before .before .before .before .before .before .before .args .n) (c .loop-test .taken) (c .before .loop .inv .1)
+-- Within a turn, the level is below n.
+inside : (c : tie.In-loop Inv-loop μ-loop) → c .before .loop .k < c .before .before .before .before .before .before .before .before .args .n
+inside c = let t = c .loop-test .taken in omega arith
 
-table-long : (c : tie.After-descend Inv-loop μ-loop) → length (c .descend .last .1 .1 .1 .1 .1 .1 .0) ≡ 1056
+low : (c : tie.In-loop Inv-loop μ-loop) → c .before .loop .k < mostNodes
+low c = level-lt (c .before .loop .k) (c .before .before .before .before .before .before .before .before .args .n) (inside c) (c .before .loop .inv .1)
+
+table-long : (c : tie.After-descend Inv-loop μ-loop) → length (c .descend .last .1 .1 .1 .1 .1 .1 .0) ≡ tableCells
 table-long c = c .descend .kept .1 .1 .1 .1 .1 .1 .0 ∙ c .before .before .before .before .before .loop .inv .9
 
 descend-requires : tie.Need-descend-requires Inv-loop μ-loop
@@ -73,7 +78,7 @@ descend-requires c κs =
     let l = c .before .before .before .before in
     let i = l .loop .inv in
     let a = l .before .before .before .before .before .before .before .args in
-    let b = c .before .before .before .loop-test .taken in (
+    let b = inside (c .before .before .before) in (
       low (c .before .before .before),
       i .1,
       i .2,
@@ -89,21 +94,21 @@ same-length c = ap length (c .before .before .before .before .before .before .be
 turn : (c : tie.After-descend Inv-loop μ-loop)
     → let l = c .before .before .before .before .before in
     let a = l .before .before .before .before .before .before .before .args in
-    let i = (l .loop .k + 1) * 32 in
+    let i = (l .loop .k + 1) * mostNodes in
     Turning (graphOf (a .arcs .now) (a .n)) (l .loop .k) (c .descend .result) (l .loop .mask) (c .descend .last .1 .1 .1 .1 .1 .0) (c .descend .last .1 .1 .1 .1 .1 .1 .0)
-    (l .loop .dist) (l .loop .next) (l .loop .way) (l .loop .table) (take (i + 32 - i) (drop i (c .descend .last .1 .1 .1 .1 .1 .1 .0)))
+    (l .loop .dist) (l .loop .next) (l .loop .way) (l .loop .table) (take (i + mostNodes - i) (drop i (c .descend .last .1 .1 .1 .1 .1 .1 .0)))
 turn c =
     let l = c .before .before .before .before .before in
     let a = l .before .before .before .before .before .before .before .args in
     let t = c .descend .last .1 .1 .1 .1 .1 .1 .0 in
     let s = l .loop .inv .1 in
-    let b = c .before .before .before .before .loop-test .taken in
+    let b = inside (c .before .before .before .before) in
     record {
       small = s;
       below = b;
       down = state-next (a .arcs .now) (a .n) (l .loop .k) (l .loop .mask) (l .loop .dist) (l .loop .next) (l .loop .way) (l .loop .table) s b (l .loop .inv .11) (c .descend .result) (c .descend .last .1 .1 .1 .1 .1 .0) t (c .descend .ensures);
       state = l .loop .inv .11;
-      at-row = λ v h. part-row ((l .loop .k + 1) * 32) v t h;
+      at-row = λ v h. part-row ((l .loop .k + 1) * mostNodes) v t h;
     }
 
 returns : tie.Need-returns Inv-loop μ-loop
@@ -130,10 +135,10 @@ mul-close : tie.Need-mul-close Inv-loop μ-loop
 mul-close c = row-bytes-fit (c .before .before .before .before .before .before .before .before .loop .k) (low (c .before .before .before .before .before .before .before))
 
 sub-close : tie.Need-sub-close Inv-loop μ-loop
-sub-close c = row-ends ((c .before .before .before .before .before .before .before .before .loop .k + 1) * 32)
+sub-close c = row-ends ((c .before .before .before .before .before .before .before .before .loop .k + 1) * mostNodes)
 
 part-close-start : tie.Need-part-close-start Inv-loop μ-loop
-part-close-start c = row-ends ((c .before .before .before .before .before .before .before .before .before .loop .k + 1) * 32)
+part-close-start c = row-ends ((c .before .before .before .before .before .before .before .before .before .loop .k + 1) * mostNodes)
 
 part-close-end : tie.Need-part-close-end Inv-loop μ-loop
 part-close-end c = row-inside (c .before .before .before .before .before .before .before .before .before .loop .k) (low (c .before .before .before .before .before .before .before .before)) (c .before .before .before .before .descend .last .1 .1 .1 .1 .1 .1 .0) (table-long (c .before .before .before .before))
@@ -164,7 +169,7 @@ trace-requires c κs =
     let l = d .before .before .before .before .before in
     let i = l .loop .inv in
     let h = c .before .before .if2 .taken in
-    let w : 33 ≤ length (l .loop .walk) = subst (λ (x : List ℕ). 33 ≤ length x) (sym (i .4)) (i .3) in (
+    let w : walkCells ≤ length (l .loop .walk) = subst (λ (x : List ℕ). walkCells ≤ length x) (sym (i .4)) (i .3) in (
       level-up (l .loop .k) (low (d .before .before .before .before)),
       length-enough (table-long d),
       w,
@@ -197,7 +202,7 @@ add-k : tie.Need-add-k Inv-loop μ-loop
 add-k c = level-fits (c .before .before .before .before .before .before .before .before .before .before .before .before .before .before .before .loop .k) (low (c .before .before .before .before .before .before .before .before .before .before .before .before .before .before))
 
 loop-less : tie.Need-loop-less Inv-loop μ-loop
-loop-less c = level-less (c .before .before .before .before .before .before .before .before .before .before .before .before .before .before .before .loop .k) _ (c .before .before .before .before .before .before .before .before .before .before .before .before .before .before .loop-test .taken)
+loop-less c = level-less (c .before .before .before .before .before .before .before .before .before .before .before .before .before .before .before .loop .k) _ (inside (c .before .before .before .before .before .before .before .before .before .before .before .before .before .before))
 
 loop-again : tie.Need-loop-again Inv-loop μ-loop
 loop-again c =
@@ -206,12 +211,12 @@ loop-again c =
     let l = d .before .before .before .before .before in
     let v = l .loop .inv in
     let a = l .before .before .before .before .before .before .before .args in
-    let i = (l .loop .k + 1) * 32 in
-    let row = take (i + 32 - i) (drop i (d .descend .last .1 .1 .1 .1 .1 .1 .0)) in
+    let i = (l .loop .k + 1) * mostNodes in
+    let row = take (i + mostNodes - i) (drop i (d .descend .last .1 .1 .1 .1 .1 .1 .0)) in
     let z = k .before .before .before .before .before .if1 .left in
     let w = none-closer (k .close .result) (a .n) (closer (a .n) (d .descend .result) row (l .loop .way)) (c .if2 .left) (k .close .ensures .0) (closer-le (a .n) (d .descend .result) row (l .loop .way)) in
-    let en : length (d .descend .last .1 .1 .1 .1 .1 .0) ≡ 32 = d .descend .kept .1 .1 .1 .1 .1 .0 ∙ v .6 in
-    let eg : length (k .close .last .1 .1 .1 .1 .0) ≡ 32 = k .close .kept .1 .1 .1 .1 .0 ∙ v .8 in (
+    let en : length (d .descend .last .1 .1 .1 .1 .1 .0) ≡ mostNodes = d .descend .kept .1 .1 .1 .1 .1 .0 ∙ v .6 in
+    let eg : length (k .close .last .1 .1 .1 .1 .0) ≡ mostNodes = k .close .kept .1 .1 .1 .1 .0 ∙ v .8 in (
       level-next (l .loop .k) (a .n) (turn d .below),
       v .1,
       v .2,

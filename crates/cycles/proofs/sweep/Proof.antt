@@ -1,11 +1,13 @@
 -- `cycles::sweep` meets its contract: the nodes below u have been looked at.
 -- Assumes nothing.
-use Prim.Native.Nat.{ℕ, _≤_, _<_, _-_}
+use Prim.Native.Nat.{ℕ, _≤_, _<_, _-_, _^_}
 use mathlib.Core.Path.{_≡_, subst}
 use native.Mathlib.Omega.{arith}
 use borrow.Author.Needs.{needs}
 use lib.ListN.{length, getD}
-use Rattle.sets.specs.ModelBits.{bit}
+use Rattle.cluster.specs.Terms.{mostNodes}
+use Rattle.cycles.specs.ModelGraph.{arcCells}
+use Rattle.sets.specs.ModelBits.{maskBits, bit}
 use Rattle.cycles.specs.ModelTurns.{Held}
 use Rattle.cycles.proofs.Sweeps.{fallTo, sweep-start, sweep-more}
 use Rattle.cycles.proofs.sweep.Statement.{statement}
@@ -13,8 +15,8 @@ use Rattle.cycles.proofs.sweep.Tie as tie
 
 abbrev Inv-loop : tie.InvT-loop
 Inv-loop arcs n mask dist next₀ row₀ fell₀ u₀ next row fell u =
-    (u ≤ n) × (length next ≡ length next₀) × (length row ≡ length row₀) × (32 ≤ length next₀) × (32 ≤ length row₀) × (n ≤ 32) × (96 ≤ length arcs) × (32 ≤ length dist)
-    × (fell < 4294967296)
+    (u ≤ n) × (length next ≡ length next₀) × (length row ≡ length row₀) × (mostNodes ≤ length next₀) × (mostNodes ≤ length row₀) × (n ≤ mostNodes) × (arcCells ≤ length arcs) × (mostNodes ≤ length dist)
+    × (fell < 2 ^ maskBits)
     × ((v : ℕ) → v < n → Held (getD dist v 0) (fallTo arcs n mask dist v u) (getD next v 0) (getD row v 0) (bit fell v))
 
 abbrev μ-loop : tie.MeasureT-loop
@@ -64,7 +66,7 @@ loop-again c =
     let l = k .before .before .before .before .before in
     let t = l .before .before .before .before .before in
     let a = t .args in
-    let b : t .args .n ≤ 32 = omega arith in (
+    let b : t .args .n ≤ mostNodes = omega arith in (
       search needs,
       search needs,
       search needs,

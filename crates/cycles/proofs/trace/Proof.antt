@@ -4,6 +4,8 @@ use mathlib.Core.Path.{_≡_, _∙_}
 use native.Mathlib.Omega.{arith}
 use borrow.Author.Needs.{needs}
 use lib.ListN.{length, length-set}
+use Rattle.cluster.specs.Terms.{mostNodes}
+use Rattle.cycles.specs.ModelGraph.{tableCells, walkCells}
 use Rattle.cells.specs.ModelCells.{put}
 use Rattle.cells.proofs.Cells.{put-none, put-next}
 use Rattle.cycles.specs.ModelTurns.{trail, trailLength}
@@ -13,7 +15,7 @@ use Rattle.cycles.proofs.trace.Tie as tie
 
 abbrev Inv-loop : tie.InvT-loop
 Inv-loop table k v walk₀ x₀ t₀ walk x t =
-    (t ≤ k) × (k ≤ 32) × (1056 ≤ length table) × (33 ≤ length walk₀) × (length walk ≡ length walk₀) × (x ≡ trail table k v t)
+    (t ≤ k) × (k ≤ mostNodes) × (tableCells ≤ length table) × (walkCells ≤ length walk₀) × (length walk ≡ length walk₀) × (x ≡ trail table k v t)
     × (walk ≡ put 0 (trail table k v) t walk₀) × (trailLength table k v ≡ trailFrom table k v t)
 
 abbrev μ-loop : tie.MeasureT-loop
@@ -24,7 +26,7 @@ loop-holds c =
     let a = c .args in
     (search needs, search needs, search needs, search needs, search needs, trail-start (a .table .now) (a .k) (a .v), put-none _ _ _, length-start (a .table .now) (a .k) (a .v))
 
-low : (c : tie.In-loop Inv-loop μ-loop) → c .before .loop .x < 32
+low : (c : tie.In-loop Inv-loop μ-loop) → c .before .loop .x < mostNodes
 low c = omega (arith, c .before .before .pre .4 (c .before .loop .t) (c .loop-test .taken))
 
 cast-walk : tie.Need-cast-walk Inv-loop μ-loop

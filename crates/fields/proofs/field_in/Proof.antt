@@ -8,9 +8,12 @@ use borrow.Author.Tests.{not-true, not-false}
 use native.Mathlib.Omega.{arith}
 use lib.ListN.{length}
 use Rattle.sets.specs.ModelBits.{memberOf}
+use Rattle.cluster.specs.Terms.{mem}
+use Rattle.fields.specs.ModelTags.{tagsOf}
 use Rattle.fields.specs.RecordField.{numberAt, legalAs, Within}
 use Rattle.fields.specs.declared.Field.the-variants.{Body}
 use Rattle.fields.proofs.Numbers.{true-has, false-has}
+use Rattle.fields.proofs.Tags.{mem-tags}
 use Rattle.fields.proofs.RecordField.{field-cut, field-tag, field-length, field-body, field-whole, within}
 use Rattle.fields.proofs.field_in.Statement.{statement}
 use Rattle.fields.proofs.field_in.Tie as tie
@@ -22,11 +25,18 @@ head c =
     let r = c .before .reaches in
     true-has (length (a .s .now)) (a .at) 3 (sym (r .ensures) ∙ not-false (r .result) (c .if1 .left))
 
-tagged : (c : tie.Else2) → let a = c .before .before .before .before .before .before .args in memberOf (a .allowed) (numberAt (a .s .now) (a .at) 1) ≡ true
+listed : (c : tie.After-member) → let a = c .before .before .before .before .before .args in
+    mem (numberAt (a .s .now) (a .at) 1) (tagsOf (a .allowed)) ≡ c .member .result
+listed c =
+    let a = c .before .before .before .before .before .args in
+    mem-tags (a .allowed) (numberAt (a .s .now) (a .at) 1) (omega arith)
+    ∙ (ap (memberOf (a .allowed)) (sym (c .before .byte-at .ensures .0)) ∙ sym (c .member .ensures))
+
+tagged : (c : tie.Else2) → let a = c .before .before .before .before .before .before .args in mem (numberAt (a .s .now) (a .at) 1) (tagsOf (a .allowed)) ≡ true
 tagged c =
     let a = c .before .before .before .before .before .before .args in
     let m = c .before .member in
-    ap (memberOf (a .allowed)) (sym (c .before .before .byte-at .ensures .0)) ∙ (sym (m .ensures) ∙ not-false (m .result) (c .if2 .left))
+    listed (c .before) ∙ not-false (m .result) (c .if2 .left)
 
 lengthy : (c : tie.Else3) → let a = c .before .before .before .before .before .before .before .before .before .args in legalAs (a .exact) (numberAt (a .s .now) (a .at) 1) (numberAt (a .s .now) (a .at + 1) 2) ≡ true
 lengthy c =
@@ -42,7 +52,7 @@ returns : tie.Need-returns
 returns c =
     let a = c .before .before .before .args in
     let r = c .before .reaches in
-    (sym (field-cut (a .s .now) (a .at) (a .allowed) (a .exact) (false-has (length (a .s .now)) (a .at) 3 (sym (r .ensures) ∙ not-true (r .result) (c .if1 .taken)))), tt)
+    (sym (field-cut (a .s .now) (a .at) (tagsOf (a .allowed)) (a .exact) (false-has (length (a .s .now)) (a .at) 3 (sym (r .ensures) ∙ not-true (r .result) (c .if1 .taken)))), tt)
 
 byte-at-requires : tie.Need-byte-at-requires
 byte-at-requires c κs = search needs
@@ -55,8 +65,8 @@ returns-2 c =
     let k = c .before .before .before in
     let a = k .before .before .before .args in
     let m = c .before .member in (
-      sym (field-tag (a .s .now) (a .at) (a .allowed) (a .exact) (head k)
-          (ap (memberOf (a .allowed)) (sym (c .before .before .byte-at .ensures .0)) ∙ (sym (m .ensures) ∙ not-true (m .result) (c .if2 .taken)))),
+      sym (field-tag (a .s .now) (a .at) (tagsOf (a .allowed)) (a .exact) (head k)
+          (listed (c .before) ∙ not-true (m .result) (c .if2 .taken))),
       tt,
     )
 
@@ -81,7 +91,7 @@ returns-3 c =
     let k = j .before .before .before in
     let a = k .before .before .before .args in
     let l = c .before .is-legal in (
-      sym (field-length (a .s .now) (a .at) (a .allowed) (a .exact) (head k) (tagged j)
+      sym (field-length (a .s .now) (a .at) (tagsOf (a .allowed)) (a .exact) (head k) (tagged j)
           (ap₂ (legalAs (a .exact)) (sym (j .before .before .byte-at .ensures .0)) (sym (c .before .before .pair-at .ensures .0))
           ∙ (sym (l .ensures) ∙ not-true (l .result) (c .if3 .taken)))),
       tt,
@@ -101,7 +111,7 @@ returns-4 c =
     let a = k .before .before .before .args in
     let r = c .before .reaches2 in
     let e = i .before .before .pair-at .ensures .0 in (
-      sym (field-body (a .s .now) (a .at) (a .allowed) (a .exact) (head k) (tagged j) (lengthy i)
+      sym (field-body (a .s .now) (a .at) (tagsOf (a .allowed)) (a .exact) (head k) (tagged j) (lengthy i)
           (subst (λ (n : ℕ). length (a .s .now) < a .at + 3 + n) e
           (false-has (length (a .s .now)) (a .at + 3) (i .before .before .pair-at .result) (sym (r .ensures) ∙ not-true (r .result) (c .if4 .taken))))),
       tt,
@@ -120,11 +130,11 @@ returns-5 c =
     let t = j .before .before .byte-at .ensures .0 in
     let e = i .before .before .pair-at .ensures .0 in
     let q = ap₂ (λ (x y : ℕ). Body x (a .at + 3) y) t e
-    ∙ sym (field-whole (a .s .now) (a .at) (a .allowed) (a .exact) (head k) (tagged j) (lengthy i)
+    ∙ sym (field-whole (a .s .now) (a .at) (tagsOf (a .allowed)) (a .exact) (head k) (tagged j) (lengthy i)
     (subst (λ (n : ℕ). a .at + 3 + n ≤ length (a .s .now)) e
     (true-has (length (a .s .now)) (a .at + 3) (i .before .before .pair-at .result) (sym (r .ensures) ∙ not-false (r .result) (c .if4 .left)))))
     in
-    (q, subst (Within (length (a .s .now)) (a .at) (a .allowed) (a .exact)) (sym q) (within (a .s .now) (a .at) (a .allowed) (a .exact)))
+    (q, subst (Within (length (a .s .now)) (a .at) (tagsOf (a .allowed)) (a .exact)) (sym q) (within (a .s .now) (a .at) (tagsOf (a .allowed)) (a .exact)))
 
 pub field-in-spec : {M : Type 1} → statement M
 field-in-spec =

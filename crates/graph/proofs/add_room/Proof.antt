@@ -7,16 +7,18 @@ use lib.ListN.{length, getD}
 use Rattle.sets.specs.ModelBits.{countOf, withoutOf}
 use Rattle.sets.proofs.Laws.{least-taken}
 use Rattle.graph.specs.ModelGrowth.{Grown}
-use Rattle.graph.proofs.Growing.{Left, left-all, least-word, left-less}
+use Rattle.sets.proofs.Scan.{Left, left-all, least-word, left-less}
 use Rattle.graph.proofs.Turns.{rooming, room-none, room-of, room-turn, room-all}
 use borrow.Author.Needs.{needs}
 use native.Mathlib.Omega.{arith}
+use Rattle.cluster.specs.Terms.{mostNodes}
+use Rattle.cycles.specs.ModelGraph.{arcCells}
 use Rattle.graph.proofs.add_room.Statement.{statement}
 use Rattle.graph.proofs.add_room.Tie as tie
 
 abbrev Inv-loop : tie.InvT-loop
 Inv-loop arcs₀ counts caps all left₀ arcs left =
-    (96 ≤ length arcs₀) × (32 ≤ length counts) × Left all left × Grown (rooming (λ a. getD counts a 0) caps all left) arcs₀ arcs
+    (arcCells ≤ length arcs₀) × (mostNodes ≤ length counts) × Left all left × Grown (rooming (λ a. getD counts a 0) caps all left) arcs₀ arcs
 
 abbrev μ-loop : tie.MeasureT-loop
 μ-loop arcs₀ counts caps all left₀ arcs left = countOf left
@@ -29,9 +31,9 @@ loop-holds c =
 least-requires : tie.Need-least-requires Inv-loop μ-loop
 least-requires c κs = search needs
 
--- Within a turn, the node is below 32, and the lists are long enough.
+-- Within a turn, the node is one of the masks, and the lists are long enough.
 bounds : (c : tie.After-least Inv-loop μ-loop)
-    → (c .least .result < 32) × (96 ≤ length (c .before .before .loop .arcs)) × (32 ≤ length (c .before .before .before .before .before .before .args .counts .now))
+    → (c .least .result < mostNodes) × (arcCells ≤ length (c .before .before .loop .arcs)) × (mostNodes ≤ length (c .before .before .before .before .before .before .args .counts .now))
 bounds c =
     let k = c .before .before in
     let w = least-word (k .before .before .before .before .args .all) (k .loop .left) (k .loop .inv .2) (c .before .loop-test .taken) in

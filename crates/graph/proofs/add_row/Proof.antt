@@ -6,18 +6,21 @@ use lib.ListN.{length}
 use Rattle.sets.specs.ModelBits.{bit, countOf, withoutOf}
 use Rattle.swaps.proofs.Steps.{targets-are}
 use Rattle.graph.specs.ModelGrowth.{Grown, Added}
-use Rattle.graph.proofs.Growing.{added-same, Left, left-all, least-word, left-less}
+use Rattle.graph.proofs.Growing.{added-same}
+use Rattle.sets.proofs.Scan.{Left, left-all, least-word, left-less}
 use Rattle.graph.proofs.Turns.{doing, row-none, row-turn, row-all, count-turn, count-all}
 use Rattle.sets.proofs.Laws.{bit-le, least-at, least-taken}
 use borrow.Author.Needs.{needs}
 use native.Mathlib.Omega.{arith}
+use Rattle.cluster.specs.Terms.{mostNodes}
+use Rattle.cycles.specs.ModelGraph.{arcCells}
 use Rattle.graph.proofs.add_row.Statement.{statement}
 use Rattle.graph.proofs.add_row.Tie as tie
 
 abbrev Inv-loop : tie.InvT-loop
 Inv-loop arcs₀ counts₀ row former mates all z zones nodes spare left₀ arcs counts left =
-    (96 ≤ length arcs₀)
-    × (32 ≤ length counts₀)
+    (arcCells ≤ length arcs₀)
+    × (mostNodes ≤ length counts₀)
     × Left row left
     × Grown (doing mates all z row former left) arcs₀ arcs
     × Added (λ c. bit row c - bit left c) counts₀ counts
@@ -41,9 +44,9 @@ loop-holds c =
 least-requires : tie.Need-least-requires Inv-loop μ-loop
 least-requires c κs = search needs
 
--- Within a turn, the node is below 32, and the lists are long enough.
+-- Within a turn, the node is one of the masks, and the lists are long enough.
 bounds : (c : tie.After-least Inv-loop μ-loop)
-    → (c .least .result < 32) × (96 ≤ length (c .before .before .loop .arcs)) × (32 ≤ length (c .before .before .loop .counts))
+    → (c .least .result < mostNodes) × (arcCells ≤ length (c .before .before .loop .arcs)) × (mostNodes ≤ length (c .before .before .loop .counts))
 bounds c =
     let k = c .before .before in
     let w = least-word (k .before .before .before .before .before .args .row) (k .loop .left) (k .loop .inv .2) (c .before .loop-test .taken) in

@@ -9,22 +9,24 @@ use Rattle.graph.specs.ModelGrowth.{Grown, Added}
 use Rattle.graph.proofs.Turns.{rows-none, rows-turn, copies-none, copies-turn, copies-le, clear-length, arcs-all}
 use borrow.Author.Needs.{needs}
 use native.Mathlib.Omega.{arith}
+use Rattle.cluster.specs.Terms.{mostNodes}
+use Rattle.cycles.specs.ModelGraph.{arcCells}
 use Rattle.graph.proofs.build.Statement.{statement}
 use Rattle.graph.proofs.build.Tie as tie
 
 abbrev Inv-loop : tie.InvT-loop
 Inv-loop rows former partitions mates caps all z arcs₀ counts₀ p₀ arcs counts p =
     (p ≤ partitions)
-    × (96 ≤ length arcs₀)
+    × (arcCells ≤ length arcs₀)
     × Grown (movesTo rows former p mates all z) arcs₀ arcs
-    × Added (copiesTo rows p) (replicate 32 0) counts
+    × Added (copiesTo rows p) (replicate mostNodes 0) counts
 
 abbrev μ-loop : tie.MeasureT-loop
 μ-loop rows former partitions mates caps all z arcs₀ counts₀ p₀ arcs counts p = partitions - p
 
 returns : tie.Need-returns Inv-loop μ-loop
 unfolding arcsOf
-returns c = rw (lt-ltb (length (c .before .before .before .before .before .before .args .arcs .now)) 96 (c .if1 .taken))
+returns c = rw (lt-ltb (length (c .before .before .before .before .before .before .args .arcs .now)) arcCells (c .if1 .taken))
 
 clear-requires : tie.Need-clear-requires Inv-loop μ-loop
 clear-requires c κs = search needs
@@ -32,15 +34,15 @@ clear-requires c κs = search needs
 loop-holds : tie.Need-loop-holds Inv-loop μ-loop
 loop-holds c =
     let a = c .before .before .before .before .before .before .before .before .before .before .args in
-    let g : 96 ≤ length (a .arcs .now) = omega arith in (
+    let g : arcCells ≤ length (a .arcs .now) = omega arith in (
       search needs,
       omega (arith, clear-length (a .arcs .now) (c .before .before .clear .last .0) g (c .before .before .clear .ensures)),
       rows-none (a .rows .now) (a .former .now) (a .mates .now) (a .caps .now) (a .all) (a .z) (c .before .before .clear .last .0),
-      copies-none (a .rows .now) (replicate 32 0),
+      copies-none (a .rows .now) (replicate mostNodes 0),
     )
 
--- The counts are 32.
-full : (k : tie.At-loop Inv-loop μ-loop) → length (k .loop .counts) ≡ 32
+-- There is a count for each node.
+full : (k : tie.At-loop Inv-loop μ-loop) → length (k .loop .counts) ≡ mostNodes
 full k = k .loop .inv .3 .long
 
 slice-aggregate-add-row : tie.Need-slice-aggregate-add-row Inv-loop μ-loop
@@ -61,7 +63,7 @@ add-row-requires c κs =
       λ i h. omega (
         arith,
         k .loop .inv .3 .cells i h,
-        getD-replicate {A = ℕ} 32 i 0 0 h,
+        getD-replicate {A = ℕ} mostNodes i 0 0 h,
         copies-le (a .rows .now) (k .loop .p) i,
       ),
     )
@@ -82,7 +84,7 @@ loop-again c =
       rows-turn (a .rows .now) (a .former .now) (a .mates .now) (a .caps .now) (a .all) (a .z) (k .loop .p) (r .before .before .cell .result) (r .before .cell2 .result)
           (k .before .before .before .clear .last .0) (k .loop .arcs) (r .add-row .last .0) (r .before .before .cell .ensures) (r .before .cell2 .ensures) (k .loop .inv .2) (r .add-row .ensures .0),
       copies-turn (a .rows .now) (k .loop .p) (r .before .before .cell .result)
-          (replicate 32 0) (k .loop .counts) (r .add-row .last .1 .0) (r .before .before .cell .ensures) (k .loop .inv .3) (r .add-row .ensures .1),
+          (replicate mostNodes 0) (k .loop .counts) (r .add-row .last .1 .0) (r .before .before .cell .ensures) (k .loop .inv .3) (r .add-row .ensures .1),
     )
 
 slice-aggregate-add-room : tie.Need-slice-aggregate-add-room Inv-loop μ-loop
@@ -110,7 +112,7 @@ returns-2 c =
     arcs-all (a .rows .now) (a .former .now) (a .mates .now) (a .caps .now) (a .all) (a .z) (a .partitions) (a .arcs .now) (k .before .before .before .clear .last .0)
     (k .loop .arcs) (r .add-room .last .0) (k .loop .counts) (omega arith) (k .before .before .before .clear .ensures)
     (subst (λ (p : ℕ). Grown (movesTo (a .rows .now) (a .former .now) p (a .mates .now) (a .all) (a .z)) (k .before .before .before .clear .last .0) (k .loop .arcs)) e (k .loop .inv .2))
-    (subst (λ (p : ℕ). Added (copiesTo (a .rows .now) p) (replicate 32 0) (k .loop .counts)) e (k .loop .inv .3)) (r .add-room .ensures)
+    (subst (λ (p : ℕ). Added (copiesTo (a .rows .now) p) (replicate mostNodes 0) (k .loop .counts)) e (k .loop .inv .3)) (r .add-room .ensures)
     (λ j. omega (arith, c .slice-known4 .given j))
 
 pub build-spec : {M : Type 1} → statement M

@@ -7,14 +7,15 @@ use Rattle.sums.specs.TermsSums.{tab}
 use Rattle.cells.proofs.Cells.{tab-none, tab-more}
 use borrow.Author.Needs.{needs}
 use native.Mathlib.Omega.{arith}
+use Rattle.cycles.specs.ModelGraph.{arcCells}
 use Rattle.graph.proofs.clear.Statement.{statement}
 use Rattle.graph.proofs.clear.Tie as tie
 
 abbrev Inv-loop : tie.InvT-loop
-Inv-loop arcs₀ i₀ arcs i = (i ≤ 96) × (length arcs ≡ length arcs₀) × (arcs ≡ tab (λ k. 0) i ++ drop i arcs₀)
+Inv-loop arcs₀ i₀ arcs i = (i ≤ arcCells) × (length arcs ≡ length arcs₀) × (arcs ≡ tab (λ k. 0) i ++ drop i arcs₀)
 
 abbrev μ-loop : tie.MeasureT-loop
-μ-loop arcs₀ i₀ arcs i = 96 - i
+μ-loop arcs₀ i₀ arcs i = arcCells - i
 
 loop-holds : tie.Need-loop-holds Inv-loop μ-loop
 loop-holds c = (search needs, search needs, tab-none (λ k. 0) (c .args .arcs .now))
@@ -43,7 +44,7 @@ same-length : tie.Need-same-length Inv-loop μ-loop
 same-length c = search needs
 
 returns : tie.Need-returns Inv-loop μ-loop
-returns c = let e : c .before .loop .i ≡ 96 = omega arith in rw e at (c .before .loop .inv .2)
+returns c = let e : c .before .loop .i ≡ arcCells = omega arith in rw e at (c .before .loop .inv .2)
 
 pub clear-spec : {M : Type 1} → statement M
 clear-spec =

@@ -8,7 +8,7 @@ use mathlib.Core.List.{List, _++_}
 use lib.ListN.{drop}
 use Rattle.cluster.specs.Terms.{layoutCells}
 use Rattle.layout_record.specs.declared.ReadLayout.{ReadLayout}
-use Rattle.layout_record.specs.RecordLayoutAnswer.{answerOf}
+use Rattle.layout_record.specs.RecordLayoutAnswer.{layoutAnswer}
 use Rattle.layout_record.proofs.RowSteps.{read-short, short-kept, read-long, long-set, long-kept}
 use Rattle.layout_record.proofs.read_layout.Statement.{statement}
 use Rattle.layout_record.proofs.read_layout.Tie as tie
@@ -37,7 +37,7 @@ same-length : tie.Need-same-length
 same-length c = search needs
 
 returns-2 : tie.Need-returns-2
-unfolding answerOf
+unfolding layoutAnswer
 returns-2 c =
     let t = c .before .before .before .before .before in
     let k = t .before .before .before in
@@ -51,7 +51,7 @@ returns-2 c =
     )
 
 returns-3 : tie.Need-returns-3
-unfolding answerOf
+unfolding layoutAnswer
 returns-3 c =
     let k = c .before .before .before in
     let a = k .before .before .before .before .before .args in

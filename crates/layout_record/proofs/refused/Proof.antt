@@ -3,7 +3,7 @@
 use borrow.Author.Needs.{needs}
 use mathlib.Core.Path.{ap}
 use Rattle.layout_record.specs.declared.Numbers.{Numbers}
-use Rattle.layout_record.specs.RecordLayoutAnswer.{answerOf}
+use Rattle.layout_record.specs.RecordLayoutAnswer.{layoutAnswer}
 use Rattle.layout_record.proofs.refused.Statement.{statement}
 use Rattle.layout_record.proofs.refused.Tie as tie
 
@@ -11,7 +11,7 @@ none-requires : tie.Need-none-requires
 none-requires c κs = search needs
 
 returns : tie.Need-returns
-unfolding answerOf
+unfolding layoutAnswer
 returns c = ap (λ (k : Numbers). record { refusal = c .before .args .refusal; byte = c .before .args .byte; numbers = k }) (c .none .ensures)
 
 pub refused-spec : {M : Type 1} → statement M

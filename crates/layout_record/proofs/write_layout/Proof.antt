@@ -4,7 +4,8 @@ use borrow.Author.Needs.{needs}
 use Prim.Native.Nat.{ℕ, _-_}
 use mathlib.Core.Path.{sym, ap, _∙_}
 use lib.ListN.{length}
-use Rattle.layout_record.proofs.RowFaults.{fit-range, no-fault}
+use Rattle.layout_record.proofs.RowFaults.{no-fault}
+use Rattle.layout_record.proofs.NumberFields.{few-bits, few-copies}
 use Rattle.layout_record.proofs.RowSteps.{write-refused, write-accepted}
 use Rattle.layout_record.proofs.write_layout.Statement.{statement}
 use Rattle.layout_record.proofs.write_layout.Tie as tie
@@ -26,8 +27,8 @@ record-length-requires : tie.Need-record-length-requires
 record-length-requires c κs =
     let f = c .before .before .before .before in
     let a = f .before .before .before .before .args in
-    let r = fit-range (a .numbers) (no-fault (a .numbers) (a .assignment .now) (length (a .out .now)) (sym (f .before .write-fault .ensures) ∙ f .if1 .left) .fit) in
-    (r .bits, r .replication .1)
+    let r = no-fault (a .numbers) (a .assignment .now) (length (a .out .now)) (sym (f .before .write-fault .ensures) ∙ f .if1 .left) .fit in
+    (few-bits (a .numbers) r, few-copies (a .numbers) r .1)
 
 same-length : tie.Need-same-length
 same-length c = search needs

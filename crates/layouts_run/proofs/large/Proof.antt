@@ -2,14 +2,15 @@
 -- Assumes nothing.
 use borrow.Author.Needs.{needs}
 use Prim.Native.Nat.{_≤_, _-_}
+use Rattle.cluster.specs.Terms.{mostNodes}
 use Rattle.layouts_run.proofs.large.Statement.{statement}
 use Rattle.layouts_run.proofs.large.Tie as tie
 
 abbrev Inv-loop : tie.InvT-loop
-Inv-loop c₀ b₀ t3 c b = b ≤ 32
+Inv-loop c₀ b₀ t3 c b = b ≤ mostNodes
 
 abbrev μ-loop : tie.MeasureT-loop
-μ-loop c₀ b₀ t3 c b = 32 - b
+μ-loop c₀ b₀ t3 c b = mostNodes - b
 
 none-requires : tie.Need-none-requires Inv-loop μ-loop
 none-requires c κs = search needs

@@ -5,16 +5,17 @@ use native.Mathlib.Omega.{arith}
 use Prim.Native.Nat.{ℕ, _≤_, _-_, _*_}
 use mathlib.Core.Path.{_≡_, refl, ap, _∙_}
 use borrow.Author.Tests.{le-leb, lt-leb}
+use Rattle.sums.proofs.Sum.{sum-next}
 use Rattle.sums.specs.TermsSums.{sumTo}
 use Rattle.cluster.specs.Terms.{bufferRows}
-use Rattle.cluster.specs.ModelRows.{rowIds}
+use Rattle.cluster.specs.ModelRows.{illFormed, rowIds}
 use Rattle.masks.specs.ModelMasks.{idsTotal}
-use Rattle.masks.proofs.Rows.{row-ids-le, sum-more}
+use Rattle.masks.proofs.Rows.{row-ids-le}
 use Rattle.masks.proofs.count_ids.Statement.{statement}
 use Rattle.masks.proofs.count_ids.Tie as tie
 
 abbrev Inv-loop : tie.InvT-loop
-Inv-loop cells partitions total₀ p₀ total p = (p ≤ partitions) × (partitions ≤ bufferRows) × (total ≤ 9 * p) × (total ≡ sumTo p (λ q. rowIds cells q))
+Inv-loop cells partitions total₀ p₀ total p = (p ≤ partitions) × (partitions ≤ bufferRows) × (total ≤ illFormed * p) × (total ≡ sumTo p (λ q. rowIds cells q))
 
 abbrev μ-loop : tie.MeasureT-loop
 μ-loop cells partitions total₀ p₀ total p = partitions - p
@@ -46,7 +47,7 @@ loop-again c =
       search needs,
       search needs,
       omega (arith, c .row-ids .ensures, row-ids-le (a .cells .now) (k .loop .p)),
-      omega (arith, c .row-ids .ensures, sum-more (k .loop .p) (λ q. rowIds (a .cells .now) q)),
+      omega (arith, c .row-ids .ensures, sum-next (λ q. rowIds (a .cells .now) q) (k .loop .p) _ _ refl refl),
     )
 
 returns-2 : tie.Need-returns-2 Inv-loop μ-loop

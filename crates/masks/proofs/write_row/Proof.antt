@@ -11,7 +11,7 @@ use lib.ListN.{length, drop, getD, set}
 use Rattle.sets.specs.ModelBits.{bit, withoutOf}
 use Rattle.cells.specs.ModelCells.{put}
 use Rattle.cells.proofs.Cells.{put-none, put-more}
-use Rattle.cluster.specs.Terms.{rowCells, topology, noNode}
+use Rattle.cluster.specs.Terms.{mostNodes, rowCells, topology, noNode}
 use Rattle.incidence.specs.ModelIncidence.{idsWhere}
 use Rattle.masks.proofs.Where.{slot-id, past-id, where-next, where-others}
 use Rattle.masks.proofs.write_row.Statement.{statement}
@@ -68,7 +68,7 @@ loop-again c =
     let a = k .before .before .before .args in
     let ns = topology (a .t1) .nodes in
     let least = c .before .before .least in
-    let few : length ns ≤ 32 = omega arith in
+    let few : length ns ≤ mostNodes = omega arith in
     let id : c .before .if1 .id ≡ getD ns (least .result) noNode .id =
     ⊎-elim (λ w. w .1 ∙ sym (slot-id (a .t1 .nodes) (a .t1 .count) (least .result) (omega arith))) (λ w. w .1 ∙ sym (past-id ns (least .result) (omega arith)))
     (c .before .if1 .came) in (

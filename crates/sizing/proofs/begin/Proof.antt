@@ -3,13 +3,15 @@
 use borrow.Author.Needs.{needs}
 use native.Mathlib.Omega.{arith}
 use Prim.Native.Nat.{ℕ, _≤_, _<_}
-use mathlib.Core.Path.{_≡_}
-use Rattle.cluster.specs.Terms.{topology, partitions}
+use mathlib.Core.Path.{_∙_, _≡_}
+use Rattle.sizing.specs.ModelSizing.{capCells}
+use Rattle.sizing.proofs.Reading.{caps-in}
+use Rattle.cluster.specs.Terms.{bufferRows, topology, partitions}
 use Rattle.cluster.specs.TermsReading.{Accepted}
 use Rattle.cluster.proofs.Accepting.{accepted}
 use Rattle.dealing.specs.ModelDeal.{start}
 use Rattle.incidence.specs.ModelIncidence.{cell}
-use Rattle.sizing.proofs.Arrays.{partitions-few, zones-most, caps-most}
+use Rattle.sizing.proofs.Arrays.{partitions-known, zones-most, caps-most}
 use Rattle.sizing.proofs.Dealt.{copies-most, starts-low, arrays-deal}
 use Rattle.sizing.proofs.begin.Statement.{statement}
 use Rattle.sizing.proofs.begin.Tie as tie
@@ -17,23 +19,31 @@ use Rattle.sizing.proofs.begin.Tie as tie
 used-requires : tie.Need-used-requires
 used-requires c κs = search needs
 
-ok : (c : tie.After-partitions) → Accepted (topology (c .before .before .before .args .c)) × (c .partitions .result ≡ partitions (topology (c .before .before .before .args .c))) × (1 ≤ c .partitions .result) × (c .partitions .result ≤ 256)
+ok : (c : tie.After-partitions) → Accepted (topology (c .before .before .before .args .c)) × (c .partitions .result ≡ partitions (topology (c .before .before .before .args .c))) × (1 ≤ c .partitions .result) × (c .partitions .result ≤ bufferRows)
 ok c =
     let s = c .before .before .before in
     let a : Accepted (topology (s .args .c)) = accepted (s .args .c) (s .pre .0) in
-    let p = partitions-few (topology (s .args .c)) a in
-    (a, omega (arith, p), omega (arith, p), omega (arith, p))
+    let p = partitions-known (topology (s .args .c)) a (c .partitions .result) (c .partitions .ensures .0) in
+    (a, p .0, p .1, search needs)
 
-few : (c : tie.After-caps) (b : ℕ) → b < c .before .before .before .used .result → cell (c .caps .result) b ≤ 256
+-- The caps are those of the cluster.
+caps-told : (c : tie.After-caps) → c .caps .result ≡ capCells (topology (c .before .before .before .before .before .args .c)) (c .before .before .before .before .before .args .size)
+caps-told c = let s = c .before .before .before .before .before in
+    c .caps .ensures .0 ∙ caps-in (s .args .c) (s .args .size) (ok (c .before .before) .0 .bits)
+
+few : (c : tie.After-caps) (b : ℕ) → b < c .before .before .before .used .result → cell (c .caps .result) b ≤ bufferRows
 few c b l =
     let q = c .before .before in
     let s = q .before .before .before in
     let o = ok q in
-    let m = caps-most (topology (s .args .c)) (o .0 .few) (s .args .size) (c .caps .result) (c .caps .ensures .0) b (omega (arith, q .before .used .ensures)) in
+    let m = caps-most (topology (s .args .c)) (o .0 .few) (s .args .size) (c .caps .result) (caps-told c) b (omega (arith, q .before .used .ensures)) in
     omega (arith, m, o .1, o .3)
 
 partitions-requires : tie.Need-partitions-requires
 partitions-requires c κs = search needs
+
+cast-most : tie.Need-cast-most
+cast-most c = search needs
 
 zones-requires : tie.Need-zones-requires
 zones-requires c κs = search needs
@@ -72,7 +82,7 @@ starts-requires c κs =
       search needs,
       o .2,
       λ b l. zones-most (topology (s .args .c)) (o .0 .few) (z .result) (z .ensures) b (omega (arith, n .ensures)),
-      copies-most (q .partitions .result) (n .result) (s .args .c .replication) (cell (z .result)) (cell (k .caps .result)) (g .given .result) (search needs) (g .given .ensures) 256 (few k),
+      copies-most (q .partitions .result) (n .result) (s .args .c .replication) (cell (z .result)) (cell (k .caps .result)) (g .given .result) (search needs) (g .given .ensures) bufferRows (few k),
     )
 
 slice-aggregate-deal : tie.Need-slice-aggregate-deal
@@ -111,7 +121,7 @@ returns c =
     let o = ok q in
     let n = q .before .used in
     arrays-deal (topology (s .args .c)) (s .args .size) (n .result) (q .partitions .result) (k .before .zones .result) (k .caps .result) (g .given .result) (t .starts .result) (s .args .rows .now)
-    _ (o .0 .few) (n .ensures .0) (o .1) (k .before .zones .ensures) (k .caps .ensures .0) (g .given .ensures) (t .starts .ensures) (d .deal .ensures)
+    _ (o .0 .few) (n .ensures .0) (o .1) (k .before .zones .ensures) (caps-told k) (g .given .ensures) (t .starts .ensures) (d .deal .ensures)
 
 pub begin-spec : {M : Type 1} → statement M
 begin-spec =
@@ -119,6 +129,7 @@ begin-spec =
     (tie.spec
     used-requires
     partitions-requires
+    cast-most
     zones-requires
     caps-requires
     slice-aggregate-given

@@ -9,13 +9,13 @@ use lib.Pow.{pow-pos}
 use Rattle.sets.proofs.Words.{word-one}
 use Rattle.cluster.specs.Terms.{topology}
 use Rattle.dealing.specs.ModelBisect.{bisectFrom}
-use Rattle.sizing.specs.ModelSizing.{sizeOf}
+use Rattle.sizing.specs.ModelSizing.{sizeBits, sizeOf}
 use Rattle.sizing.proofs.Bisecting.{passing, size-begins, power-half, next-bit}
 use Rattle.sizing.proofs.bisected.Statement.{statement}
 use Rattle.sizing.proofs.bisected.Tie as tie
 
 abbrev Inv-loop : tie.InvT-loop
-Inv-loop c zones size₀ i₀ size i = (i ≤ 32) × (size + 2 ^ i ≤ 2 ^ 32) × (sizeOf (topology c) ≡ bisectFrom i (passing (topology c)) size)
+Inv-loop c zones size₀ i₀ size i = (i ≤ sizeBits) × (size + 2 ^ i ≤ 2 ^ sizeBits) × (sizeOf (topology c) ≡ bisectFrom i (passing (topology c)) size)
 
 abbrev μ-loop : tie.MeasureT-loop
 μ-loop c zones size₀ i₀ size i = i

@@ -1,53 +1,97 @@
--- `sizing::caps` meets its contract.
+-- `sizing::caps` meets its contract. The loop's invariant: the first b caps are written, and the capacities passed are numbers of 32 bits.
 -- Assumes nothing.
 use borrow.Author.Needs.{needs}
+use borrow.Author.Count.{below-more}
 use native.Mathlib.Omega.{arith}
-use Prim.Native.Nat.{ℕ, _/_, _^_, _<_, min}
-use mathlib.Core.Path.{_≡_, ap, _∙_, subst}
-use mir.Val.{Fits}
-use mir.Syntax.{w32}
-use Rattle.cluster.specs.Terms.{topology, nodeAt}
-use Rattle.incidence.specs.ModelIncidence.{capAt, cell, column}
-use Rattle.sizing.specs.ModelSizing.{nodesOf, capCells}
-use Rattle.incidence.proofs.Columns.{column-cong}
-use Rattle.sizing.proofs.Arrays.{cells-agree}
+use Prim.Native.Nat.{ℕ, _/_, _-_, _^_, _≤_, _<_, min}
+use mathlib.Core.Path.{_≡_, sym, ap, ap₂, _∙_}
+use Rattle.cluster.specs.Terms.{mostNodes, topology, nodeAt}
+use Rattle.cluster.specs.declared.Node.{Node}
+use Rattle.cluster.proofs.Slots.{node-slot}
+use Rattle.incidence.specs.ModelIncidence.{capAt, column}
+use Rattle.incidence.proofs.Columns.{column-none, column-next, column-end}
+use Rattle.sizing.specs.ModelSizing.{sizeBits, cutBits, capCells, capsIn}
 use Rattle.sizing.proofs.caps.Statement.{statement}
 use Rattle.sizing.proofs.caps.Tie as tie
 
-used-requires : tie.Need-used-requires
+abbrev Inv-loop : tie.InvT-loop
+Inv-loop size c n most caps₀ b₀ caps b = (b ≤ n) × (n ≤ mostNodes) × (n ≤ c .count) × (caps ≡ column (capAt (cutBits (topology c)) size) b)
+    × ((i : ℕ) → i < b → nodeAt (topology c) i .capacity < 2 ^ sizeBits)
+
+abbrev μ-loop : tie.MeasureT-loop
+μ-loop size c n most caps₀ b₀ caps b = n - b
+
+used-requires : tie.Need-used-requires Inv-loop μ-loop
 used-requires c κs = search needs
 
-held : (c : tie.After-capacities) (b : ℕ) → b < nodesOf (topology (c .before .before .args .c)) → cell (c .capacities .result) b ≡ nodeAt (topology (c .before .before .args .c)) b .capacity
-held c b l =
-    let t = topology (c .before .before .args .c) in
-    cells-agree (λ i. nodeAt t i .capacity) (nodesOf t) (c .capacities .result) (omega (arith, c .before .used .ensures)) (c .capacities .ensures) b l
+partitions-requires : tie.Need-partitions-requires Inv-loop μ-loop
+partitions-requires c κs = search needs
 
-low : (c : tie.After-capacities) (b : ℕ) → Fits w32 (cell (c .capacities .result) b)
-low c b = search needs
+cast-most : tie.Need-cast-most Inv-loop μ-loop
+cast-most c = search needs
 
-capacities-requires : tie.Need-capacities-requires
-capacities-requires c κs = search needs
+loop-holds : tie.Need-loop-holds Inv-loop μ-loop
+loop-holds c = (search needs, search needs, search needs, column-none _, λ i l. absurd (omega arith))
 
-slice-aggregate-caps-at : tie.Need-slice-aggregate-caps-at
-slice-aggregate-caps-at c = search needs
+mul-node : tie.Need-mul-node Inv-loop μ-loop
+mul-node c = search needs
 
-caps-at-requires : tie.Need-caps-at-requires
-caps-at-requires c κs = search needs
+element-copy-out-node : tie.Need-element-copy-out-node Inv-loop μ-loop
+element-copy-out-node c = search needs
 
-returns : tie.Need-returns
-unfolding capCells capAt
-returns c =
-    let k = c .before .before in
-    let a = k .before .before .args in
-    let t = topology (a .c) in (
-      c .caps-at .ensures
-          ∙ (ap (column (λ b. min (2 ^ a .c .bits) (cell (k .capacities .result) b / a .size))) (k .before .used .ensures .0)
-          ∙ column-cong (λ b. min (2 ^ a .c .bits) (cell (k .capacities .result) b / a .size)) (capAt t (a .size)) (nodesOf t)
-          (λ b l. ap (λ (x : ℕ). min (2 ^ a .c .bits) (x / a .size)) (held k b l))),
-      λ b l. subst (λ (x : ℕ). x < 2 ^ 32) (held k b l) (low k b .fits),
+cap-requires : tie.Need-cap-requires Inv-loop μ-loop
+cap-requires c κs = search needs
+
+mul-caps : tie.Need-mul-caps Inv-loop μ-loop
+mul-caps c = search needs
+
+array-write-caps : tie.Need-array-write-caps Inv-loop μ-loop
+array-write-caps c = search needs
+
+add-b : tie.Need-add-b Inv-loop μ-loop
+add-b c = search needs
+
+loop-less : tie.Need-loop-less Inv-loop μ-loop
+loop-less c = search needs
+
+loop-again : tie.Need-loop-again Inv-loop μ-loop
+unfolding capAt
+loop-again c =
+    let k = c .before .before .before in
+    let q = k .before in
+    let a = q .before .before .args in
+    let e = node-slot (a .t1) (k .loop .b) (omega arith) in (
+      search needs,
+      search needs,
+      search needs,
+      column-next (capAt (cutBits (topology (a .t1))) (a .size)) (k .loop .caps) (k .loop .b) _ (k .loop .inv .3)
+          (c .cap .ensures .0 ∙ ap₂ (λ (m : ℕ) (n : Node). min m (n .capacity / a .size)) (q .partitions .ensures .0) (sym e)),
+      below-more _ _ (k .loop .inv .4) (omega (arith, c .cap .ensures .1, ap (λ (n : Node). n .capacity) e)),
     )
+
+returns : tie.Need-returns Inv-loop μ-loop
+unfolding capsIn capCells
+returns c =
+    let k = c .before in
+    let s = k .before .before .before in
+    (column-end (capAt (cutBits (topology (s .args .t1))) (s .args .size)) (k .loop .caps) (k .loop .b) _ (k .loop .inv .3) (omega arith), λ b l. k .loop .inv .4 b (omega arith))
 
 pub caps-spec : {M : Type 1} → statement M
 caps-spec =
     tie.close
-    (tie.spec used-requires capacities-requires slice-aggregate-caps-at caps-at-requires returns)
+    (tie.spec
+    Inv-loop
+    μ-loop
+    used-requires
+    partitions-requires
+    cast-most
+    loop-holds
+    mul-node
+    element-copy-out-node
+    cap-requires
+    mul-caps
+    array-write-caps
+    add-b
+    loop-less
+    loop-again
+    returns)

@@ -10,7 +10,7 @@ use borrow.Author.Tests.{eq-eqb, ne-eqb, le-leb, lt-leb}
 use Rattle.cluster.specs.Terms.{topology, partitions, faultOf}
 use Rattle.cluster.proofs.Accepting.{accepted}
 use Rattle.sizing.specs.ModelSizing.{dealtRows, dealtIn}
-use Rattle.sizing.proofs.Arrays.{partitions-few}
+use Rattle.sizing.proofs.Arrays.{partitions-known}
 use Rattle.sizing.proofs.deal.Statement.{statement}
 use Rattle.sizing.proofs.deal.Tie as tie
 
@@ -18,16 +18,13 @@ known : (c : tie.After-partitions) → (faultOf (c .before .before .before .befo
 known c =
     let s = c .before .before .before .before in
     let e : faultOf (s .args .c) ≡ 0 = search needs in
-    (e, omega (arith, partitions-few (topology (s .args .c)) (accepted (s .args .c) e)))
+    (e, partitions-known (topology (s .args .c)) (accepted (s .args .c) e) (c .partitions .result) (c .partitions .ensures .0) .0)
 
 fault-requires : tie.Need-fault-requires
 fault-requires c κs = search needs
 
 partitions-requires : tie.Need-partitions-requires
 partitions-requires c κs = search needs
-
-cast-if2 : tie.Need-cast-if2
-cast-if2 c = search needs
 
 begin-requires : tie.Need-begin-requires
 begin-requires c κs =
@@ -71,7 +68,6 @@ deal-spec =
     (tie.spec
     fault-requires
     partitions-requires
-    cast-if2
     begin-requires
     same-length
     returns

@@ -4,6 +4,7 @@ use borrow.Author.Needs.{needs}
 use native.Mathlib.Omega.{arith}
 use Prim.Native.Nat.{ℕ, _-_, _≤_}
 use mathlib.Core.Path.{_≡_, ap, _∙_}
+use Rattle.cluster.specs.Terms.{mostNodes}
 use Rattle.sums.specs.ModelSums.{is}
 use Rattle.sets.specs.ModelBits.{maskOf}
 use Rattle.incidence.specs.ModelIncidence.{cell, column}
@@ -13,7 +14,7 @@ use Rattle.sizing.proofs.mates.Statement.{statement}
 use Rattle.sizing.proofs.mates.Tie as tie
 
 abbrev Inv-loop : tie.InvT-loop
-Inv-loop n zones m mates₀ b₀ mates b = (b ≤ m) × (m ≤ 32) × (mates ≡ column (λ i. maskOf (λ x. is (cell zones x) (cell zones i)) m) b)
+Inv-loop n zones m mates₀ b₀ mates b = (b ≤ m) × (m ≤ mostNodes) × (mates ≡ column (λ i. maskOf (λ x. is (cell zones x) (cell zones i)) m) b)
 
 abbrev μ-loop : tie.MeasureT-loop
 μ-loop n zones m mates₀ b₀ mates b = m - b

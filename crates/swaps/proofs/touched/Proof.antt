@@ -2,7 +2,7 @@
 -- The measure is the number of nodes that are left. Assumes nothing.
 use Prim.Native.Nat.{ℕ, _+_, _-_, _^_, _≤_, _<_}
 use mathlib.Core.Path.{_≡_, sym, refl, ap, ap₂, _∙_}
-use Rattle.sets.specs.ModelBits.{countOf}
+use Rattle.sets.specs.ModelBits.{maskBits, countOf}
 use Rattle.sets.proofs.Laws.{difference-lt, count-le}
 use Rattle.swaps.specs.ModelSwaps.{restOf, coverOf, coveredOf, coverIn, coveredIn}
 use Rattle.swaps.proofs.Steps.{fuel, cover-more, cover-done, covered-more, covered-done, rest-count, rest-is, nodes-are}
@@ -13,17 +13,17 @@ use Rattle.swaps.proofs.touched.Tie as tie
 
 abbrev Inv-loop : tie.InvT-loop
 Inv-loop mates row left₀ count₀ nodes₀ left count nodes =
-    (left < 2 ^ 32)
-    × (countOf left + count ≤ 32)
-    × (coverOf mates row ≡ coverIn (32 - count) mates left count)
-    × (coveredOf mates row ≡ coveredIn (32 - count) mates left nodes)
+    (left < 2 ^ maskBits)
+    × (countOf left + count ≤ maskBits)
+    × (coverOf mates row ≡ coverIn (maskBits - count) mates left count)
+    × (coveredOf mates row ≡ coveredIn (maskBits - count) mates left nodes)
 
 abbrev μ-loop : tie.MeasureT-loop
 μ-loop mates row left₀ count₀ nodes₀ left count nodes = countOf left
 
 loop-holds : tie.Need-loop-holds Inv-loop μ-loop
 unfolding coverOf coveredOf
-loop-holds c = (search needs, omega (arith, count-le 32 (c .before .args .row) (omega arith) (search needs)), refl, refl)
+loop-holds c = (search needs, omega (arith, count-le maskBits (c .before .args .row) (omega arith) (search needs)), refl, refl)
 
 least-requires : tie.Need-least-requires Inv-loop μ-loop
 least-requires c κs = search needs
@@ -53,10 +53,10 @@ rest c =
     rest-is (k .before .before .args .mates .now) (k .loop .left) (b .least .result) (e .before .cell .result) (e .without .result) (c .difference .result)
     (b .least .ensures) (e .before .cell .ensures) (e .without .ensures) (c .difference .ensures)
 
--- The count is below 32 within a turn, and what is left counts less.
+-- The count is below the width within a turn, and what is left counts less.
 falls : (c : tie.After-difference Inv-loop μ-loop)
     → (countOf (c .difference .result) + 1 ≤ countOf (c .before .before .before .before .before .loop .left))
-    × (c .before .before .before .before .before .loop .count < 32)
+    × (c .before .before .before .before .before .loop .count < maskBits)
 falls c =
     let k = c .before .before .before .before .before in
     let f : (k .loop .left ≡ 0 → ⊥) = c .before .before .before .before .loop-test .taken in
@@ -80,9 +80,9 @@ loop-again c =
     (c .union .ensures) in (
       omega (arith, c .before .difference .ensures, difference-lt (c .before .before .without .result) (c .before .before .before .cell .result)),
       omega (arith, falls (c .before)),
-      k .loop .inv .2 ∙ (cover-more (32 - k .loop .count) (32 - (k .loop .count + 1)) m (k .loop .left) (k .loop .count) (fuel (k .loop .count) (falls (c .before) .1)) f ∙ ap (λ (x : ℕ). coverIn (32 - (k .loop .count + 1)) m x (k .loop .count + 1)) (sym (rest (c .before)))),
-      k .loop .inv .3 ∙ (covered-more (32 - k .loop .count) (32 - (k .loop .count + 1)) m (k .loop .left) (k .loop .nodes) (fuel (k .loop .count) (falls (c .before) .1)) f
-          ∙ ap₂ (λ (x y : ℕ). coveredIn (32 - (k .loop .count + 1)) m x y) (sym (rest (c .before))) u),
+      k .loop .inv .2 ∙ (cover-more (maskBits - k .loop .count) (maskBits - (k .loop .count + 1)) m (k .loop .left) (k .loop .count) (fuel (k .loop .count) (falls (c .before) .1)) f ∙ ap (λ (x : ℕ). coverIn (maskBits - (k .loop .count + 1)) m x (k .loop .count + 1)) (sym (rest (c .before)))),
+      k .loop .inv .3 ∙ (covered-more (maskBits - k .loop .count) (maskBits - (k .loop .count + 1)) m (k .loop .left) (k .loop .nodes) (fuel (k .loop .count) (falls (c .before) .1)) f
+          ∙ ap₂ (λ (x y : ℕ). coveredIn (maskBits - (k .loop .count + 1)) m x y) (sym (rest (c .before))) u),
     )
 
 returns : tie.Need-returns Inv-loop μ-loop
@@ -90,8 +90,8 @@ returns c =
     let k = c .before in
     let e : k .loop .left ≡ 0 = omega arith in
     let m = k .before .before .args .mates .now in (
-      sym (k .loop .inv .2 ∙ cover-done (32 - k .loop .count) m (k .loop .left) (k .loop .count) e),
-      sym (k .loop .inv .3 ∙ covered-done (32 - k .loop .count) m (k .loop .left) (k .loop .nodes) e),
+      sym (k .loop .inv .2 ∙ cover-done (maskBits - k .loop .count) m (k .loop .left) (k .loop .count) e),
+      sym (k .loop .inv .3 ∙ covered-done (maskBits - k .loop .count) m (k .loop .left) (k .loop .nodes) e),
     )
 
 pub touched-spec : {M : Type 1} → statement M

@@ -1,10 +1,10 @@
 -- `walks::earlier` meets its contract. No arc that the loop passed can be crossed with a later one. Assumes nothing.
 use borrow.Author.Needs.{needs}
 use native.Mathlib.Omega.{arith}
-use Rattle.cycles.proofs.Firsts.{first-hit, first-miss, first-end}
+use Rattle.sums.proofs.First.{first-hit, first-miss, first-end}
 use Rattle.walks.specs.ModelWalks.{okOf, walkIn}
 use Rattle.exchange.specs.ModelUncross.{partner, first}
-use Rattle.exchange.specs.ModelLevels.{firstFrom}
+use Rattle.sums.specs.ModelSums.{firstFrom}
 use borrow.Author.Tests.{lt-ltb, le-ltb}
 use lib.Dec.{ltb}
 use native.Mathlib.Nat.{sub-zero}

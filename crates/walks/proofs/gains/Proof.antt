@@ -2,7 +2,8 @@
 use borrow.Author.Needs.{needs}
 use native.Mathlib.Omega.{arith}
 use Rattle.walks.proofs.Steps.{entryCost, costsAfter, cost-at, gains-begin, gains-none, gains-more, gains-all}
-use Rattle.walks.specs.ModelWalks.{bitsOf, walkIn}
+use Rattle.sets.specs.ModelBits.{bitsAt}
+use Rattle.walks.specs.ModelWalks.{walkIn}
 use lib.Dec.{ltb}
 use mathlib.Core.Path.{_≡_, ap, _∙_}
 use Prim.Native.Nat.{ℕ, _+_, _*_, _≤_, _<_, _-_}
@@ -11,14 +12,14 @@ use Rattle.walks.proofs.gains.Tie as tie
 
 abbrev Inv-loop : tie.InvT-loop
 Inv-loop y q i j former partitions end t₀ sum₀ t sum = (i < t) × (t ≤ j) × (sum ≤ 2 * t)
-    × (sum ≡ entryCost partitions (bitsOf former) y q (i + 1) j + costsAfter partitions (bitsOf former) y q i (t - (i + 1)))
+    × (sum ≡ entryCost partitions (bitsAt former) y q (i + 1) j + costsAfter partitions (bitsAt former) y q i (t - (i + 1)))
 
 abbrev μ-loop : tie.MeasureT-loop
 μ-loop y q i j former partitions end t₀ sum₀ t sum = j - t
 
 returns : tie.Need-returns Inv-loop μ-loop
 returns c = let a = c .before .before .before .before .args in
-    gains-none (a .partitions) (bitsOf (a .former .now)) (walkIn (a .j + 1) (a .y .now) (a .q .now)) (a .i) (a .j) (c .if1 .taken)
+    gains-none (a .partitions) (bitsAt (a .former .now)) (walkIn (a .j + 1) (a .y .now) (a .q .now)) (a .i) (a .j) (c .if1 .taken)
 
 add-t : tie.Need-add-t Inv-loop μ-loop
 add-t c = search needs
@@ -39,7 +40,7 @@ loop-holds : tie.Need-loop-holds Inv-loop μ-loop
 loop-holds c = let h = c .before in
     let k = h .before .before in
     let a = k .before .before .before .before .before .args in
-    let g = bitsOf (a .former .now) in (
+    let g = bitsAt (a .former .now) in (
       omega arith,
       omega arith,
       omega (arith, c .arc-cost .ensures .1),
@@ -76,7 +77,7 @@ loop-again : tie.Need-loop-again Inv-loop μ-loop
 loop-again c = let h = c .before in
     let k = h .before .before .before .before in
     let a = k .before .before .before .before .before .before .before .before .before .args in
-    let g = bitsOf (a .former .now) in
+    let g = bitsAt (a .former .now) in
     let v =
     cost-at (a .partitions) g (a .y .now) (a .q .now) (k .loop .t + 1) (k .loop .t) (h .before .before .cell4 .result) (h .before .cell5 .result) (h .cell6 .result)
     (c .arc-cost2 .result) (c .arc-cost2 .ensures .0) (h .before .before .cell4 .ensures) (h .before .cell5 .ensures) (h .cell6 .ensures) in (
@@ -96,7 +97,7 @@ cast-result c = search needs
 returns-2 : tie.Need-returns-2 Inv-loop μ-loop
 returns-2 c = let k = c .before in
     let a = k .before .before .before .before .before .before .before .before .before .args in
-    let g = bitsOf (a .former .now) in
+    let g = bitsAt (a .former .now) in
     let e : k .loop .t ≡ a .j = omega arith in
     ap (λ (s : ℕ). ltb s (a .j - a .i))
     (k .loop .inv .3

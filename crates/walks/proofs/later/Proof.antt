@@ -1,10 +1,10 @@
 -- `walks::later` meets its contract. No arc that the loop passed can be crossed with i. Assumes nothing.
 use borrow.Author.Needs.{needs}
 use native.Mathlib.Omega.{arith}
-use Rattle.cycles.proofs.Firsts.{first-hit, first-miss, first-end}
+use Rattle.sums.proofs.First.{first-hit, first-miss, first-end}
 use Rattle.walks.specs.ModelWalks.{okOf, walkIn}
 use Rattle.exchange.specs.ModelUncross.{crosses, partner}
-use Rattle.exchange.specs.ModelLevels.{firstFrom}
+use Rattle.sums.specs.ModelSums.{firstFrom}
 use lib.ListN.{getD}
 use native.Mathlib.Numerals.{add-one}
 use mathlib.Core.Bool.{Bool}

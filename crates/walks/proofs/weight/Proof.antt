@@ -4,6 +4,7 @@ use native.Mathlib.Omega.{arith}
 use Prim.Native.Nat.{_+_}
 use Rattle.cycles.specs.ModelGraph.{weightOf}
 use mathlib.Core.Bool.{true, false}
+use Rattle.cluster.specs.Terms.{mostNodes}
 use Rattle.walks.proofs.Steps.{member-at}
 use Rattle.walks.proofs.weight.Statement.{statement}
 use Rattle.walks.proofs.weight.Tie as tie
@@ -37,7 +38,7 @@ returns-2 c = let t = c .before in
     let k = h .before in
     let a = k .before .before .before .args in
     let d = member-at (a .arcs .now) (a .u) (a .v) (k .before .cell .result) (k .member .result) false (k .member .ensures) (k .before .cell .ensures) (h .if1 .left) in
-    let e = member-at (a .arcs .now) (32 + a .u) (a .v) (t .before .cell2 .result) (t .member2 .result) true (t .member2 .ensures) (t .before .cell2 .ensures) (c .if2 .taken) in
+    let e = member-at (a .arcs .now) (mostNodes + a .u) (a .v) (t .before .cell2 .result) (t .member2 .result) true (t .member2 .ensures) (t .before .cell2 .ensures) (c .if2 .taken) in
     (rw (d, e), omega arith)
 
 returns-3 : tie.Need-returns-3
@@ -47,7 +48,7 @@ returns-3 c = let t = c .before in
     let k = h .before in
     let a = k .before .before .before .args in
     let d = member-at (a .arcs .now) (a .u) (a .v) (k .before .cell .result) (k .member .result) false (k .member .ensures) (k .before .cell .ensures) (h .if1 .left) in
-    let e = member-at (a .arcs .now) (32 + a .u) (a .v) (t .before .cell2 .result) (t .member2 .result) false (t .member2 .ensures) (t .before .cell2 .ensures) (c .if2 .left) in
+    let e = member-at (a .arcs .now) (mostNodes + a .u) (a .v) (t .before .cell2 .result) (t .member2 .result) false (t .member2 .ensures) (t .before .cell2 .ensures) (c .if2 .left) in
     (rw (d, e), omega arith)
 
 pub weight-spec : {M : Type 1} → statement M

@@ -1,10 +1,10 @@
 -- `walks::witness` meets its contract. No partition that the loop passed suits. Assumes nothing.
 use borrow.Author.Needs.{needs}
 use native.Mathlib.Omega.{arith}
-use Rattle.cycles.proofs.Firsts.{first-hit, first-miss, first-end}
+use Rattle.sums.proofs.First.{first-hit, first-miss, first-end}
 use Rattle.walks.proofs.Steps.{suits-at}
 use Rattle.walks.specs.ModelWalks.{suitsAt, witnessOf}
-use Rattle.exchange.specs.ModelLevels.{firstFrom}
+use Rattle.sums.specs.ModelSums.{firstFrom}
 use native.Mathlib.Nat.{sub-zero}
 use mathlib.Core.Bool.{Bool}
 use mathlib.Core.Path.{_≡_, sym, ap₂, _∙_}

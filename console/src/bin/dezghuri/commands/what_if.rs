@@ -191,7 +191,7 @@ impl Table {
     fn remarks(&self, has_lost: bool) -> String {
         let mut text = String::new();
         if self.has_former {
-            text += "To send: copies that lie elsewhere now, each of the size of its line.\n";
+            text += "To send: copies that the former layout has not there, each of the size of its line.\n";
         }
         if has_lost {
             text += "Lost: partitions that would have no surviving copy.\n";

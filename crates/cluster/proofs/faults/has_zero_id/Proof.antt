@@ -8,7 +8,7 @@ use mathlib.Core.Path.{_≡_, sym, ap, _∙_}
 use mathlib.Core.List.{List}
 use lib.ListN.{take, drop, length}
 use Rattle.cells.proofs.Cells.{rest-all, rest-none, length-of-map}
-use Rattle.cluster.specs.Terms.{idsOf, mem}
+use Rattle.cluster.specs.Terms.{mostNodes, idsOf, mem}
 use Rattle.cluster.specs.declared.Node.{Node}
 use Rattle.cluster.proofs.Scans.{zero-here, zero-not-here}
 use Rattle.cluster.proofs.faults.has_zero_id.Statement.{statement}
@@ -17,7 +17,7 @@ use Rattle.cluster.proofs.faults.has_zero_id.Reads as reads
 use Rattle.cluster.proofs.faults.has_zero_id.Lts as lts
 
 abbrev Inv-loop : tie.InvT-loop
-Inv-loop c n i₀ i = (i ≤ n) × (n ≤ 32) × (mem 0 (idsOf (take n (c .nodes))) ≡ mem 0 (idsOf (take (n - i) (drop i (c .nodes)))))
+Inv-loop c n i₀ i = (i ≤ n) × (n ≤ mostNodes) × (mem 0 (idsOf (take n (c .nodes))) ≡ mem 0 (idsOf (take (n - i) (drop i (c .nodes)))))
 
 abbrev μ-loop : tie.MeasureT-loop
 μ-loop c n i₀ i = n - i
@@ -31,7 +31,7 @@ mul-if1 c = search needs
 element-copy-out-if1 : tie.Need-element-copy-out-if1 Inv-loop μ-loop
 element-copy-out-if1 c = search needs
 
-long : (c : tie.Start Inv-loop μ-loop) → length (c .args .t1 .nodes) ≡ 32
+long : (c : tie.Start Inv-loop μ-loop) → length (c .args .t1 .nodes) ≡ mostNodes
 long c = search length-of-map
 
 returns : tie.Need-returns Inv-loop μ-loop

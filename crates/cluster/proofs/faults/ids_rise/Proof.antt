@@ -8,7 +8,7 @@ use mathlib.Core.Path.{_≡_, sym, ap, _∙_}
 use mathlib.Core.List.{List}
 use lib.ListN.{take, drop, length}
 use Rattle.cells.proofs.Cells.{rest-all, rest-none, length-of-map}
-use Rattle.cluster.specs.Terms.{idsOf, rising, risingFrom}
+use Rattle.cluster.specs.Terms.{mostNodes, idsOf, rising, risingFrom}
 use Rattle.cluster.specs.declared.Node.{Node}
 use Rattle.cluster.proofs.Scans.{falls-here, rises-here}
 use Rattle.cluster.proofs.faults.ids_rise.Statement.{statement}
@@ -17,7 +17,7 @@ use Rattle.cluster.proofs.faults.ids_rise.Reads as reads
 use Rattle.cluster.proofs.faults.ids_rise.Lts as lts
 
 abbrev Inv-loop : tie.InvT-loop
-Inv-loop c n last₀ i₀ last i = (i ≤ n) × (n ≤ 32) × (rising (idsOf (take n (c .nodes))) ≡ risingFrom last (idsOf (take (n - i) (drop i (c .nodes)))))
+Inv-loop c n last₀ i₀ last i = (i ≤ n) × (n ≤ mostNodes) × (rising (idsOf (take n (c .nodes))) ≡ risingFrom last (idsOf (take (n - i) (drop i (c .nodes)))))
 
 abbrev μ-loop : tie.MeasureT-loop
 μ-loop c n last₀ i₀ last i = n - i
@@ -31,7 +31,7 @@ mul-id c = search needs
 element-copy-out-id : tie.Need-element-copy-out-id Inv-loop μ-loop
 element-copy-out-id c = search needs
 
-long : (c : tie.Start Inv-loop μ-loop) → length (c .args .t1 .nodes) ≡ 32
+long : (c : tie.Start Inv-loop μ-loop) → length (c .args .t1 .nodes) ≡ mostNodes
 long c = search length-of-map
 
 returns : tie.Need-returns Inv-loop μ-loop

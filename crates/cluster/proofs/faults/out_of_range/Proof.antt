@@ -1,6 +1,6 @@
 use borrow.Author.Needs.{needs}
 use borrow.Author.Tests.{lt-ltb, le-ltb, eq-eqb, ne-eqb}
-use Rattle.cluster.specs.Terms.{outOfRange}
+use Rattle.cluster.specs.Terms.{mostBits, mostCopies, outOfRange}
 use Rattle.cluster.proofs.faults.out_of_range.Statement.{statement}
 use Rattle.cluster.proofs.faults.out_of_range.Tie as tie
 use Rattle.cluster.proofs.faults.out_of_range.Reads as reads
@@ -11,31 +11,31 @@ returns : tie.Need-returns
 unfolding outOfRange
 returns c =
     let k = c .before .before .args .c in
-    simp (lt-ltb 8 (k .bits) (search needs))
+    simp (lt-ltb mostBits (k .bits) (search needs))
 
 returns-2 : tie.Need-returns-2
 unfolding outOfRange
 returns-2 c =
     let k = c .before .before .before .before .args .c in
-    simp (le-ltb 8 (k .bits) (search needs), eq-eqb (k .replication) 0 (search needs))
+    simp (le-ltb mostBits (k .bits) (search needs), eq-eqb (k .replication) 0 (search needs))
 
 returns-3 : tie.Need-returns-3
 unfolding outOfRange
 returns-3 c =
     let k = c .before .before .before .before .before .before .args .c in
-    simp (le-ltb 8 (k .bits) (search needs), ne-eqb (k .replication) 0 (search needs), lt-ltb 8 (k .replication) (search needs))
+    simp (le-ltb mostBits (k .bits) (search needs), ne-eqb (k .replication) 0 (search needs), lt-ltb mostCopies (k .replication) (search needs))
 
 returns-4 : tie.Need-returns-4
 unfolding outOfRange
 returns-4 c =
     let k = c .before .before .before .before .before .before .before .before .args .c in
-    simp (le-ltb 8 (k .bits) (search needs), ne-eqb (k .replication) 0 (search needs), le-ltb 8 (k .replication) (search needs), eq-eqb (k .redundancy) 0 (search needs))
+    simp (le-ltb mostBits (k .bits) (search needs), ne-eqb (k .replication) 0 (search needs), le-ltb mostCopies (k .replication) (search needs), eq-eqb (k .redundancy) 0 (search needs))
 
 returns-5 : tie.Need-returns-5
 unfolding outOfRange
 returns-5 c =
     let k = c .before .before .before .before .before .before .before .before .before .before .args .c in
-    simp (le-ltb 8 (k .bits) (search needs), ne-eqb (k .replication) 0 (search needs), le-ltb 8 (k .replication) (search needs), ne-eqb (k .redundancy) 0 (search needs), lt-ltb (k .replication) (k .redundancy) (search needs))
+    simp (le-ltb mostBits (k .bits) (search needs), ne-eqb (k .replication) 0 (search needs), le-ltb mostCopies (k .replication) (search needs), ne-eqb (k .redundancy) 0 (search needs), lt-ltb (k .replication) (k .redundancy) (search needs))
 
 has-zero-id-requires : tie.Need-has-zero-id-requires
 has-zero-id-requires c κs = search needs
@@ -44,7 +44,7 @@ returns-6 : tie.Need-returns-6
 unfolding outOfRange
 returns-6 c =
     let k = c .before .before .before .before .before .before .before .before .before .before .before .args .c in
-    simp (le-ltb 8 (k .bits) (search needs), ne-eqb (k .replication) 0 (search needs), le-ltb 8 (k .replication) (search needs), ne-eqb (k .redundancy) 0 (search needs), le-ltb (k .replication) (k .redundancy) (search needs)) (c .has-zero-id .ensures)
+    simp (le-ltb mostBits (k .bits) (search needs), ne-eqb (k .replication) 0 (search needs), le-ltb mostCopies (k .replication) (search needs), ne-eqb (k .redundancy) 0 (search needs), le-ltb (k .replication) (k .redundancy) (search needs)) (c .has-zero-id .ensures)
 
 pub out-of-range-spec : {M : Type 1} → statement M
 out-of-range-spec = tie.close (tie.spec returns returns-2 returns-3 returns-4 returns-5 has-zero-id-requires returns-6)

@@ -1,11 +1,12 @@
 -- `cluster_record::faults::field_fault` meets its contract: the faults by the tag.
 -- Assumes nothing.
 use Prim.Native.Nat.{_≤_}
-use mathlib.Core.Path.{_≡_, sym}
+use mathlib.Core.Path.{_≡_, sym, ap}
 use lib.ListN.{length}
 use lib.Seq.{length-take-le}
 use Rattle.cells.proofs.Cells.{length-of-map}
 use Rattle.cluster.specs.Terms.{topology}
+use Rattle.cluster.specs.declared.Node.{Node}
 use Rattle.cluster_record.proofs.FieldFaults.{bits-fault, replication-fault, redundancy-fault, node-fault, row-fault}
 use borrow.Author.Needs.{needs}
 use native.Mathlib.Omega.{arith}
@@ -16,9 +17,9 @@ use Rattle.cluster_record.proofs.faults.field_fault.Lts as lts
 use Rattle.cluster_record.proofs.faults.last_id.Reads as last-id-reads
 use Rattle.cluster_record.proofs.faults.node_fault.Reads as node-fault-reads
 use Rattle.cluster_record.proofs.faults.number_fault.Reads as number-fault-reads
-use Rattle.cluster_record.proofs.row_faults.row_fault.Reads as row-fault-reads
+use Rattle.cluster_record.proofs.faults.row_fault.Reads as row-fault-reads
 use Rattle.fields.proofs.byte_at.Reads as byte-at-reads
-use Rattle.fields.proofs.word_at.Reads as word-at-reads
+use Rattle.fields.proofs.node_at.Reads as node-at-reads
 
 long : (c : tie.Start) → length (c .args .c .nodes) ≡ 32
 long c = search length-of-map
@@ -63,11 +64,11 @@ returns-3 c =
     redundancy-fault (topology (a .c)) (a .next) (a .bytes .now) (a .tag) (a .start) (a .len) (c .before .byte-at3 .result) (c .number-fault3 .result)
     (c .before .before .if3 .taken) (c .before .byte-at3 .ensures .0) (c .number-fault3 .ensures)
 
+node-at-requires : tie.Need-node-at-requires
+node-at-requires c κs = search needs
+
 last-id-requires : tie.Need-last-id-requires
 last-id-requires c κs = search needs
-
-word-at-requires : tie.Need-word-at-requires
-word-at-requires c κs = search needs
 
 node-fault-requires : tie.Need-node-fault-requires
 node-fault-requires c κs = search needs
@@ -77,8 +78,8 @@ returns-4 c =
     let k = c .before .before .before in
     let b = k .before .before .before .before .before in
     let a = b .args in
-    node-fault (topology (a .c)) (a .next) (a .bytes .now) (a .tag) (a .start) (a .len) (c .before .word-at .result) (c .before .before .last-id .result) (a .c .count)
-    (c .node-fault .result) (k .if4 .taken) (c .before .word-at .ensures .0) (c .before .before .last-id .ensures)
+    node-fault (topology (a .c)) (a .next) (a .bytes .now) (a .tag) (a .start) (a .len) (c .before .before .node-at .result .id) (c .before .last-id .result)
+    (a .c .count) (c .node-fault .result) (k .if4 .taken) (ap (λ (n : Node). n .id) (c .before .before .node-at .ensures)) (c .before .last-id .ensures)
     (sym (length-take-le (a .c .count) (a .c .nodes) (omega (arith, long b, b .pre .0)))) (c .node-fault .ensures)
 
 sub-row-fault : tie.Need-sub-row-fault
@@ -106,8 +107,8 @@ field-fault-spec =
     byte-at-requires-3
     number-fault-requires-3
     returns-3
+    node-at-requires
     last-id-requires
-    word-at-requires
     node-fault-requires
     returns-4
     sub-row-fault

@@ -3,8 +3,8 @@
 use Prim.Native.Nat.{_+_, _≤_, _<_}
 use mathlib.Core.Path.{_≡_, sym, ap, _∙_}
 use lib.ListN.{length}
-use Rattle.cluster.specs.Terms.{bufferRows, layoutCells, Layout, cellsOf}
-use Rattle.fields.specs.RecordField.{numberAt}
+use Rattle.cluster.specs.Terms.{mostCopies, bufferRows, layoutCells, Layout, cellsOf}
+use Rattle.fields.specs.RecordField.{numberAt, rowWidth}
 use Rattle.cluster_record.proofs.Items.{former-kept}
 use Rattle.cluster_record.proofs.Rows.{taken-row}
 use borrow.Author.Needs.{needs}
@@ -18,7 +18,7 @@ use Rattle.fields.proofs.pair_at.Reads as pair-at-reads
 
 -- What is known of a row.
 facts : (c : tie.Else1) → let a = c .before .before .before .args in
-    (length (a .rows .now) ≡ layoutCells) × (numberAt (a .bytes .now) (a .start) 2 < bufferRows) × (6 ≤ a .len) × (a .len ≤ 34) × (a .start + a .len ≤ length (a .bytes .now))
+    (length (a .rows .now) ≡ layoutCells) × (numberAt (a .bytes .now) (a .start) 2 < bufferRows) × (rowWidth 1 ≤ a .len) × (a .len ≤ rowWidth mostCopies) × (a .start + a .len ≤ length (a .bytes .now))
 facts c = c .before .before .before .pre (c .if1 .left)
 
 returns : tie.Need-returns

@@ -2,7 +2,7 @@
 -- Assumes nothing.
 use borrow.Author.Needs.{needs}
 use mathlib.Core.Path.{_∙_}
-use Rattle.layout_record.specs.RecordLayoutFaults.{numbersOf}
+use Rattle.layout_record.specs.RecordLayout.{numbersOf}
 use Rattle.console.proofs.RecordAnswers.{write-short, write-long}
 use Rattle.console.proofs.layout_out.dezghuri_write_layout.Statement.{statement}
 use Rattle.console.proofs.layout_out.dezghuri_write_layout.Tie as tie

@@ -2,6 +2,7 @@ use borrow.Author.Needs.{needs}
 use native.Mathlib.Omega.{arith}
 use Prim.Native.Nat.{_≤_, _-_, _*_}
 use mathlib.Core.Path.{_≡_, refl}
+use Rattle.sets.specs.ModelBits.{maskBits}
 use Rattle.sums.specs.TermsSums.{sumTo}
 use Rattle.improve.specs.ModelImprove.{agreementIn}
 use Rattle.improve.proofs.Steps.{agreement-more, few-shared}
@@ -13,7 +14,7 @@ use Rattle.sets.proofs.count.Reads as count-reads
 use Rattle.sets.proofs.meet.Reads as meet-reads
 
 abbrev Inv-loop : tie.InvT-loop
-Inv-loop rows former partitions sum₀ p₀ sum p = (p ≤ partitions) × (sum ≡ agreementIn rows former p) × (sum ≤ 32 * p)
+Inv-loop rows former partitions sum₀ p₀ sum p = (p ≤ partitions) × (sum ≡ agreementIn rows former p) × (sum ≤ maskBits * p)
 
 abbrev μ-loop : tie.MeasureT-loop
 μ-loop rows former partitions sum₀ p₀ sum p = partitions - p

@@ -4,11 +4,12 @@ use borrow.Author.Needs.{needs}
 use native.Mathlib.Omega.{arith}
 use mathlib.Core.Path.{_≡_}
 use lib.ListN.{length, length-take}
+use Rattle.cluster.specs.Terms.{mostNodes}
 use Rattle.cells.proofs.Cells.{length-of-map}
 use Rattle.incidence.proofs.zones.used.Statement.{statement}
 use Rattle.incidence.proofs.zones.used.Tie as tie
 
-long : (c : tie.Start) → length (c .args .c .nodes) ≡ 32
+long : (c : tie.Start) → length (c .args .c .nodes) ≡ mostNodes
 long c = search length-of-map
 
 returns : tie.Need-returns

@@ -7,7 +7,7 @@ use mathlib.Core.Path.{_≡_, refl, sym}
 use lib.ListN.{length, getD}
 use borrow.Author.Count.{below-more}
 use Rattle.cells.proofs.Cells.{length-of-map}
-use Rattle.cluster.specs.Terms.{noNode}
+use Rattle.cluster.specs.Terms.{mostNodes, noNode}
 use Rattle.incidence.proofs.ZoneScan.{zone-found}
 use Rattle.incidence.proofs.zones.zone_index.Statement.{statement}
 use Rattle.incidence.proofs.zones.zone_index.Tie as tie
@@ -18,7 +18,7 @@ Inv-loop b c zone i₀ i = (i ≤ b) × ((j : ℕ) → j < i → getD (c .nodes)
 abbrev μ-loop : tie.MeasureT-loop
 μ-loop b c zone i₀ i = b - i
 
-long : (c : tie.Start Inv-loop μ-loop) → length (c .args .t1 .nodes) ≡ 32
+long : (c : tie.Start Inv-loop μ-loop) → length (c .args .t1 .nodes) ≡ mostNodes
 long c = search length-of-map
 
 mul-zone : tie.Need-mul-zone Inv-loop μ-loop

@@ -4,14 +4,14 @@ use borrow.Author.Needs.{needs}
 use native.Mathlib.Omega.{arith}
 use Prim.Native.Nat.{_-_, _≤_}
 use mathlib.Core.Path.{_≡_}
-use Rattle.cluster.specs.Terms.{topology}
+use Rattle.cluster.specs.Terms.{mostNodes, topology}
 use Rattle.incidence.specs.ModelIncidence.{zoneIndex, column, zoneCells}
 use Rattle.incidence.proofs.Columns.{column-none, column-next, column-end}
 use Rattle.incidence.proofs.zones.zones.Statement.{statement}
 use Rattle.incidence.proofs.zones.zones.Tie as tie
 
 abbrev Inv-loop : tie.InvT-loop
-Inv-loop c n zones₀ b₀ zones b = (b ≤ n) × (n ≤ 32) × (n ≤ c .count) × (zones ≡ column (zoneIndex (topology c)) b)
+Inv-loop c n zones₀ b₀ zones b = (b ≤ n) × (n ≤ mostNodes) × (n ≤ c .count) × (zones ≡ column (zoneIndex (topology c)) b)
 
 abbrev μ-loop : tie.MeasureT-loop
 μ-loop c n zones₀ b₀ zones b = n - b

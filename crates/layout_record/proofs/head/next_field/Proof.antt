@@ -3,8 +3,11 @@
 use borrow.Author.Needs.{needs}
 use mathlib.Core.Path.{sym, ap, _∙_, subst}
 use Prim.Native.Nat.{ℕ, _-_}
+use mathlib.Core.List.{List}
 use lib.ListN.{length}
 use Rattle.fields.specs.RecordField.{fieldAt, Within}
+use Rattle.fields.specs.ModelTags.{tagsOf}
+use Rattle.fields.proofs.Tags.{tags-alone}
 use Rattle.layout_record.proofs.NumberFields.{next-missing, next-there}
 use Rattle.layout_record.proofs.head.next_field.Statement.{statement}
 use Rattle.layout_record.proofs.head.next_field.Tie as tie
@@ -21,10 +24,10 @@ field-at-requires c κs = search needs
 returns-2 : tie.Need-returns-2
 returns-2 c =
     let a = c .before .before .before .before .args in
-    let w = c .before .with .ensures in
+    let w = ap tagsOf (c .before .with .ensures) ∙ tags-alone (a .tag) (c .before .before .before .before .pre) in
     let s = a .bytes .now in (
-      c .field-at .ensures .0 ∙ (ap (λ (m : ℕ). fieldAt s (a .at) m (a .exact)) w ∙ sym (next-there s (a .at) (a .tag) (a .exact) (c .before .before .if1 .left))),
-      subst (λ (m : ℕ). Within (length s) (a .at) m (a .exact) (c .field-at .result)) w (c .field-at .ensures .1),
+      c .field-at .ensures .0 ∙ (ap (λ (m : List ℕ). fieldAt s (a .at) m (a .exact)) w ∙ sym (next-there s (a .at) (a .tag) (a .exact) (c .before .before .if1 .left))),
+      subst (λ (m : List ℕ). Within (length s) (a .at) m (a .exact) (c .field-at .result)) w (c .field-at .ensures .1),
     )
 
 pub next-field-spec : {M : Type 1} → statement M

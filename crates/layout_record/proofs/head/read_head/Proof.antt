@@ -1,209 +1,168 @@
--- `layout_record::head::read_head` meets its contract: each field is read from the byte after the one before it.
+-- `layout_record::head::read_head` meets its contract. The loop's invariant: the reading goes on from here, with the values that were read.
 -- Assumes nothing.
 use borrow.Author.Needs.{needs}
-use Prim.Native.Nat.{_-_}
-use mathlib.Core.Path.{_≡_, refl, sym, ap, _∙_}
-use mathlib.Core.Logic.{inl, inr}
-use Rattle.cluster.specs.Terms.{mostBits, mostCopies}
-use Rattle.fields.specs.RecordField.{ruleOf}
-use Rattle.layout_record.specs.declared.head.Number.the-variants.{Value}
-use Rattle.layout_record.specs.RecordLayout.{mostSize, mostDistance, mostVerdict, mostImprovements}
-use Rattle.layout_record.specs.RecordLayoutFaults.{numberIn}
-use Rattle.layout_record.specs.ModelReading.{haltedBy}
-use Rattle.layout_record.proofs.NumberFields.{stop-1, stop-2, stop-3, stop-4, stop-5, stop-6, head-read}
+use native.Mathlib.Omega.{arith}
+use Prim.Native.Nat.{ℕ, _+_, _-_, _≤_}
+use mathlib.Core.Path.{_≡_, refl, sym, ap, ap₂, _∙_, subst}
+use mathlib.Core.List.{List, [], _∷_}
+use mathlib.Core.Logic.{_⊎_}
+use native.Mathlib.Numerals.{add-one}
+use lib.ListN.{length, take, drop, set}
+use lib.Seq.{take-all, take-suc-set}
+use borrow.Author.Tests.{not-true, not-false}
+use Rattle.fields.specs.RecordField.{Whole, Within, refusalOf, placeOf}
+use Rattle.layout_record.specs.declared.Numbers.{Numbers}
+use Rattle.layout_record.specs.RecordLayout.{headTable, numbersFrom}
+use Rattle.layout_record.specs.RecordLayoutFaults.{HeadEnds, HeadRefused, headFrom}
+use Rattle.layout_record.proofs.NumberFields.{lawful-at, entry-width, head-stop, head-out, head-on, head-end}
 use Rattle.layout_record.proofs.head.read_head.Statement.{statement}
 use Rattle.layout_record.proofs.head.read_head.Tie as tie
 
--- What each field said.
-e1 : (c : tie.After-known-told) → numberIn (c .before .before .before .before .before .args .bytes .now) 0 1 0 mostBits ≡ Value (c .before .first .given .0 .0) (c .before .first .given .0 .1 .0)
-e1 c = sym (c .before .before .before .number-in .ensures) ∙ c .before .first .given .1
+abbrev Inv-loop : tie.InvT-loop
+Inv-loop bytes values₀ at₀ i₀ values at i =
+    (i ≤ 6) × (length values ≡ length headTable) × (headFrom headTable bytes 0 [] ≡ headFrom (drop i headTable) bytes at (take i values))
 
-e2 : (c : tie.After-known-told2) → numberIn (c .before .before .before .before .before .before .before .before .before .args .bytes .now) (c .before .before .before .before .before .first .given .0 .1 .0) 2 1 mostCopies ≡ Value (c .before .second .given .0 .0) (c .before .second .given .0 .1 .0)
-e2 c = sym (c .before .before .before .number-in2 .ensures) ∙ c .before .second .given .1
+abbrev μ-loop : tie.MeasureT-loop
+μ-loop bytes values₀ at₀ i₀ values at i = 6 - i
 
-e3 : (c : tie.After-known-told3) → numberIn (c .before .before .before .before .before .before .before .before .before .before .before .before .before .args .bytes .now) (c .before .before .before .before .before .second .given .0 .1 .0) 6 1 mostSize ≡ Value (c .before .third .given .0 .0) (c .before .third .given .0 .1 .0)
-e3 c = sym (c .before .before .before .number-in3 .ensures) ∙ c .before .third .given .1
+-- Where the loop stands at a field.
+abbrev looped : tie.After-next-field Inv-loop μ-loop → tie.At-loop Inv-loop μ-loop
+looped n = n .before .before .before
 
-e4 : (c : tie.After-known-told4) → numberIn (c .before .before .before .before .before .before .before .before .before .before .before .before .before .before .before .before .before .args .bytes .now) (c .before .before .before .before .before .third .given .0 .1 .0) 7 0 mostDistance ≡ Value (c .before .fourth .given .0 .0) (c .before .fourth .given .0 .1 .0)
-e4 c = sym (c .before .before .before .number-in4 .ensures) ∙ c .before .fourth .given .1
+abbrev bytesOf : tie.At-loop Inv-loop μ-loop → List ℕ
+bytesOf k = k .before .before .args .bytes .now
 
-e5 : (c : tie.After-known-told5) → numberIn (c .before .before .before .before .before .before .before .before .before .before .before .before .before .before .before .before .before .before .before .before .before .args .bytes .now) (c .before .before .before .before .before .fourth .given .0 .1 .0) 8 0 mostVerdict ≡ Value (c .before .fifth .given .0 .0) (c .before .fifth .given .0 .1 .0)
-e5 c = sym (c .before .before .before .number-in5 .ensures) ∙ c .before .fifth .given .1
+-- What is known of a field: its body ends in the record, and has one, two or four bytes.
+known : (c : tie.After-known-told Inv-loop μ-loop) → let g = c .before .f .given .0 in
+    (g .1 .0 + g .1 .1 .0 ≤ length (bytesOf (looped (c .before .before .before)))) × ((g .1 .1 .0 ≡ 1) ⊎ ((g .1 .1 .0 ≡ 2) ⊎ (g .1 .1 .0 ≡ 4)))
+known c =
+    let n = c .before .before .before in
+    let k = looped n in
+    let e = n .before .at in
+    let g = c .before .f .given .0 in
+    let law = lawful-at (k .loop .i) (omega arith) (e .result) (e .ensures) in
+    let w : Whole (length (bytesOf k)) (k .loop .at) (e .result .tag ∷ []) 0 (g .0) (g .1 .0) (g .1 .1 .0) =
+    subst (Within (length (bytesOf k)) (k .loop .at) (e .result .tag ∷ []) 0) (c .before .f .given .1) (n .next-field .ensures .1) in
+    let same = entry-width (e .result) (length (bytesOf k)) (k .loop .at) (g .0) (g .1 .0) (g .1 .1 .0) law w .1 in
+    (w .ends, subst (λ (x : ℕ). (x ≡ 1) ⊎ ((x ≡ 2) ⊎ (x ≡ 4))) (sym same) (law .narrow))
 
-e6 : (c : tie.After-known-told6) → numberIn (c .before .before .before .before .before .before .before .before .before .before .before .before .before .before .before .before .before .before .before .before .before .before .before .before .before .args .bytes .now) (c .before .before .before .before .before .fifth .given .0 .1 .0) 9 0 mostImprovements ≡ Value (c .before .sixth .given .0 .0) (c .before .sixth .given .0 .1 .0)
-e6 c = sym (c .before .before .before .number-in6 .ensures) ∙ c .before .sixth .given .1
+loop-holds : tie.Need-loop-holds Inv-loop μ-loop
+loop-holds c = (search needs, refl, refl)
 
-number-in-requires : tie.Need-number-in-requires
-unfolding ruleOf
-number-in-requires c κs = (refl, inl refl)
+at-requires : tie.Need-at-requires Inv-loop μ-loop
+at-requires c κs = search needs
 
-enum-known-first : tie.Need-enum-known-first
-enum-known-first c = search needs
+next-field-requires : tie.Need-next-field-requires Inv-loop μ-loop
+next-field-requires c κs =
+    let k = c .before .before in
+    omega (arith, lawful-at (k .loop .i) (omega arith) (c .at .result) (c .at .ensures) .small)
 
-enum-told : tie.Need-enum-told
+enum-known-f : tie.Need-enum-known-f Inv-loop μ-loop
+enum-known-f c = search needs
+
+enum-told : tie.Need-enum-told Inv-loop μ-loop
 enum-told c = search needs
 
-halted-requires : tie.Need-halted-requires
-halted-requires c κs = search needs
+refusal-of-requires : tie.Need-refusal-of-requires Inv-loop μ-loop
+refusal-of-requires c κs = search needs
 
-returns : tie.Need-returns
+place-of-requires : tie.Need-place-of-requires Inv-loop μ-loop
+place-of-requires c κs = search needs
+
+returns : tie.Need-returns Inv-loop μ-loop
 returns c =
-    let told = c .before .enum-told .given .1 in
-    let n = c .before .before .before .number-in in
-    c .halted .ensures ∙ (ap haltedBy told ∙ sym (stop-1 _ _ _ (sym (n .ensures) ∙ told)))
+    let n = c .before .before .before .before in
+    let k = looped n in
+    let e = n .before .at in
+    let told = c .before .before .enum-told .given .1 in
+    ap₂ HeadRefused (c .before .refusal-of .ensures ∙ ap refusalOf told) (c .place-of .ensures ∙ ap placeOf told)
+    ∙ sym (k .loop .inv .2
+    ∙ head-stop (k .loop .i) (omega arith) (e .result) (e .ensures) (bytesOf k) (k .loop .at) (take (k .loop .i) (k .loop .values)) (n .next-field .result) (n .next-field .ensures .0) _ _ told)
 
-number-in-requires-2 : tie.Need-number-in-requires-2
-unfolding ruleOf
-number-in-requires-2 c κs = (refl, inl refl)
+number-at-requires : tie.Need-number-at-requires Inv-loop μ-loop
+number-at-requires c κs = known c .1
 
-enum-known-second : tie.Need-enum-known-second
-enum-known-second c = search needs
+holds-requires : tie.Need-holds-requires Inv-loop μ-loop
+holds-requires c κs = search needs
 
-enum-told-2 : tie.Need-enum-told-2
-enum-told-2 c = search needs
-
-halted-requires-2 : tie.Need-halted-requires-2
-halted-requires-2 c κs = search needs
-
-returns-2 : tie.Need-returns-2
+returns-2 : tie.Need-returns-2 Inv-loop μ-loop
 returns-2 c =
-    let told = c .before .enum-told2 .given .1 in
-    let n = c .before .before .before .number-in2 in
-    let k1 = c .before .before .before .before in
-    c .halted2 .ensures ∙ (ap haltedBy told ∙ sym (stop-2 _ _ _ (e1 k1) _ _ (sym (n .ensures) ∙ told)))
+    let h = c .before in
+    let g = h .before .before .before in
+    let n = g .before .before in
+    let k = looped n in
+    let e = n .before .at in
+    sym (k .loop .inv .2
+    ∙ head-out (k .loop .i) (omega arith) (e .result) (e .ensures) (bytesOf k) (k .loop .at) (take (k .loop .i) (k .loop .values)) (n .next-field .result) (n .next-field .ensures .0)
+    _ _ _ _ (g .f .given .1) (h .before .number-at .ensures) (sym (h .holds .ensures) ∙ not-true (h .holds .result) (c .if1 .taken)))
 
-number-in-requires-3 : tie.Need-number-in-requires-3
-unfolding ruleOf
-number-in-requires-3 c κs = (refl, inr (inr refl))
+mul-values : tie.Need-mul-values Inv-loop μ-loop
+mul-values c = search needs
 
-enum-known-third : tie.Need-enum-known-third
-enum-known-third c = search needs
+array-write-values : tie.Need-array-write-values Inv-loop μ-loop
+array-write-values c = search needs
 
-enum-told-3 : tie.Need-enum-told-3
-enum-told-3 c = search needs
+add-at : tie.Need-add-at Inv-loop μ-loop
+add-at c = omega (arith, known (c .before .before .before) .0)
 
-halted-requires-3 : tie.Need-halted-requires-3
-halted-requires-3 c κs = search needs
+add-i : tie.Need-add-i Inv-loop μ-loop
+add-i c = search needs
 
-returns-3 : tie.Need-returns-3
+loop-less : tie.Need-loop-less Inv-loop μ-loop
+loop-less c = search needs
+
+loop-again : tie.Need-loop-again Inv-loop μ-loop
+loop-again c =
+    let h = c .before in
+    let g = h .before .before .before in
+    let n = g .before .before in
+    let k = looped n in
+    let e = n .before .at in
+    let v = h .before .number-at .result in
+    let i = k .loop .i in (
+      search needs,
+      search needs,
+      k .loop .inv .2
+          ∙ (head-on i (omega arith) (e .result) (e .ensures) (bytesOf k) (k .loop .at) (take i (k .loop .values)) (n .next-field .result) (n .next-field .ensures .0)
+          _ _ _ v (g .f .given .1) (h .before .number-at .ensures) (sym (h .holds .ensures) ∙ not-false (h .holds .result) (c .if1 .left))
+          ∙ ap (headFrom (drop (i + 1) headTable) (bytesOf k) _)
+          (sym (ap (λ (m : ℕ). take m (set (k .loop .values) i v)) (add-one i) ∙ take-suc-set (k .loop .values) i v (omega (arith, k .loop .inv .1))))),
+    )
+
+numbers-from-requires : tie.Need-numbers-from-requires Inv-loop μ-loop
+numbers-from-requires c κs = search needs
+
+returns-3 : tie.Need-returns-3 Inv-loop μ-loop
 returns-3 c =
-    let told = c .before .enum-told3 .given .1 in
-    let n = c .before .before .before .number-in3 in
-    let k2 = c .before .before .before .before in
-    let k1 = k2 .before .before .before .before in
-    c .halted3 .ensures ∙ (ap haltedBy told ∙ sym (stop-3 _ _ _ (e1 k1) _ _ (e2 k2) _ _ (sym (n .ensures) ∙ told)))
-
-number-in-requires-4 : tie.Need-number-in-requires-4
-unfolding ruleOf
-number-in-requires-4 c κs = (refl, inr (inl refl))
-
-enum-known-fourth : tie.Need-enum-known-fourth
-enum-known-fourth c = search needs
-
-enum-told-4 : tie.Need-enum-told-4
-enum-told-4 c = search needs
-
-halted-requires-4 : tie.Need-halted-requires-4
-halted-requires-4 c κs = search needs
-
-returns-4 : tie.Need-returns-4
-returns-4 c =
-    let told = c .before .enum-told4 .given .1 in
-    let n = c .before .before .before .number-in4 in
-    let k3 = c .before .before .before .before in
-    let k2 = k3 .before .before .before .before in
-    let k1 = k2 .before .before .before .before in
-    c .halted4 .ensures ∙ (ap haltedBy told ∙ sym (stop-4 _ _ _ (e1 k1) _ _ (e2 k2) _ _ (e3 k3) _ _ (sym (n .ensures) ∙ told)))
-
-number-in-requires-5 : tie.Need-number-in-requires-5
-unfolding ruleOf
-number-in-requires-5 c κs = (refl, inl refl)
-
-enum-known-fifth : tie.Need-enum-known-fifth
-enum-known-fifth c = search needs
-
-enum-told-5 : tie.Need-enum-told-5
-enum-told-5 c = search needs
-
-halted-requires-5 : tie.Need-halted-requires-5
-halted-requires-5 c κs = search needs
-
-returns-5 : tie.Need-returns-5
-returns-5 c =
-    let told = c .before .enum-told5 .given .1 in
-    let n = c .before .before .before .number-in5 in
-    let k4 = c .before .before .before .before in
-    let k3 = k4 .before .before .before .before in
-    let k2 = k3 .before .before .before .before in
-    let k1 = k2 .before .before .before .before in
-    c .halted5 .ensures ∙ (ap haltedBy told ∙ sym (stop-5 _ _ _ (e1 k1) _ _ (e2 k2) _ _ (e3 k3) _ _ (e4 k4) _ _ (sym (n .ensures) ∙ told)))
-
-number-in-requires-6 : tie.Need-number-in-requires-6
-unfolding ruleOf
-number-in-requires-6 c κs = (refl, inr (inl refl))
-
-enum-known-sixth : tie.Need-enum-known-sixth
-enum-known-sixth c = search needs
-
-enum-told-6 : tie.Need-enum-told-6
-enum-told-6 c = search needs
-
-halted-requires-6 : tie.Need-halted-requires-6
-halted-requires-6 c κs = search needs
-
-returns-6 : tie.Need-returns-6
-returns-6 c =
-    let told = c .before .enum-told6 .given .1 in
-    let n = c .before .before .before .number-in6 in
-    let k5 = c .before .before .before .before in
-    let k4 = k5 .before .before .before .before in
-    let k3 = k4 .before .before .before .before in
-    let k2 = k3 .before .before .before .before in
-    let k1 = k2 .before .before .before .before in
-    c .halted6 .ensures ∙ (ap haltedBy told ∙ sym (stop-6 _ _ _ (e1 k1) _ _ (e2 k2) _ _ (e3 k3) _ _ (e4 k4) _ _ (e5 k5) _ _ (sym (n .ensures) ∙ told)))
-
-returns-7 : tie.Need-returns-7
-returns-7 c =
-    let k6 = c in
-    let k5 = k6 .before .before .before .before in
-    let k4 = k5 .before .before .before .before in
-    let k3 = k4 .before .before .before .before in
-    let k2 = k3 .before .before .before .before in
-    let k1 = k2 .before .before .before .before in
-    sym (head-read _ _ _ (e1 k1) _ _ (e2 k2) _ _ (e3 k3) _ _ (e4 k4) _ _ (e5 k5) _ _ (e6 k6))
+    let k = c .before .before in
+    let i : k .loop .i ≡ 6 = omega arith in
+    sym (k .loop .inv .2
+    ∙ (head-end (k .loop .i) i (bytesOf k) (k .loop .at) (take (k .loop .i) (k .loop .values))
+    ∙ ap (λ (n : Numbers). HeadEnds n (k .loop .at))
+    (ap numbersFrom (take-all (k .loop .i) (k .loop .values) (omega (arith, k .loop .inv .1))) ∙ sym (c .numbers-from .ensures))))
 
 pub read-head-spec : {M : Type 1} → statement M
 read-head-spec =
     tie.close
     (tie.spec
-    number-in-requires
-    enum-known-first
+    Inv-loop
+    μ-loop
+    loop-holds
+    at-requires
+    next-field-requires
+    enum-known-f
     enum-told
-    halted-requires
+    refusal-of-requires
+    place-of-requires
     returns
-    number-in-requires-2
-    enum-known-second
-    enum-told-2
-    halted-requires-2
+    number-at-requires
+    holds-requires
     returns-2
-    number-in-requires-3
-    enum-known-third
-    enum-told-3
-    halted-requires-3
-    returns-3
-    number-in-requires-4
-    enum-known-fourth
-    enum-told-4
-    halted-requires-4
-    returns-4
-    number-in-requires-5
-    enum-known-fifth
-    enum-told-5
-    halted-requires-5
-    returns-5
-    number-in-requires-6
-    enum-known-sixth
-    enum-told-6
-    halted-requires-6
-    returns-6
-    returns-7)
+    mul-values
+    array-write-values
+    add-at
+    add-i
+    loop-less
+    loop-again
+    numbers-from-requires
+    returns-3)

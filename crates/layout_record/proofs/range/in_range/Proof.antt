@@ -1,73 +1,94 @@
--- `layout_record::range::in_range` meets its contract.
+-- `layout_record::range::in_range` meets its contract. The loop's invariant: the numbers are in range where those from here on are.
 -- Assumes nothing.
+use borrow.Author.Needs.{needs}
 use native.Mathlib.Omega.{arith}
-use Prim.Native.Nat.{_-_}
-use borrow.Author.Tests.{le-leb, lt-leb}
-use Rattle.layout_record.specs.RecordLayoutFaults.{numbersFit}
+use Prim.Native.Nat.{_+_, _-_, _≤_}
+use mathlib.Core.Path.{_≡_, refl, sym, ap, _∙_}
+use mathlib.Core.Bool.{Bool, _&&_}
+use lib.ListN.{length, drop}
+use borrow.Author.Tests.{not-true, not-false}
+use Rattle.layout_record.specs.RecordLayout.{headTable, allHold}
+use Rattle.layout_record.proofs.NumberFields.{range-step, range-end}
 use Rattle.layout_record.proofs.range.in_range.Statement.{statement}
 use Rattle.layout_record.proofs.range.in_range.Tie as tie
 
-returns : tie.Need-returns
-unfolding numbersFit
-returns c = let n = c .before .before .args .n in simp (lt-leb (n .bits) 8 (omega arith))
+abbrev Inv-loop : tie.InvT-loop
+Inv-loop values i₀ i = (i ≤ 6) × (allHold headTable values ≡ allHold (drop i headTable) (drop i values))
 
-returns-2 : tie.Need-returns-2
-unfolding numbersFit
-returns-2 c = let n = c .before .before .before .before .args .n in simp (le-leb (n .bits) 8 (omega arith), lt-leb 1 (n .replication) (omega arith))
+abbrev μ-loop : tie.MeasureT-loop
+μ-loop values i₀ i = 6 - i
 
-returns-3 : tie.Need-returns-3
-unfolding numbersFit
-returns-3 c =
-    let n = c .before .before .before .before .before .before .args .n in
-    simp (le-leb (n .bits) 8 (omega arith), le-leb 1 (n .replication) (omega arith), lt-leb (n .replication) 8 (omega arith))
+-- The test of the number at hand, and of those after it.
+step : (c : tie.After-holds Inv-loop μ-loop) → let k = c .before .before .before in
+    let values = k .before .numbers-in .result in
+    allHold headTable values ≡ c .holds .result && allHold (drop (k .loop .i + 1) headTable) (drop (k .loop .i + 1) values)
+step c =
+    let e = c .before .at in
+    let k = c .before .before .before in
+    let n = k .before .numbers-in in
+    k .loop .inv .1
+    ∙ (range-step (k .loop .i) (omega arith) (e .result) (e .ensures) (n .result) (ap length (n .ensures))
+    ∙ ap (λ (b : Bool). b && allHold (drop (k .loop .i + 1) headTable) (drop (k .loop .i + 1) (n .result))) (sym (c .holds .ensures)))
 
-returns-4 : tie.Need-returns-4
-unfolding numbersFit
-returns-4 c =
-    let n = c .before .before .before .before .before .before .before .before .args .n in
-    simp (le-leb (n .bits) 8 (omega arith), le-leb 1 (n .replication) (omega arith), le-leb (n .replication) 8 (omega arith), lt-leb 1 (n .size) (omega arith))
+numbers-in-requires : tie.Need-numbers-in-requires Inv-loop μ-loop
+numbers-in-requires c κs = search needs
 
-returns-5 : tie.Need-returns-5
-unfolding numbersFit
-returns-5 c =
-    let n = c .before .before .before .before .before .before .before .before .before .before .args .n in
-    simp (
-      le-leb (n .bits) 8 (omega arith),
-      le-leb 1 (n .replication) (omega arith),
-      le-leb (n .replication) 8 (omega arith),
-      le-leb 1 (n .size) (omega arith),
-      le-leb (n .size) 4294967295 (omega arith),
-      lt-leb (n .distance) 4096 (omega arith),
+loop-holds : tie.Need-loop-holds Inv-loop μ-loop
+loop-holds c = (search needs, refl)
+
+at-requires : tie.Need-at-requires Inv-loop μ-loop
+at-requires c κs = search needs
+
+mul-holds : tie.Need-mul-holds Inv-loop μ-loop
+mul-holds c = search needs
+
+array-read-holds : tie.Need-array-read-holds Inv-loop μ-loop
+array-read-holds c = search needs
+
+holds-requires : tie.Need-holds-requires Inv-loop μ-loop
+holds-requires c κs = search needs
+
+returns : tie.Need-returns Inv-loop μ-loop
+returns c =
+    let k = c .before .before .before .before in
+    let n = k .before .numbers-in in
+    sym (ap (allHold headTable) (sym (n .ensures)) ∙ (step (c .before)
+    ∙ ap (λ (b : Bool). b && allHold (drop (k .loop .i + 1) headTable) (drop (k .loop .i + 1) (n .result))) (not-true (c .before .holds .result) (c .if1 .taken))))
+
+add-i : tie.Need-add-i Inv-loop μ-loop
+add-i c = search needs
+
+loop-less : tie.Need-loop-less Inv-loop μ-loop
+loop-less c = search needs
+
+loop-again : tie.Need-loop-again Inv-loop μ-loop
+loop-again c =
+    let k = c .before .before .before .before in
+    let n = k .before .numbers-in in (
+      search needs,
+      step (c .before)
+          ∙ ap (λ (b : Bool). b && allHold (drop (k .loop .i + 1) headTable) (drop (k .loop .i + 1) (n .result))) (not-false (c .before .holds .result) (c .if1 .left)),
     )
 
-returns-6 : tie.Need-returns-6
-unfolding numbersFit
-returns-6 c =
-    let n = c .before .before .before .before .before .before .before .before .before .before .before .before .args .n in
-    simp (
-      le-leb (n .bits) 8 (omega arith),
-      le-leb 1 (n .replication) (omega arith),
-      le-leb (n .replication) 8 (omega arith),
-      le-leb 1 (n .size) (omega arith),
-      le-leb (n .size) 4294967295 (omega arith),
-      le-leb (n .distance) 4096 (omega arith),
-      lt-leb (n .verdict) 1 (omega arith),
-    )
-
-returns-7 : tie.Need-returns-7
-unfolding numbersFit
-returns-7 c =
-    let n = c .before .before .before .before .before .before .before .before .before .before .before .before .before .args .n in
-    simp (
-      le-leb (n .bits) 8 (omega arith),
-      le-leb 1 (n .replication) (omega arith),
-      le-leb (n .replication) 8 (omega arith),
-      le-leb 1 (n .size) (omega arith),
-      le-leb (n .size) 4294967295 (omega arith),
-      le-leb (n .distance) 4096 (omega arith),
-      le-leb (n .verdict) 1 (omega arith),
-    )
+returns-2 : tie.Need-returns-2 Inv-loop μ-loop
+returns-2 c =
+    let n = c .before .before .numbers-in in
+    sym (ap (allHold headTable) (sym (n .ensures)) ∙ (c .before .loop .inv .1 ∙ range-end (c .before .loop .i) (omega arith) (n .result) (ap length (n .ensures))))
 
 pub in-range-spec : {M : Type 1} → statement M
 in-range-spec =
-    tie.close (tie.spec returns returns-2 returns-3 returns-4 returns-5 returns-6 returns-7)
+    tie.close
+    (tie.spec
+    Inv-loop
+    μ-loop
+    numbers-in-requires
+    loop-holds
+    at-requires
+    mul-holds
+    array-read-holds
+    holds-requires
+    returns
+    add-i
+    loop-less
+    loop-again
+    returns-2)

@@ -2,22 +2,24 @@
 -- Assumes nothing.
 use borrow.Author.Needs.{needs}
 use native.Mathlib.Omega.{arith}
-use Prim.Native.Nat.{ℕ, _-_, _^_}
+use Prim.Native.Nat.{ℕ, _-_, _^_, _≤_}
 use mathlib.Core.Path.{_≡_, sym, ap, _∙_}
 use mathlib.Core.Bool.{true}
 use borrow.Author.Tests.{not-true, not-false}
-use Rattle.layout_record.specs.RecordLayout.{InRange}
-use Rattle.layout_record.specs.RecordLayoutFaults.{numbersFit, rowsFit}
-use Rattle.layout_record.proofs.RowFaults.{fit-range, write-cells, write-numbers, write-rows, write-room, write-none}
+use Rattle.cluster.specs.Terms.{mostCopies}
+use Rattle.layout_record.specs.RecordLayout.{inRange}
+use Rattle.layout_record.specs.RecordLayoutFaults.{rowsFit}
+use Rattle.layout_record.proofs.RowFaults.{write-cells, write-numbers, write-rows, write-room, write-none}
+use Rattle.layout_record.proofs.NumberFields.{few-bits, few-copies}
 use Rattle.layout_record.proofs.range.write_fault.Statement.{statement}
 use Rattle.layout_record.proofs.range.write_fault.Tie as tie
 
 -- What the tests leave: the numbers are in range, the rows fit.
-fit : (c : tie.Else2) → numbersFit (c .before .before .before .before .args .numbers) ≡ true
+fit : (c : tie.Else2) → inRange (c .before .before .before .before .args .numbers) ≡ true
 fit c = let r = c .before .in-range in sym (r .ensures) ∙ not-false (r .result) (c .if2 .left)
 
-ranges : (c : tie.Else2) → InRange (c .before .before .before .before .args .numbers)
-ranges c = fit-range (c .before .before .before .before .args .numbers) (fit c)
+copies : (c : tie.Else2) → let n = c .before .before .before .before .args .numbers in (1 ≤ n .replication) × (n .replication ≤ mostCopies)
+copies c = few-copies (c .before .before .before .before .args .numbers) (fit c)
 
 right : (c : tie.Else3) → let a = c .before .before .before .before .before .before .before .args in rowsFit (a .cells .now) (2 ^ (a .numbers .bits)) (a .numbers .replication) ≡ true
 right c =
@@ -38,10 +40,10 @@ returns-2 c =
     sym (write-numbers (a .numbers) (a .cells .now) (a .room) (omega arith) (sym (k .in-range .ensures) ∙ not-true (k .in-range .result) (c .if2 .taken)))
 
 partitions-requires : tie.Need-partitions-requires
-partitions-requires c κs = ranges c .bits
+partitions-requires c κs = few-bits (c .before .before .before .before .args .numbers) (fit c)
 
 rows-fit-requires : tie.Need-rows-fit-requires
-rows-fit-requires c κs = (omega arith, ranges (c .before) .replication .1)
+rows-fit-requires c κs = (omega arith, copies (c .before) .1)
 
 returns-3 : tie.Need-returns-3
 returns-3 c =
@@ -52,7 +54,9 @@ returns-3 c =
     (ap (λ (k : ℕ). rowsFit (a .cells .now) k (a .numbers .replication)) (sym (c .before .before .partitions .ensures)) ∙ (sym (r .ensures) ∙ not-true (r .result) (c .if3 .taken))))
 
 record-length-requires : tie.Need-record-length-requires
-record-length-requires c κs = let r = ranges (c .before .before .before) in (r .bits, r .replication .1)
+record-length-requires c κs =
+    let e = c .before .before .before in
+    (few-bits (e .before .before .before .before .args .numbers) (fit e), copies e .1)
 
 returns-4 : tie.Need-returns-4
 returns-4 c =

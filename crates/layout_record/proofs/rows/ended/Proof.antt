@@ -4,16 +4,18 @@ use borrow.Author.Needs.{needs}
 use mathlib.Core.Path.{sym, ap, ap₂, _∙_}
 use Prim.Native.Nat.{ℕ, _-_}
 use Rattle.cluster.specs.Terms.{Layout}
-use Rattle.fields.specs.RecordField.{refusalOf, placeOf}
-use Rattle.layout_record.specs.RecordLayoutFaults.{refusedAt}
-use Rattle.layout_record.specs.RecordLayoutAnswer.{answerOf}
+use mathlib.Core.List.{List}
+use Rattle.fields.specs.RecordField.{fieldAt, refusalOf, placeOf}
+use Rattle.fields.proofs.Tags.{tags-empty}
+use Rattle.layout_record.specs.RecordLayoutFaults.{layoutRefused}
+use Rattle.layout_record.specs.RecordLayoutAnswer.{layoutAnswer}
 use Rattle.layout_record.proofs.RowFaults.{end-whole, end-more}
 use Rattle.layout_record.proofs.rows.ended.Statement.{statement}
 use Rattle.layout_record.proofs.rows.ended.Tie as tie
 
 returns : tie.Need-returns
-unfolding answerOf
-returns c = let a = c .before .before .args in λ (L : Layout). sym (ap answerOf (end-whole (a .bytes .now) (a .at) (a .numbers) L (c .if1 .taken)))
+unfolding layoutAnswer
+returns c = let a = c .before .before .args in λ (L : Layout). sym (ap layoutAnswer (end-whole (a .bytes .now) (a .at) (a .numbers) L (c .if1 .taken)))
 
 field-at-requires : tie.Need-field-at-requires
 field-at-requires c κs = search needs
@@ -31,10 +33,11 @@ returns-2 : tie.Need-returns-2
 returns-2 c =
     let k = c .before .before .before in
     let a = k .before .before .before .args in
+    let e = k .field-at .ensures .0 ∙ ap (λ (m : List ℕ). fieldAt (a .bytes .now) (a .at) m 0) tags-empty in
     λ (L : Layout). c .refused .ensures
-    ∙ (ap₂ (λ (x y : ℕ). answerOf (refusedAt x y)) (c .before .before .refusal-of .ensures ∙ ap refusalOf (k .field-at .ensures .0))
-    (c .before .place-of .ensures ∙ ap placeOf (k .field-at .ensures .0))
-    ∙ sym (ap answerOf (end-more (a .bytes .now) (a .at) (a .numbers) L (k .before .if1 .left))))
+    ∙ (ap₂ (λ (x y : ℕ). layoutAnswer (layoutRefused x y)) (c .before .before .refusal-of .ensures ∙ ap refusalOf e)
+    (c .before .place-of .ensures ∙ ap placeOf e)
+    ∙ sym (ap layoutAnswer (end-more (a .bytes .now) (a .at) (a .numbers) L (k .before .if1 .left))))
 
 pub ended-spec : {M : Type 1} → statement M
 ended-spec =

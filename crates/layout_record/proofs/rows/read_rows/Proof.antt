@@ -7,14 +7,13 @@ use mathlib.Core.Path.{_≡_, refl, sym, ap, ap₂, _∙_, subst}
 use mathlib.Core.List.{[], _∷_, _++_}
 use native.Mathlib.Nat.{sub-zero}
 use lib.ListN.{length}
-use Rattle.sets.specs.ModelBits.{withOf}
 use Rattle.cluster.specs.Terms.{bufferRows, layoutCells, Layout, cellsOf}
 use Rattle.cluster.proofs.CellLayouts.{length-cellsOf}
 use Rattle.layout_record.proofs.CellsMore.{length-more}
-use Rattle.fields.specs.RecordField.{numberAt, Whole, Within, refusalOf, placeOf}
+use Rattle.fields.specs.RecordField.{numberAt, Whole, Within, refusalOf, placeOf, idsAt}
 use Rattle.layout_record.specs.declared.ReadLayout.{ReadLayout}
-use Rattle.layout_record.specs.RecordLayoutFaults.{Outcome, refusedAt, idsAt, rowFault, rowsFrom}
-use Rattle.layout_record.specs.RecordLayoutAnswer.{answerOf}
+use Rattle.layout_record.specs.RecordLayoutFaults.{LayoutRead, layoutRefused, layoutRowFault, rowsFrom}
+use Rattle.layout_record.specs.RecordLayoutAnswer.{layoutAnswer}
 use Rattle.layout_record.proofs.FieldFaults.{next-refused}
 use Rattle.layout_record.proofs.RowFaults.{few-partitions}
 use Rattle.layout_record.proofs.RowSteps.{rows-stop, rows-fault, rows-on, rows-done, end-layout, cells-next}
@@ -48,12 +47,12 @@ few k = omega (arith, k .before .before .partitions .ensures, few-partitions (st
 whole : (c : tie.After-known-told Inv-loop μ-loop) → let k = c .before .before .before .before .before in
     let a = start k .args in
     let g = c .before .f .given .0 in
-    Whole (length (a .bytes .now)) (k .loop .at) (withOf 0 10) (2 + 4 * a .numbers .replication) (g .0) (g .1 .0) (g .1 .1 .0)
+    Whole (length (a .bytes .now)) (k .loop .at) (10 ∷ []) (2 + 4 * a .numbers .replication) (g .0) (g .1 .0) (g .1 .1 .0)
 whole c =
     let n = c .before .before .before in
     let k = n .before .before in
     let a = start k .args in
-    subst (Within (length (a .bytes .now)) (k .loop .at) (withOf 0 10) (2 + 4 * a .numbers .replication)) (c .before .f .given .1) (n .next-field .ensures .1)
+    subst (Within (length (a .bytes .now)) (k .loop .at) (10 ∷ []) (2 + 4 * a .numbers .replication)) (c .before .f .given .1) (n .next-field .ensures .1)
 
 -- Its body has a partition and as many ids as there are copies.
 inside : (c : tie.After-known-told Inv-loop μ-loop) → let a = start (c .before .before .before .before .before) .args in
@@ -65,13 +64,13 @@ inside c = let w = whole c in (w .only (λ e. omega arith), w .ends)
 faulted : (c : tie.After-row-fault Inv-loop μ-loop) → let k = c .before .before .before .before .before .before in
     let a = start k .args in
     let g = c .before .before .f .given .0 in
-    c .row-fault .result ≡ rowFault (2 ^ (a .numbers .bits)) (length (k .loop .inv .2 .0)) (numberAt (a .bytes .now) (g .1 .0) 2) (idsAt (a .bytes .now) (g .1 .0 + 2) (a .numbers .replication))
+    c .row-fault .result ≡ layoutRowFault (2 ^ (a .numbers .bits)) (length (k .loop .inv .2 .0)) (numberAt (a .bytes .now) (g .1 .0) 2) (idsAt (a .bytes .now) (g .1 .0 + 2) (a .numbers .replication))
 faulted c =
     let k = c .before .before .before .before .before .before in
     let a = start k .args in
     let g = c .before .before .f .given .0 in
     c .row-fault .ensures
-    ∙ ap₂ (λ (x y : ℕ). rowFault x y (numberAt (a .bytes .now) (g .1 .0) 2) (idsAt (a .bytes .now) (g .1 .0 + 2) (a .numbers .replication)))
+    ∙ ap₂ (λ (x y : ℕ). layoutRowFault x y (numberAt (a .bytes .now) (g .1 .0) 2) (idsAt (a .bytes .now) (g .1 .0 + 2) (a .numbers .replication)))
     (k .before .before .partitions .ensures) (sym (k .loop .inv .2 .1))
 
 partitions-requires : tie.Need-partitions-requires Inv-loop μ-loop
@@ -122,7 +121,7 @@ same-length : tie.Need-same-length Inv-loop μ-loop
 same-length c = search needs
 
 returns : tie.Need-returns Inv-loop μ-loop
-unfolding answerOf
+unfolding layoutAnswer
 returns c =
     let n = c .before .before .before .before .before in
     let k = n .before .before in
@@ -130,8 +129,8 @@ returns c =
     let L = k .loop .inv .2 in
     let told = c .before .before .before .enum-told .given .1 in
     let stop = L .3 ∙ rows-stop (a .bytes .now) (k .loop .at) (a .numbers) (L .0) (left k) (omega arith) (n .next-field .result) (n .next-field .ensures .0) _ _ told in
-    let answer = c .refused .ensures ∙ ap₂ (λ (x y : ℕ). answerOf (refusedAt x y)) (c .before .before .refusal-of .ensures ∙ ap refusalOf told) (c .before .place-of .ensures ∙ ap placeOf told) in
-    (answer ∙ sym (ap answerOf stop), λ z. absurd (omega (arith, next-refused (a .bytes .now) (k .loop .at) 10 (2 + 4 * a .numbers .replication) _ _ (sym (n .next-field .ensures .0) ∙ told), sym (ap (λ (r : ReadLayout). r .refusal) answer) ∙ z)))
+    let answer = c .refused .ensures ∙ ap₂ (λ (x y : ℕ). layoutAnswer (layoutRefused x y)) (c .before .before .refusal-of .ensures ∙ ap refusalOf told) (c .before .place-of .ensures ∙ ap placeOf told) in
+    (answer ∙ sym (ap layoutAnswer stop), λ z. absurd (omega (arith, next-refused (a .bytes .now) (k .loop .at) 10 (2 + 4 * a .numbers .replication) _ _ (sym (n .next-field .ensures .0) ∙ told), sym (ap (λ (r : ReadLayout). r .refusal) answer) ∙ z)))
 
 row-fault-requires : tie.Need-row-fault-requires Inv-loop μ-loop
 row-fault-requires c κs = omega (arith, inside c)
@@ -143,7 +142,7 @@ same-length-2 : tie.Need-same-length-2 Inv-loop μ-loop
 same-length-2 c = search needs
 
 returns-2 : tie.Need-returns-2 Inv-loop μ-loop
-unfolding answerOf
+unfolding layoutAnswer
 returns-2 c =
     let t = c .before .before .before in
     let n = t .before .before .before in
@@ -151,7 +150,7 @@ returns-2 c =
     let a = start k .args in
     let L = k .loop .inv .2 in
     let stop = L .3 ∙ rows-fault (a .bytes .now) (k .loop .at) (a .numbers) (L .0) (left k) (omega arith) (n .next-field .result) (n .next-field .ensures .0) _ _ _ _ (t .before .f .given .1) (faulted (c .before .before)) (c .before .if1 .taken) in
-    (c .refused2 .ensures ∙ sym (ap answerOf stop), λ z. absurd (c .before .if1 .taken (sym (ap (λ (r : ReadLayout). r .refusal) (c .refused2 .ensures)) ∙ z)))
+    (c .refused2 .ensures ∙ sym (ap layoutAnswer stop), λ z. absurd (c .before .if1 .taken (sym (ap (λ (r : ReadLayout). r .refusal) (c .refused2 .ensures)) ∙ z)))
 
 add-put-ids : tie.Need-add-put-ids Inv-loop μ-loop
 add-put-ids c = omega (arith, inside (c .before .before .before))
@@ -199,7 +198,7 @@ same-length-3 : tie.Need-same-length-3 Inv-loop μ-loop
 same-length-3 c = search needs
 
 returns-3 : tie.Need-returns-3 Inv-loop μ-loop
-unfolding answerOf
+unfolding layoutAnswer
 returns-3 c =
     let k = c .before .before in
     let a = start k .args in
@@ -207,9 +206,9 @@ returns-3 c =
     let e : left k ≡ 0 = omega arith in
     let done = L .3 ∙ rows-done (a .bytes .now) (k .loop .at) (a .numbers) (L .0) (left k) e in
     let answer = c .ended .ensures (L .0) in (
-      answer ∙ sym (ap answerOf done),
+      answer ∙ sym (ap layoutAnswer done),
       λ z. L .2
-          ∙ sym (ap (λ (o : Outcome). cellsOf (o .layout)) done
+          ∙ sym (ap (λ (o : LayoutRead). cellsOf (o .layout)) done
           ∙ ap cellsOf (end-layout (a .bytes .now) (k .loop .at) (a .numbers) (L .0) (sym (ap (λ (r : ReadLayout). r .refusal) answer) ∙ z))),
     )
 

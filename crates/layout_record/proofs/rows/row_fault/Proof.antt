@@ -4,8 +4,7 @@ use borrow.Author.Needs.{needs}
 use native.Mathlib.Omega.{arith}
 use Prim.Native.Nat.{_+_, _-_}
 use mathlib.Core.Path.{sym, _∙_}
-use Rattle.fields.specs.RecordField.{numberAt}
-use Rattle.layout_record.specs.RecordLayoutFaults.{idsAt}
+use Rattle.fields.specs.RecordField.{numberAt, idsAt}
 use Rattle.layout_record.proofs.RowFaults.{fault-partition, fault-zero, fault-next, fault-falls, fault-none}
 use Rattle.layout_record.proofs.rows.row_fault.Statement.{statement}
 use Rattle.layout_record.proofs.rows.row_fault.Tie as tie

@@ -5,8 +5,7 @@ use native.Mathlib.Omega.{arith}
 use Prim.Native.Nat.{ℕ, _-_, _≤_}
 use mathlib.Core.Path.{_≡_, ap, _∙_}
 use lib.ListN.{length, take, drop}
-use Rattle.fields.specs.RecordField.{written}
-use Rattle.layout_record.specs.RecordLayout.{idBytes}
+use Rattle.fields.specs.RecordField.{written, idBytes}
 use Rattle.layout_record.proofs.Puts.{written-none, put-id}
 use Rattle.layout_record.proofs.write.put_ids.Statement.{statement}
 use Rattle.layout_record.proofs.write.put_ids.Tie as tie

@@ -8,9 +8,10 @@ use lib.ListN.{length}
 use Rattle.cluster.specs.Terms.{rowsIn}
 use Rattle.fields.specs.RecordField.{over}
 use Rattle.fields.proofs.Written.{length-written}
-use Rattle.layout_record.specs.RecordLayout.{numberFields, layoutRecord, InRange}
+use Rattle.layout_record.specs.RecordLayout.{headFields, layoutRecord}
 use Rattle.layout_record.specs.RecordLayoutFaults.{rowsFit}
-use Rattle.layout_record.proofs.RowFaults.{few-partitions, fit-range, Writable, no-fault}
+use Rattle.layout_record.proofs.RowFaults.{few-partitions, Writable, no-fault}
+use Rattle.layout_record.proofs.NumberFields.{few-bits, few-copies}
 use Rattle.layout_record.proofs.PutRows.{head-room, rows-room, whole-room, put-whole}
 use Rattle.layout_record.proofs.write.put_record.Statement.{statement}
 use Rattle.layout_record.proofs.write.put_record.Tie as tie
@@ -19,14 +20,11 @@ use Rattle.layout_record.proofs.write.put_record.Tie as tie
 can : (c : tie.Start) → Writable (c .args .numbers) (c .args .cells .now) (length (c .args .out .now))
 can c = no-fault (c .args .numbers) (c .args .cells .now) (length (c .args .out .now)) (c .pre)
 
-ranges : (c : tie.Start) → InRange (c .args .numbers)
-ranges c = fit-range (c .args .numbers) (can c .fit)
-
 put-numbers-requires : tie.Need-put-numbers-requires
 put-numbers-requires c κs = let k = c .before .before .before in omega (arith, head-room (k .args .numbers) (k .args .cells .now) (length (k .args .out .now)) (can k))
 
 partitions-requires : tie.Need-partitions-requires
-partitions-requires c κs = ranges (c .before .before .before .before .before .before .before) .bits
+partitions-requires c κs = let k = c .before .before .before .before .before .before .before in few-bits (k .args .numbers) (can k .fit)
 
 cast-put-rows : tie.Need-cast-put-rows
 cast-put-rows c = search needs
@@ -37,10 +35,10 @@ put-rows-requires c κs =
     let k = n .before .before .before .before in
     let a = k .args in
     let e = c .before .partitions .ensures in (
-      omega (arith, rows-room (a .numbers) (a .cells .now) (length (a .out .now)) _ e (can k), ap length (n .put-numbers .ensures) ∙ length-written (a .out .now) 0 (numberFields (a .numbers))),
+      omega (arith, rows-room (a .numbers) (a .cells .now) (length (a .out .now)) _ e (can k), ap length (n .put-numbers .ensures) ∙ length-written (a .out .now) 0 (headFields (a .numbers))),
       omega (arith, can k .whole),
-      omega (arith, e, few-partitions (a .numbers .bits) (ranges k .bits)),
-      ranges k .replication .1,
+      omega (arith, e, few-partitions (a .numbers .bits) (few-bits (a .numbers) (can k .fit))),
+      few-copies (a .numbers) (can k .fit) .1,
       ap (λ (p : ℕ). rowsFit (a .cells .now) p (a .numbers .replication)) e ∙ can k .rows,
     )
 

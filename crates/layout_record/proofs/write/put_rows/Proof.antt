@@ -9,7 +9,7 @@ use lib.ListN.{length}
 use Rattle.sums.specs.TermsSums.{tab}
 use Rattle.cluster.specs.Terms.{rowsIn}
 use Rattle.fields.specs.RecordField.{written}
-use Rattle.layout_record.specs.RecordLayout.{rowFields}
+use Rattle.layout_record.specs.RecordLayout.{layoutRowFields}
 use Rattle.layout_record.proofs.Puts.{written-none}
 use Rattle.layout_record.proofs.RecordLaws.{row-ends}
 use Rattle.layout_record.proofs.PutRows.{next-at, put-row-next}
@@ -18,7 +18,7 @@ use Rattle.layout_record.proofs.write.put_rows.Tie as tie
 
 abbrev Inv-loop : tie.InvT-loop
 Inv-loop out₀ cells partitions count at₀ p₀ out at p =
-    (p ≤ partitions) × (length out ≡ length out₀) × (at ≡ 29 + p * (5 + 4 * count)) × (out ≡ written out₀ 29 (rowFields 0 (rowsIn p cells)))
+    (p ≤ partitions) × (length out ≡ length out₀) × (at ≡ 29 + p * (5 + 4 * count)) × (out ≡ written out₀ 29 (layoutRowFields 0 (rowsIn p cells)))
 
 abbrev μ-loop : tie.MeasureT-loop
 μ-loop out₀ cells partitions count at₀ p₀ out at p = partitions - p
@@ -28,7 +28,7 @@ room : (c : tie.In-loop Inv-loop μ-loop) → let a = c .before .before .before 
 room c = let a = c .before .before .before .before .args in omega (arith, row-ends (c .before .loop .p) (a .partitions) (5 + 4 * a .count) (omega arith))
 
 loop-holds : tie.Need-loop-holds Inv-loop μ-loop
-unfolding rowFields rowsIn tab
+unfolding layoutRowFields rowsIn tab
 loop-holds c =
     let a = c .before .before .args in
     (search needs, search needs, omega (arith, zero-mul (5 + 4 * a .count)), written-none (a .out .now) 29)
@@ -71,7 +71,7 @@ returns c =
     let k = c .before in
     let a = k .before .before .before .args in
     let e : k .loop .p ≡ a .partitions = omega arith in
-    k .loop .inv .3 ∙ ap (λ (p : ℕ). written (a .out .now) 29 (rowFields 0 (rowsIn p (a .cells .now)))) e
+    k .loop .inv .3 ∙ ap (λ (p : ℕ). written (a .out .now) 29 (layoutRowFields 0 (rowsIn p (a .cells .now)))) e
 
 pub put-rows-spec : {M : Type 1} → statement M
 put-rows-spec =

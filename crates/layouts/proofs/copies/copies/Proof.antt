@@ -7,7 +7,7 @@ use mathlib.Core.Path.{_≡_, sym, ap, _∙_}
 use lib.ListN.{length}
 use Rattle.cluster.specs.Terms.{bufferRows, topology, partitions}
 use Rattle.layouts.specs.ModelScans.{copiesSoFar}
-use Rattle.cluster.proofs.Accepting.{accepted}
+use Rattle.cluster.proofs.Accepting.{partitions-in-range, accepted}
 use Rattle.layouts.proofs.FaultMeaning.{each-formed}
 use Rattle.layouts.proofs.CopyWalk.{length-so-far, so-far-none}
 use Rattle.layouts.proofs.copies.copies.Statement.{statement}
@@ -22,6 +22,11 @@ abbrev μ-loop : tie.MeasureT-loop
 partitions-requires : tie.Need-partitions-requires Inv-loop μ-loop
 partitions-requires c κs = search needs
 
+-- The number of partitions of a cluster without fault.
+rows : (c : tie.After-partitions Inv-loop μ-loop) → c .partitions .result ≡ partitions (topology (c .before .before .args .c))
+rows c = let s = c .before .before in
+    c .partitions .ensures .0 ∙ partitions-in-range (s .args .c .bits) (accepted (s .args .c) (s .pre .0) .bits)
+
 loop-holds : tie.Need-loop-holds Inv-loop μ-loop
 loop-holds c = (search needs, search needs, so-far-none (topology (c .before .before .args .c)) (c .before .before .args .cells .now))
 
@@ -33,7 +38,7 @@ slice-aggregate-count-row c = let k = c .before .before in
 count-row-requires : tie.Need-count-row-requires Inv-loop μ-loop
 count-row-requires c κs = let k = c .before .before in
     let s = k .before .before .before in
-    (s .pre .0, search needs, s .pre .1, each-formed (topology (s .args .c)) (s .args .cells .now) (accepted (s .args .c) (s .pre .0)) (s .pre .2) (k .loop .p) (omega arith), k .loop .inv .2)
+    (s .pre .0, search needs, s .pre .1, each-formed (topology (s .args .c)) (s .args .cells .now) (accepted (s .args .c) (s .pre .0)) (s .pre .2) (k .loop .p) (omega (arith, rows (k .before))), k .loop .inv .2)
 
 add-p : tie.Need-add-p Inv-loop μ-loop
 add-p c = search needs
@@ -47,7 +52,7 @@ loop-again c = (search needs, search needs, c .before .count-row .ensures)
 returns : tie.Need-returns Inv-loop μ-loop
 returns c = let k = c .before in
     let s = k .before .before .before in
-    let e : k .loop .p ≡ partitions (topology (s .args .c)) = omega arith in
+    let e : k .loop .p ≡ partitions (topology (s .args .c)) = omega (arith, rows (k .before)) in
     k .loop .inv .2 ∙ ap (copiesSoFar (topology (s .args .c)) (s .args .cells .now)) e
 
 pub copies-spec : {M : Type 1} → statement M

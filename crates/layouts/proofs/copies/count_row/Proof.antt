@@ -10,7 +10,7 @@ use native.Mathlib.Nat.{add-zero}
 use lib.ListN.{length, drop, getD}
 use Rattle.sums.specs.TermsSums.{tab}
 use Rattle.sets.proofs.Laws.{member-true, member-false}
-use Rattle.cluster.specs.Terms.{topology}
+use Rattle.cluster.specs.Terms.{mostNodes, topology}
 use Rattle.cluster.proofs.Accepting.{accepted}
 use Rattle.cluster.proofs.RowScans.{row-of-buffer}
 use Rattle.masks.proofs.Laws.{mask-bits}
@@ -20,10 +20,10 @@ use Rattle.layouts.proofs.copies.count_row.Statement.{statement}
 use Rattle.layouts.proofs.copies.count_row.Tie as tie
 
 abbrev Inv-loop : tie.InvT-loop
-Inv-loop cells p counts₀ nodes b₀ counts b = (b ≤ 32) × (length counts ≡ length counts₀) × (length counts₀ ≡ 32) × (counts ≡ tab (oneMore counts₀ nodes) b ++ drop b counts₀)
+Inv-loop cells p counts₀ nodes b₀ counts b = (b ≤ mostNodes) × (length counts ≡ length counts₀) × (length counts₀ ≡ mostNodes) × (counts ≡ tab (oneMore counts₀ nodes) b ++ drop b counts₀)
 
 abbrev μ-loop : tie.MeasureT-loop
-μ-loop cells p counts₀ nodes b₀ counts b = 32 - b
+μ-loop cells p counts₀ nodes b₀ counts b = mostNodes - b
 
 -- The mask of the row is the set of the nodes that it names.
 nodes : (c : tie.After-row-mask Inv-loop μ-loop)

@@ -2,12 +2,12 @@
 -- Assumes nothing.
 use borrow.Author.Needs.{needs}
 use native.Mathlib.Omega.{arith}
-use Prim.Native.Nat.{ℕ, _*_, _/_}
-use mathlib.Core.Path.{ap₂}
+use Prim.Native.Nat.{_^_, ℕ, _*_, _/_}
+use mathlib.Core.Path.{_≡_, _∙_, ap₂}
 use native.Mathlib.Nat.{mul-le-mul-right}
 use lib.Pow.{pow-pos}
 use Rattle.cluster.specs.Terms.{partitions}
-use Rattle.cluster.proofs.Accepting.{accepted}
+use Rattle.cluster.proofs.Accepting.{partitions-in-range, accepted}
 use Rattle.layouts.specs.TermsFigures.{hopeOf}
 use Rattle.layouts.proofs.figures.hope.Statement.{statement}
 use Rattle.layouts.proofs.figures.hope.Tie as tie
@@ -17,6 +17,11 @@ cast-copies c = search needs
 
 partitions-requires : tie.Need-partitions-requires
 partitions-requires c κs = search needs
+
+-- The number of partitions of a cluster without fault.
+rows : (c : tie.After-partitions) → c .partitions .result ≡ 2 ^ (c .before .before .args .c .bits)
+rows c = let s = c .before .before in
+    c .partitions .ensures .0 ∙ partitions-in-range (s .args .c .bits) (accepted (s .args .c) (s .pre) .bits)
 
 mul-copies : tie.Need-mul-copies
 mul-copies c = let a = accepted (c .before .before .args .c) (c .before .before .pre) in
@@ -28,12 +33,12 @@ total-capacity-requires c κs = search needs
 div-result : tie.Need-div-result
 div-result c = let s = c .before .before .before in
     let a = accepted (s .args .c) (s .pre) in
-    omega (arith, mul-le-mul-right (c .before .partitions .result) (a .replication .0), pow-pos (s .args .c .bits))
+    omega (arith, mul-le-mul-right (c .before .partitions .result) (a .replication .0), pow-pos (s .args .c .bits), rows (c .before))
 
 returns : tie.Need-returns
 unfolding hopeOf
 returns c = let a = c .before .before .before .args .c in
-    ap₂ (λ (n m : ℕ). n / (a .replication * m)) (c .total-capacity .ensures) (c .before .partitions .ensures .0)
+    ap₂ (λ (n m : ℕ). n / (a .replication * m)) (c .total-capacity .ensures) (rows (c .before))
 
 pub hope-spec : {M : Type 1} → statement M
 hope-spec =

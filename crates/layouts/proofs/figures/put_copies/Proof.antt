@@ -7,16 +7,17 @@ use mathlib.Core.Path.{_≡_, sym, ap, ap₂, _∙_}
 use mathlib.Core.List.{List}
 use native.Mathlib.Nat.{zero-add}
 use lib.ListN.{length, getD, set}
+use Rattle.cluster.specs.Terms.{mostNodes}
 use Rattle.cells.specs.ModelCells.{put}
 use Rattle.cells.proofs.Cells.{put-none, put-more}
 use Rattle.layouts.proofs.figures.put_copies.Statement.{statement}
 use Rattle.layouts.proofs.figures.put_copies.Tie as tie
 
 abbrev Inv-loop : tie.InvT-loop
-Inv-loop cells₀ counts b₀ cells b = (b ≤ 32) × (length cells ≡ length cells₀) × (cells ≡ put 0 (λ i. getD counts i 0) b cells₀)
+Inv-loop cells₀ counts b₀ cells b = (b ≤ mostNodes) × (length cells ≡ length cells₀) × (cells ≡ put 0 (λ i. getD counts i 0) b cells₀)
 
 abbrev μ-loop : tie.MeasureT-loop
-μ-loop cells₀ counts b₀ cells b = 32 - b
+μ-loop cells₀ counts b₀ cells b = mostNodes - b
 
 loop-holds : tie.Need-loop-holds Inv-loop μ-loop
 loop-holds c = (search needs, search needs, put-none 0 _ _)
@@ -54,7 +55,7 @@ same-length c = search needs
 returns : tie.Need-returns Inv-loop μ-loop
 returns c = let k = c .before in
     let a = k .before .args in
-    let e : k .loop .b ≡ 32 = omega arith in
+    let e : k .loop .b ≡ mostNodes = omega arith in
     k .loop .inv .2 ∙ ap (λ (n : ℕ). put 0 (λ i. getD (a .t1) i 0) n (a .cells .now)) e
 
 pub put-copies-spec : {M : Type 1} → statement M

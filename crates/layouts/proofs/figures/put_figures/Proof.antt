@@ -8,10 +8,9 @@ use mathlib.Core.List.{List}
 use lib.ListN.{length, getD}
 use Rattle.cells.specs.ModelCells.{put}
 use Rattle.cells.proofs.Cells.{length-put}
-use Rattle.cluster.specs.Terms.{topology, partitions}
-use Rattle.cluster.proofs.Accepting.{accepted, few-nodes}
+use Rattle.cluster.specs.Terms.{mostNodes, topology, partitions}
+use Rattle.cluster.proofs.Accepting.{few-partitions, accepted, few-nodes}
 use Rattle.layouts.specs.ModelScans.{zoneSum}
-use Rattle.layouts.proofs.Sound.{few-rows}
 use Rattle.layouts.proofs.CopyWalk.{so-far-few}
 use Rattle.layouts.proofs.FigureWalk.{all-figures}
 use Rattle.layouts.proofs.figures.put_figures.Statement.{statement}
@@ -32,10 +31,10 @@ put-zones-requires c κs = let k = c .before .before .before .before .before in
         arith,
         ap (λ (r : List ℕ). getD r x 0) (k .copies .ensures),
         so-far-few t (s .args .assignment .now) (partitions t) x l,
-        few-rows t (accepted (s .args .c) (s .pre .0)),
+        few-partitions (t .bits) (accepted (s .args .c) (s .pre .0) .bits),
       ),
       omega
-          (arith, ap length (c .before .before .before .put-copies .ensures), length-put 0 (λ b. getD (k .copies .result) b 0) 32 (s .args .cells .now), s .pre .3),
+          (arith, ap length (c .before .before .before .put-copies .ensures), length-put 0 (λ b. getD (k .copies .result) b 0) mostNodes (s .args .cells .now), s .pre .3),
     )
 
 same-length : tie.Need-same-length
@@ -48,7 +47,7 @@ returns c = let z = c .before .before in
     let s = k .before .before .before in
     let t = topology (s .args .c) in
     z .put-zones .ensures
-    ∙ (ap (put 32 (zoneSum t (k .copies .result)) 32) (q .put-copies .ensures)
+    ∙ (ap (put mostNodes (zoneSum t (k .copies .result)) mostNodes) (q .put-copies .ensures)
     ∙ all-figures t (s .args .assignment .now) (partitions t) (accepted (s .args .c) (s .pre .0) .few) (k .copies .result) (s .args .cells .now) (k .copies .ensures))
 
 pub put-figures-spec : {M : Type 1} → statement M

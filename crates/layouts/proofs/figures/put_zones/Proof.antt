@@ -1,4 +1,4 @@
--- `layouts::figures::put_zones` meets its contract. The loop's invariant: the first b of the cells from 32 on are written.
+-- `layouts::figures::put_zones` meets its contract. The loop's invariant: the first b of the second half are written.
 -- Assumes nothing.
 use borrow.Author.Needs.{needs}
 use native.Mathlib.Omega.{arith}
@@ -8,19 +8,19 @@ use mathlib.Core.List.{List}
 use lib.ListN.{length, set}
 use Rattle.cells.specs.ModelCells.{put}
 use Rattle.cells.proofs.Cells.{put-none, put-more}
-use Rattle.cluster.specs.Terms.{topology}
+use Rattle.cluster.specs.Terms.{mostNodes, topology}
 use Rattle.layouts.specs.ModelScans.{zoneSum}
 use Rattle.layouts.proofs.figures.put_zones.Statement.{statement}
 use Rattle.layouts.proofs.figures.put_zones.Tie as tie
 
 abbrev Inv-loop : tie.InvT-loop
-Inv-loop c counts cells₀ b₀ cells b = (b ≤ 32) × (length cells ≡ length cells₀) × (cells ≡ put 32 (zoneSum (topology c) counts) b cells₀)
+Inv-loop c counts cells₀ b₀ cells b = (b ≤ mostNodes) × (length cells ≡ length cells₀) × (cells ≡ put mostNodes (zoneSum (topology c) counts) b cells₀)
 
 abbrev μ-loop : tie.MeasureT-loop
-μ-loop c counts cells₀ b₀ cells b = 32 - b
+μ-loop c counts cells₀ b₀ cells b = mostNodes - b
 
 loop-holds : tie.Need-loop-holds Inv-loop μ-loop
-loop-holds c = (search needs, search needs, put-none 32 _ _)
+loop-holds c = (search needs, search needs, put-none mostNodes _ _)
 
 zone-copies-requires : tie.Need-zone-copies-requires Inv-loop μ-loop
 zone-copies-requires c κs = let s = c .before .before .before in (s .pre .0, s .pre .1)
@@ -45,8 +45,8 @@ loop-again c = let k = c .before .before in
     let a = k .before .before .args in (
       search needs,
       search needs,
-      ap₂ (λ (l : List ℕ) (v : ℕ). set l (32 + k .loop .b) v) (k .loop .inv .2) (c .zone-copies .ensures)
-          ∙ put-more 32 (zoneSum (topology (a .c)) (a .counts)) (k .loop .b) (a .cells .now),
+      ap₂ (λ (l : List ℕ) (v : ℕ). set l (mostNodes + k .loop .b) v) (k .loop .inv .2) (c .zone-copies .ensures)
+          ∙ put-more mostNodes (zoneSum (topology (a .c)) (a .counts)) (k .loop .b) (a .cells .now),
     )
 
 same-length : tie.Need-same-length Inv-loop μ-loop
@@ -55,8 +55,8 @@ same-length c = search needs
 returns : tie.Need-returns Inv-loop μ-loop
 returns c = let k = c .before in
     let a = k .before .before .args in
-    let e : k .loop .b ≡ 32 = omega arith in
-    k .loop .inv .2 ∙ ap (λ (n : ℕ). put 32 (zoneSum (topology (a .c)) (a .counts)) n (a .cells .now)) e
+    let e : k .loop .b ≡ mostNodes = omega arith in
+    k .loop .inv .2 ∙ ap (λ (n : ℕ). put mostNodes (zoneSum (topology (a .c)) (a .counts)) n (a .cells .now)) e
 
 pub put-zones-spec : {M : Type 1} → statement M
 put-zones-spec =

@@ -2,26 +2,26 @@
 -- Assumes nothing.
 use borrow.Author.Needs.{needs}
 use native.Mathlib.Omega.{arith}
-use Prim.Native.Nat.{ℕ, _≤_, _-_, _*_}
+use Prim.Native.Nat.{_^_, ℕ, _≤_, _-_, _*_}
 use mathlib.Core.Path.{_≡_, refl, sym, ap, _∙_}
 use lib.ListN.{length, getD}
+use Rattle.sums.proofs.Sum.{sum-next}
 use Rattle.sums.specs.TermsSums.{sumTo}
 use Rattle.cells.proofs.Cells.{length-of-map}
-use Rattle.cluster.specs.Terms.{topology, noNode, nodeAt}
+use Rattle.cluster.specs.Terms.{mostNodes, topology, noNode, nodeAt}
 use Rattle.cluster.specs.declared.Node.{Node}
 use Rattle.cluster.proofs.Slots.{node-slot}
 use Rattle.cluster.proofs.Accepting.{few-nodes, nodes-count}
-use Rattle.layouts.proofs.FigureWalk.{add-turn}
 use Rattle.layouts.proofs.figures.total_capacity.Statement.{statement}
 use Rattle.layouts.proofs.figures.total_capacity.Tie as tie
 
 abbrev Inv-loop : tie.InvT-loop
-Inv-loop c n total₀ b₀ total b = (b ≤ n) × (n ≤ 32) × (total ≤ 4294967296 * b) × (total ≡ sumTo b (λ i. nodeAt (topology c) i .capacity))
+Inv-loop c n total₀ b₀ total b = (b ≤ n) × (n ≤ mostNodes) × (total ≤ 2 ^ 32 * b) × (total ≡ sumTo b (λ i. nodeAt (topology c) i .capacity))
 
 abbrev μ-loop : tie.MeasureT-loop
 μ-loop c n total₀ b₀ total b = n - b
 
-long : (c : tie.Start Inv-loop μ-loop) → length (c .args .t1 .nodes) ≡ 32
+long : (c : tie.Start Inv-loop μ-loop) → length (c .args .t1 .nodes) ≡ mostNodes
 long c = search length-of-map
 
 loop-holds : tie.Need-loop-holds Inv-loop μ-loop
@@ -52,7 +52,7 @@ loop-again c = let k = c .before .before .before in
       search needs,
       search needs,
       search needs,
-      add-turn (k .loop .total) (getD (a .nodes) (k .loop .b) noNode .capacity) (k .loop .b) (λ i. nodeAt (topology a) i .capacity) (k .loop .inv .3)
+      sum-next (λ i. nodeAt (topology a) i .capacity) (k .loop .b) (k .loop .total) (getD (a .nodes) (k .loop .b) noNode .capacity) (k .loop .inv .3)
           (sym (ap (λ (n : Node). n .capacity) (node-slot a (k .loop .b) (search needs)))),
     )
 

@@ -6,25 +6,26 @@ use Prim.Native.Nat.{ℕ, _≤_, _-_, _*_}
 use mathlib.Core.Path.{_≡_, refl, ap, _∙_}
 use mathlib.Core.Logic.{⊎-elim}
 use lib.ListN.{length}
+use Rattle.sums.proofs.Sum.{sum-next}
 use Rattle.sums.specs.TermsSums.{sumTo}
 use Rattle.cells.proofs.Cells.{length-of-map}
-use Rattle.cluster.specs.Terms.{topology}
+use Rattle.cluster.specs.Terms.{mostNodes, bufferRows, topology}
 use Rattle.cluster.proofs.Accepting.{nodes-count}
-use Rattle.layouts.proofs.FigureWalk.{zoneTerm, term-same, term-other, zone-unused, zone-used, add-turn}
+use Rattle.layouts.proofs.FigureWalk.{zoneTerm, term-same, term-other, zone-unused, zone-used}
 use Rattle.layouts.proofs.figures.zone_copies.Statement.{statement}
 use Rattle.layouts.proofs.figures.zone_copies.Tie as tie
 
 abbrev Inv-loop : tie.InvT-loop
-Inv-loop b c counts n zone total₀ x₀ total x = (x ≤ n) × (total ≤ 256 * x) × (total ≡ sumTo x (zoneTerm (topology c) counts b))
+Inv-loop b c counts n zone total₀ x₀ total x = (x ≤ n) × (total ≤ bufferRows * x) × (total ≡ sumTo x (zoneTerm (topology c) counts b))
 
 abbrev μ-loop : tie.MeasureT-loop
 μ-loop b c counts n zone total₀ x₀ total x = n - x
 
-long : (c : tie.Start Inv-loop μ-loop) → length (c .args .t1 .nodes) ≡ 32
+long : (c : tie.Start Inv-loop μ-loop) → length (c .args .t1 .nodes) ≡ mostNodes
 long c = search length-of-map
 
 -- What a node adds is at most the number of rows.
-few-more : (c : tie.Joined2 Inv-loop μ-loop) → c .if2 .more ≤ 256
+few-more : (c : tie.Joined2 Inv-loop μ-loop) → c .if2 .more ≤ bufferRows
 few-more c =
     let k = c .before .before in
     let s = k .before .before in
@@ -70,7 +71,7 @@ loop-again c = let k = c .before .before .before in
     let a = k .before .before .args in (
       search needs,
       omega (arith, few-more (c .before)),
-      add-turn (k .loop .total) (c .before .if2 .more) (k .loop .x) (zoneTerm (topology (a .t1)) (a .t2) (a .b)) (k .loop .inv .2)
+      sum-next (zoneTerm (topology (a .t1)) (a .t2) (a .b)) (k .loop .x) (k .loop .total) (c .before .if2 .more) (k .loop .inv .2)
           (⊎-elim (λ w. w .1 ∙ term-same (a .t1) (a .t2) (a .b) (k .loop .x) (search needs) (search needs) (w .0 .taken))
           (λ w. w .1 ∙ term-other (a .t1) (a .t2) (a .b) (k .loop .x) (search needs) (search needs) (w .0 .left)) (c .before .if2 .came)),
     )

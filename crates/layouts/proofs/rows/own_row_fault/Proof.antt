@@ -10,10 +10,9 @@ use Rattle.cluster.specs.Terms.{bufferRows, topology}
 use Rattle.cluster.specs.TermsReading.{Accepted}
 use Rattle.cluster.specs.ModelRows.{rowIds}
 use Rattle.incidence.specs.ModelIncidence.{zoneCells}
-use Rattle.cluster.proofs.Accepting.{accepted}
+use Rattle.cluster.proofs.Accepting.{few-partitions, accepted}
 use Rattle.masks.specs.ModelMasks.{rowMask}
 use Rattle.layouts.specs.ModelScans.{zonesIn}
-use Rattle.layouts.proofs.Sound.{few-rows}
 use Rattle.layouts.proofs.RowFaults.{fault-ids, fault-nodes, fault-zones, fault-none}
 use Rattle.layouts.proofs.rows.own_row_fault.Statement.{statement}
 use Rattle.layouts.proofs.rows.own_row_fault.Tie as tie
@@ -23,7 +22,7 @@ sound s = accepted (s .args .c) (s .pre .0)
 
 -- The row is one of the buffer's.
 inside : (s : tie.Start) → s .args .p < bufferRows
-inside s = omega (arith, s .pre .2, few-rows (topology (s .args .c)) (sound s))
+inside s = omega (arith, s .pre .2, few-partitions (s .args .c .bits) (sound s .bits))
 
 -- The row has as many ids as there are copies.
 ids : (c : tie.Else1) → rowIds (c .before .before .before .before .args .cells .now) (c .before .before .before .before .args .p) ≡ c .before .before .before .before .args .c .replication

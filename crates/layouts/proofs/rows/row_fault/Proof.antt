@@ -4,8 +4,8 @@ use borrow.Author.Needs.{needs}
 use native.Mathlib.Omega.{arith}
 use mathlib.Core.Path.{_≡_, sym, ap, _∙_}
 use mathlib.Core.Bool.{Bool, cond}
-use Rattle.cluster.specs.Terms.{topology}
-use Rattle.cluster.proofs.Accepting.{accepted}
+use Rattle.cluster.specs.Terms.{partitions, topology}
+use Rattle.cluster.proofs.Accepting.{partitions-in-range, accepted}
 use Rattle.layouts.specs.TermsCheck.{rowFault}
 use Rattle.layouts.proofs.RowFaults.{fault-beyond}
 use Rattle.layouts.proofs.rows.row_fault.Statement.{statement}
@@ -14,8 +14,13 @@ use Rattle.layouts.proofs.rows.row_fault.Tie as tie
 partitions-requires : tie.Need-partitions-requires
 partitions-requires c κs = search needs
 
+-- The number of partitions of a cluster without fault.
+rows : (c : tie.After-partitions) → c .partitions .result ≡ partitions (topology (c .before .before .args .c))
+rows c = let s = c .before .before in
+    c .partitions .ensures .0 ∙ partitions-in-range (s .args .c .bits) (accepted (s .args .c) (s .pre .0) .bits)
+
 own-row-fault-requires : tie.Need-own-row-fault-requires
-own-row-fault-requires c κs = search needs
+own-row-fault-requires c κs = let s = c .before .before .before in (s .pre .0, s .pre .1, omega (arith, rows (c .before)), s .pre .3)
 
 returns : tie.Need-returns
 returns c = search needs
@@ -29,7 +34,7 @@ beyond : (c : tie.After-row-is-blank)
     ≡ cond (c .row-is-blank .result) 0 10
 beyond c =
     let s = c .before .before .before .before in
-    fault-beyond (topology (s .args .c)) (s .args .cells .now) (s .args .p) (accepted (s .args .c) (s .pre .0)) (s .pre .3) (s .pre .2) (omega arith)
+    fault-beyond (topology (s .args .c)) (s .args .cells .now) (s .args .p) (accepted (s .args .c) (s .pre .0)) (s .pre .3) (s .pre .2) (omega (arith, rows (c .before .before)))
     ∙ ap (λ (b : Bool). cond b 0 10) (sym (c .row-is-blank .ensures))
 
 returns-2 : tie.Need-returns-2

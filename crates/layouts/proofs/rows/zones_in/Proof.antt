@@ -6,6 +6,7 @@ use Prim.Native.Nat.{ℕ, _≤_, _-_}
 use mathlib.Core.Path.{_≡_, sym, ap, _∙_}
 use mathlib.Core.Logic.{⊎-elim}
 use lib.ListN.{getD}
+use Rattle.cluster.specs.Terms.{mostNodes}
 use Rattle.sets.specs.ModelBits.{withOf}
 use Rattle.layouts.specs.ModelScans.{zonesIn}
 use Rattle.layouts.proofs.RowWalks.{zonesTo, zones-none, zones-put, zones-pass}
@@ -13,10 +14,10 @@ use Rattle.layouts.proofs.rows.zones_in.Statement.{statement}
 use Rattle.layouts.proofs.rows.zones_in.Tie as tie
 
 abbrev Inv-loop : tie.InvT-loop
-Inv-loop nodes zones covered₀ b₀ covered b = (b ≤ 32) × (covered ≡ zonesTo zones nodes b)
+Inv-loop nodes zones covered₀ b₀ covered b = (b ≤ mostNodes) × (covered ≡ zonesTo zones nodes b)
 
 abbrev μ-loop : tie.MeasureT-loop
-μ-loop nodes zones covered₀ b₀ covered b = 32 - b
+μ-loop nodes zones covered₀ b₀ covered b = mostNodes - b
 
 loop-holds : tie.Need-loop-holds Inv-loop μ-loop
 loop-holds c = (search needs, zones-none _ _)
@@ -59,7 +60,7 @@ loop-again c = let k = c .before .before .before in
 returns : tie.Need-returns Inv-loop μ-loop
 unfolding zonesIn zonesTo
 returns c = let k = c .before in
-    let e : k .loop .b ≡ 32 = omega arith in
+    let e : k .loop .b ≡ mostNodes = omega arith in
     k .loop .inv .1 ∙ ap (zonesTo (k .before .args .t1) (k .before .args .nodes)) e
 
 pub zones-in-spec : {M : Type 1} → statement M

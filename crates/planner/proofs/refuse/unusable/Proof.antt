@@ -2,7 +2,7 @@ use borrow.Author.Needs.{needs}
 use native.Mathlib.Omega.{arith}
 use mathlib.Core.Path.{_≡_, sym, ap, _∙_}
 use Rattle.cluster.specs.Terms.{topology, partitions, faultOf}
-use Rattle.cluster.proofs.Accepting.{accepted}
+use Rattle.cluster.proofs.Accepting.{partitions-in-range, accepted}
 use Rattle.masks.specs.ModelMasks.{rowsFormed}
 use Rattle.planner.proofs.Refusals.{short-former, short-assignment, short-scratch, faulty, usable, ill-formed}
 use Rattle.planner.proofs.refuse.unusable.Statement.{statement}
@@ -11,7 +11,6 @@ use Rattle.planner.proofs.refuse.unusable.Reads as reads
 use Rattle.planner.proofs.refuse.unusable.Lts as lts
 use Rattle.cluster.proofs.Cluster.fault.Reads as fault-reads
 use Rattle.masks.proofs.rows_formed.Reads as rows-formed-reads
-use Rattle.planner.proofs.refuse.partitions.Reads as partitions-reads
 
 returns : tie.Need-returns
 returns c = short-former _ _ _ _ (c .if1 .taken)
@@ -28,7 +27,9 @@ faultless c = sym (c .before .fault .ensures) ∙ c .if4 .left
 
 -- The test of the rows is the one of the definition.
 rows-told : (c : tie.After-rows-formed) → c .rows-formed .result ≡ rowsFormed (c .before .before .before .before .before .before .before .before .args .former .now) (partitions (topology (c .before .before .before .before .before .before .before .before .args .c)))
-rows-told c = c .rows-formed .ensures ∙ ap (rowsFormed _) (c .before .partitions .ensures .0)
+rows-told c =
+    c .rows-formed .ensures
+    ∙ ap (rowsFormed _) (c .before .partitions .ensures .0 ∙ partitions-in-range _ (accepted _ (faultless (c .before .before)) .bits))
 
 fault-requires : tie.Need-fault-requires
 fault-requires c κs = search needs
@@ -39,7 +40,7 @@ returns-4 c =
     e ∙ faulty _ _ _ _ (omega arith) (omega arith) (omega arith) (λ q. c .if4 .taken (e ∙ q))
 
 partitions-requires : tie.Need-partitions-requires
-partitions-requires c κs = accepted _ (faultless c) .bits
+partitions-requires c κs = search needs
 
 rows-formed-requires : tie.Need-rows-formed-requires
 rows-formed-requires c κs = search needs

@@ -4,9 +4,10 @@ use mathlib.Core.Path.{_≡_, sym, ap, _∙_}
 use mathlib.Core.List.{List}
 use Prim.Native.Nat.{ℕ}
 use lib.ListN.{length}
+use Rattle.sizing.proofs.Reading.{caps-in}
 use Rattle.cells.proofs.Cells.{length-of-map}
-use Rattle.cluster.specs.Terms.{topology}
-use Rattle.cluster.proofs.Accepting.{accepted, few-nodes, nodes-count}
+use Rattle.cluster.specs.Terms.{partitions, topology}
+use Rattle.cluster.proofs.Accepting.{partitions-in-range, accepted, few-nodes, nodes-count}
 use Rattle.sizing.specs.ModelSizing.{nodesOf}
 use Rattle.improve.specs.ModelRun.{Ran}
 use Rattle.planner.proofs.Settling.{run-is}
@@ -15,7 +16,6 @@ use Rattle.planner.proofs.settle.improved.Tie as tie
 use Rattle.planner.proofs.settle.improved.Reads as reads
 use Rattle.planner.proofs.settle.improved.Lts as lts
 use Rattle.improve.proofs.run.Reads as run-reads
-use Rattle.planner.proofs.refuse.partitions.Reads as partitions-reads
 use Rattle.sizing.proofs.caps.Reads as caps-reads
 use Rattle.sizing.proofs.deal.Reads as deal-reads
 use Rattle.sizing.proofs.mates.Reads as mates-reads
@@ -29,7 +29,12 @@ used : (c : tie.Start) → c .args .c .count ≡ nodesOf (topology (c .args .c))
 used c = sym (nodes-count (c .args .c) (long c) (few-nodes (c .args .c) (c .pre .0)))
 
 partitions-requires : tie.Need-partitions-requires
-partitions-requires c κs = accepted _ (c .before .before .pre .0) .bits
+partitions-requires c κs = search needs
+
+-- The number of partitions of a cluster without fault.
+rows : (c : tie.After-partitions) → c .partitions .result ≡ partitions (topology (c .before .before .before .args .c))
+rows c = let s = c .before .before .before in
+    c .partitions .ensures .0 ∙ partitions-in-range (s .args .c .bits) (accepted (s .args .c) (s .pre .0) .bits)
 
 deal-requires : tie.Need-deal-requires
 deal-requires c κs = search needs
@@ -64,8 +69,8 @@ returns c =
     let r = c .before .before .run .ensures in
     let q =
     run-is (s .args .c) (s .args .size) _ _ (s .args .before .now) (s .args .rows .now) _ _ _ _ (s .args .allowance) (s .pre .0)
-    (c .before .before .before .before .before .before .before .before .before .before .before .before .before .partitions .ensures .0) (used s) (s .pre .1) (c .before .before .before .before .before .before .before .before .before .before .before .deal .ensures) (c .before .before .before .before .before .before .before .before .zones .ensures)
-    (c .before .before .before .before .before .before .before .mates .ensures) (c .before .before .before .before .before .before .caps .ensures .0) in (
+    (rows (c .before .before .before .before .before .before .before .before .before .before .before .before .before)) (used s) (s .pre .1) (c .before .before .before .before .before .before .before .before .before .before .before .deal .ensures) (c .before .before .before .before .before .before .before .before .zones .ensures)
+    (c .before .before .before .before .before .before .before .mates .ensures) (c .before .before .before .before .before .before .caps .ensures .0 ∙ caps-in (s .args .c) (s .args .size) (accepted (s .args .c) (s .pre .0) .bits)) in (
       r .0 ∙ ap (λ (x : Ran (List ℕ)). x .state) q,
       r .1 ∙ ap (λ (x : Ran (List ℕ)). x .finished) q,
       r .2 ∙ ap (λ (x : Ran (List ℕ)). x .steps) q,

@@ -1,6 +1,7 @@
 use borrow.Author.Needs.{needs}
-use mathlib.Core.Path.{_∙_}
-use Rattle.cluster.proofs.Accepting.{accepted}
+use mathlib.Core.Path.{_≡_, _∙_}
+use Rattle.cluster.specs.Terms.{topology, partitions}
+use Rattle.cluster.proofs.Accepting.{partitions-in-range, accepted}
 use Rattle.planner.proofs.Settling.{measurable, answer-is, cells-are}
 use Rattle.planner.proofs.settle.settle.Statement.{statement}
 use Rattle.planner.proofs.settle.settle.Tie as tie
@@ -8,12 +9,16 @@ use Rattle.planner.proofs.settle.settle.Reads as reads
 use Rattle.planner.proofs.settle.settle.Lts as lts
 use Rattle.masks.proofs.read_masks.Reads as read-masks-reads
 use Rattle.masks.proofs.write_cells.Reads as write-cells-reads
-use Rattle.planner.proofs.refuse.partitions.Reads as partitions-reads
 use Rattle.planner.proofs.settle.improved.Reads as improved-reads
 use Rattle.planner.proofs.settle.measured.Reads as measured-reads
 
 partitions-requires : tie.Need-partitions-requires
-partitions-requires c κs = accepted _ (c .before .before .pre .0) .bits
+partitions-requires c κs = search needs
+
+-- The number of partitions of a cluster without fault.
+rows : (c : tie.After-partitions) → c .partitions .result ≡ partitions (topology (c .before .before .before .args .c))
+rows c = let s = c .before .before .before in
+    c .partitions .ensures .0 ∙ partitions-in-range (s .args .c .bits) (accepted (s .args .c) (s .pre .0) .bits)
 
 slice-aggregate-read-masks : tie.Need-slice-aggregate-read-masks
 slice-aggregate-read-masks c = search needs
@@ -46,7 +51,7 @@ measured-requires : tie.Need-measured-requires
 measured-requires c κs =
     let s = c .before .before .before .before .before .before .before .before .before .before .before .before .before .before .before .before .before in
     measurable (s .args .c) (s .args .former .now) (s .args .allowance) (s .args .size) _ _ _ (s .pre .0) (s .pre .2) (s .pre .3) (s .pre .4)
-    (c .before .before .before .before .before .before .before .before .before .before .before .before .before .before .partitions .ensures .0) (c .before .before .before .before .before .before .before .before .before .before .before .before .read-masks .ensures) (c .before .before .before .before .before .before .before .before .improved .ensures .0) (c .before .before .before .before .before .before .before .before .improved .ensures .3)
+    (rows (c .before .before .before .before .before .before .before .before .before .before .before .before .before .before)) (c .before .before .before .before .before .before .before .before .before .before .before .before .read-masks .ensures) (c .before .before .before .before .before .before .before .before .improved .ensures .0) (c .before .before .before .before .before .before .before .before .improved .ensures .3)
 
 same-length : tie.Need-same-length
 same-length c = search needs
@@ -56,11 +61,11 @@ returns c =
     let s = c .before .before .before .before .before .before .before .before .before .before .before .before .before .before .before .before .before .before in
     let i = c .before .before .before .before .before .before .before .before .before .improved in (
       answer-is (s .args .c) (s .args .former .now) (s .args .allowance) (s .args .size) _ _ _ (s .pre .0) (s .pre .2) (s .pre .3) (s .pre .4)
-          (c .before .before .before .before .before .before .before .before .before .before .before .before .before .before .before .partitions .ensures .0) (c .before .before .before .before .before .before .before .before .before .before .before .before .before .read-masks .ensures) (c .before .before .before .before .before .before .before .before .before .improved .ensures .0) (c .before .before .before .before .before .before .before .before .before .improved .ensures .3)
+          (rows (c .before .before .before .before .before .before .before .before .before .before .before .before .before .before .before)) (c .before .before .before .before .before .before .before .before .before .before .before .before .before .read-masks .ensures) (c .before .before .before .before .before .before .before .before .before .improved .ensures .0) (c .before .before .before .before .before .before .before .before .before .improved .ensures .3)
           (c .measured .result) (c .measured .ensures) (i .result .finished) (i .ensures .1) (i .result .improvements) (i .ensures .2),
       c .before .before .before .before .before .write-cells .ensures
           ∙ cells-are (s .args .c) (s .args .former .now) (s .args .allowance) (s .args .size) _ _ _ (s .pre .0) (s .pre .2) (s .pre .3) (s .pre .4)
-          (c .before .before .before .before .before .before .before .before .before .before .before .before .before .before .before .partitions .ensures .0) (c .before .before .before .before .before .before .before .before .before .before .before .before .before .read-masks .ensures) (c .before .before .before .before .before .before .before .before .before .improved .ensures .0) (c .before .before .before .before .before .before .before .before .before .improved .ensures .3) (s .args .assignment .now) (s .pre .1),
+          (rows (c .before .before .before .before .before .before .before .before .before .before .before .before .before .before .before)) (c .before .before .before .before .before .before .before .before .before .before .before .before .before .read-masks .ensures) (c .before .before .before .before .before .before .before .before .before .improved .ensures .0) (c .before .before .before .before .before .before .before .before .before .improved .ensures .3) (s .args .assignment .now) (s .pre .1),
       i .ensures .3,
     )
 

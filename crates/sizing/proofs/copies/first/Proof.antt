@@ -4,6 +4,7 @@ use borrow.Author.Needs.{needs}
 use native.Mathlib.Omega.{arith}
 use Prim.Native.Nat.{_-_, _≤_}
 use mathlib.Core.Path.{_≡_}
+use Rattle.cluster.specs.Terms.{mostNodes}
 use Rattle.sums.specs.TermsSums.{sumTo}
 use Rattle.dealing.specs.ModelDeal.{pour, zoned}
 use Rattle.incidence.specs.ModelIncidence.{cell, column}
@@ -13,7 +14,7 @@ use Rattle.sizing.proofs.copies.first.Statement.{statement}
 use Rattle.sizing.proofs.copies.first.Tie as tie
 
 abbrev Inv-loop : tie.InvT-loop
-Inv-loop zones caps n partitions room copies₀ left₀ b₀ copies left b = (b ≤ n) × (n ≤ 32) × (left ≡ room - sumTo b (zoned partitions (cell zones) (cell caps))) × (copies ≡ column (pour room (zoned partitions (cell zones) (cell caps))) b)
+Inv-loop zones caps n partitions room copies₀ left₀ b₀ copies left b = (b ≤ n) × (n ≤ mostNodes) × (left ≡ room - sumTo b (zoned partitions (cell zones) (cell caps))) × (copies ≡ column (pour room (zoned partitions (cell zones) (cell caps))) b)
 
 abbrev μ-loop : tie.MeasureT-loop
 μ-loop zones caps n partitions room copies₀ left₀ b₀ copies left b = n - b

@@ -3,6 +3,7 @@
 use borrow.Author.Needs.{needs}
 use native.Mathlib.Omega.{arith}
 use native.Mathlib.Nat.{mul-le-mul}
+use Rattle.cluster.specs.Terms.{bufferRows, mostCopies}
 use Rattle.incidence.specs.ModelIncidence.{cell}
 use Rattle.sizing.proofs.Giving.{first-most, second-given}
 use Rattle.sizing.proofs.copies.given.Statement.{statement}
@@ -11,13 +12,16 @@ use Rattle.sizing.proofs.copies.given.Tie as tie
 mul-room : tie.Need-mul-room
 mul-room c =
     let a = c .before .before .args in
-    omega (arith, mul-le-mul {n₁ = a .replication} {m₁ = a .partitions} {n₂ = 8} {m₂ = 256} (search needs) (search needs))
+    omega (arith, mul-le-mul {n₁ = a .replication} {m₁ = a .partitions} {n₂ = mostCopies} {m₂ = bufferRows} (search needs) (search needs))
 
 first-requires : tie.Need-first-requires
 first-requires c κs = search needs
 
 slice-aggregate-total : tie.Need-slice-aggregate-total
 slice-aggregate-total c = search needs
+
+cast-total : tie.Need-cast-total
+cast-total c = search needs
 
 total-requires : tie.Need-total-requires
 total-requires c κs = search needs
@@ -37,7 +41,7 @@ second-requires c κs =
       search needs,
       search needs,
       s .pre .5,
-      first-most (a .partitions) (a .n) (a .replication) (cell (a .zones .now)) (cell (a .caps .now)) (search needs) (f .result) (f .ensures) 256 (s .pre .5),
+      first-most (a .partitions) (a .n) (a .replication) (cell (a .zones .now)) (cell (a .caps .now)) (search needs) (f .result) (f .ensures) bufferRows (s .pre .5),
     )
 
 returns : tie.Need-returns
@@ -57,6 +61,7 @@ given-spec =
     mul-room
     first-requires
     slice-aggregate-total
+    cast-total
     total-requires
     slice-aggregate-second
     less-requires

@@ -4,6 +4,7 @@ use borrow.Author.Needs.{needs}
 use native.Mathlib.Omega.{arith}
 use Prim.Native.Nat.{ℕ, _+_, _-_, _≤_}
 use mathlib.Core.Path.{_≡_, ap}
+use Rattle.cluster.specs.Terms.{mostNodes}
 use Rattle.sums.specs.TermsSums.{sumTo}
 use Rattle.dealing.specs.ModelDeal.{pour}
 use Rattle.incidence.specs.ModelIncidence.{cell, column}
@@ -13,7 +14,7 @@ use Rattle.sizing.proofs.copies.second.Statement.{statement}
 use Rattle.sizing.proofs.copies.second.Tie as tie
 
 abbrev Inv-loop : tie.InvT-loop
-Inv-loop caps first n room copies₀ left₀ b₀ copies left b = (b ≤ n) × (n ≤ 32) × (left ≡ room - sumTo b (λ x. cell caps x - cell first x)) × (copies ≡ column (λ i. cell first i + pour room (λ x. cell caps x - cell first x) i) b)
+Inv-loop caps first n room copies₀ left₀ b₀ copies left b = (b ≤ n) × (n ≤ mostNodes) × (left ≡ room - sumTo b (λ x. cell caps x - cell first x)) × (copies ≡ column (λ i. cell first i + pour room (λ x. cell caps x - cell first x) i) b)
 
 abbrev μ-loop : tie.MeasureT-loop
 μ-loop caps first n room copies₀ left₀ b₀ copies left b = n - b

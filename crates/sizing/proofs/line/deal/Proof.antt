@@ -5,16 +5,17 @@ use native.Mathlib.Omega.{arith}
 use Prim.Native.Nat.{ℕ, _-_, _≤_}
 use mathlib.Core.Path.{_≡_, ap, _∙_}
 use lib.ListN.{length}
+use Rattle.cluster.specs.Terms.{bufferRows}
 use Rattle.sets.specs.ModelBits.{maskOf}
 use Rattle.cells.specs.ModelCells.{put}
 use Rattle.cells.proofs.Cells.{put-none, put-next}
 use Rattle.incidence.specs.ModelIncidence.{cell}
-use Rattle.sizing.specs.ModelLine.{reaches}
+use Rattle.dealing.specs.ModelDeal.{among}
 use Rattle.sizing.proofs.line.deal.Statement.{statement}
 use Rattle.sizing.proofs.line.deal.Tie as tie
 
 abbrev Inv-loop : tie.InvT-loop
-Inv-loop rows₀ starts copies n partitions p₀ rows p = (p ≤ partitions) × (partitions ≤ 256) × (partitions ≤ length rows₀) × (length rows ≡ length rows₀) × (rows ≡ put 0 (λ q. maskOf (λ b. reaches partitions (cell starts b) (cell copies b) q) n) p rows₀)
+Inv-loop rows₀ starts copies n partitions p₀ rows p = (p ≤ partitions) × (partitions ≤ bufferRows) × (partitions ≤ length rows₀) × (length rows ≡ length rows₀) × (rows ≡ put 0 (λ q. maskOf (λ b. among partitions (cell starts b) (cell copies b) q) n) p rows₀)
 
 abbrev μ-loop : tie.MeasureT-loop
 μ-loop rows₀ starts copies n partitions p₀ rows p = partitions - p
@@ -48,7 +49,7 @@ loop-again c =
       search needs,
       search needs,
       search needs,
-      put-next (λ q. maskOf (λ b. reaches (a .partitions) (cell (a .starts .now) b) (cell (a .copies .now) b) q) (a .n)) (k .loop .p) (c .row .result) (a .rows .now) (k .loop .rows) (k .loop .inv .4) (c .row .ensures),
+      put-next (λ q. maskOf (λ b. among (a .partitions) (cell (a .starts .now) b) (cell (a .copies .now) b) q) (a .n)) (k .loop .p) (c .row .result) (a .rows .now) (k .loop .rows) (k .loop .inv .4) (c .row .ensures),
     )
 
 same-length : tie.Need-same-length Inv-loop μ-loop
@@ -59,7 +60,7 @@ returns c =
     let k = c .before in
     let a = k .before .before .before .before .args in
     let e : k .loop .p ≡ a .partitions = omega arith in
-    k .loop .inv .4 ∙ ap (λ (m : ℕ). put 0 (λ q. maskOf (λ b. reaches (a .partitions) (cell (a .starts .now) b) (cell (a .copies .now) b) q) (a .n)) m (a .rows .now)) e
+    k .loop .inv .4 ∙ ap (λ (m : ℕ). put 0 (λ q. maskOf (λ b. among (a .partitions) (cell (a .starts .now) b) (cell (a .copies .now) b) q) (a .n)) m (a .rows .now)) e
 
 pub deal-spec : {M : Type 1} → statement M
 deal-spec =

@@ -3,18 +3,19 @@
 use borrow.Author.Needs.{needs}
 use native.Mathlib.Omega.{arith}
 use Prim.Native.Nat.{ℕ, _*_, _-_, _≤_}
-use mathlib.Core.Path.{_≡_, refl, ap, _∙_}
+use mathlib.Core.Path.{sym, _≡_, refl, ap, _∙_}
 use mathlib.Core.Logic.{⊎-elim}
+use Rattle.sizing.specs.ModelSizing.{mostInZone}
+use Rattle.dealing.proofs.Line.{light-zone, heavy-zone}
+use Rattle.dealing.specs.ModelDeal.{light}
 use Rattle.sums.specs.TermsSums.{sumTo}
 use Rattle.incidence.specs.ModelIncidence.{cell}
-use Rattle.sizing.specs.ModelLine.{lightOf}
-use Rattle.sizing.proofs.Adding.{sum-next}
-use Rattle.sizing.proofs.Lining.{light-some, light-none}
+use Rattle.sums.proofs.Sum.{sum-next}
 use Rattle.sizing.proofs.line.light.Statement.{statement}
 use Rattle.sizing.proofs.line.light.Tie as tie
 
 abbrev Inv-loop : tie.InvT-loop
-Inv-loop sums n partitions sum₀ z₀ sum z = (z ≤ n) × (sum ≤ 8192 * z) × (sum ≡ sumTo z (lightOf partitions (cell sums)))
+Inv-loop sums n partitions sum₀ z₀ sum z = (z ≤ n) × (sum ≤ mostInZone * z) × (sum ≡ sumTo z (light partitions (cell sums)))
 
 abbrev μ-loop : tie.MeasureT-loop
 μ-loop sums n partitions sum₀ z₀ sum z = n - z
@@ -53,8 +54,8 @@ loop-again c =
     let f = cell (a .sums .now) in (
       search needs,
       ⊎-elim (λ w. omega (arith, k .before .pre .2 (k .loop .z) (omega arith))) (λ w. omega arith) (c .if1 .came),
-      ⊎-elim (λ w. w .2 ∙ sum-next (lightOf (a .partitions) f) (k .loop .z) (k .loop .sum) (f (k .loop .z)) (k .loop .inv .2) (light-some (a .partitions) f (k .loop .z) (w .0 .taken)))
-          (λ w. w .1 ∙ omega (arith, sum-next (lightOf (a .partitions) f) (k .loop .z) (k .loop .sum) 0 (k .loop .inv .2) (light-none (a .partitions) f (k .loop .z) (w .0 .left)))) (c .if1 .came),
+      ⊎-elim (λ w. w .2 ∙ sum-next (light (a .partitions) f) (k .loop .z) (k .loop .sum) (f (k .loop .z)) (k .loop .inv .2) (sym (light-zone (a .partitions) (a .n) f (k .loop .z) (w .0 .taken) .lights)))
+          (λ w. w .1 ∙ omega (arith, sum-next (light (a .partitions) f) (k .loop .z) (k .loop .sum) 0 (k .loop .inv .2) (sym (heavy-zone (a .partitions) (a .n) f (k .loop .z) (w .0 .left) .lights)))) (c .if1 .came),
     )
 
 returns : tie.Need-returns Inv-loop μ-loop
@@ -62,7 +63,7 @@ returns c =
     let k = c .before in
     let a = k .before .args in
     let e : k .loop .z ≡ a .n = omega arith in
-    k .loop .inv .2 ∙ ap (λ (m : ℕ). sumTo m (lightOf (a .partitions) (cell (a .sums .now)))) e
+    k .loop .inv .2 ∙ ap (λ (m : ℕ). sumTo m (light (a .partitions) (cell (a .sums .now)))) e
 
 pub light-spec : {M : Type 1} → statement M
 light-spec =

@@ -7,14 +7,14 @@ use mathlib.Core.Path.{_≡_, refl, ap, _∙_}
 use mathlib.Core.Logic.{⊎-elim}
 use Rattle.sets.specs.ModelBits.{maskOf}
 use Rattle.incidence.specs.ModelIncidence.{cell}
-use Rattle.sizing.specs.ModelLine.{reaches}
+use Rattle.dealing.specs.ModelDeal.{among}
 use Rattle.sizing.proofs.Masks.{mask-here, mask-not-here}
-use Rattle.sizing.proofs.Lining.{reaches-some, reaches-none}
+use Rattle.sizing.proofs.Lining.{among-some, among-none}
 use Rattle.sizing.proofs.line.row.Statement.{statement}
 use Rattle.sizing.proofs.line.row.Tie as tie
 
 abbrev Inv-loop : tie.InvT-loop
-Inv-loop starts copies n partitions p mask₀ b₀ mask b = (b ≤ n) × (mask ≡ maskOf (λ i. reaches partitions (cell starts i) (cell copies i) p) b)
+Inv-loop starts copies n partitions p mask₀ b₀ mask b = (b ≤ n) × (mask ≡ maskOf (λ i. among partitions (cell starts i) (cell copies i) p) b)
 
 abbrev μ-loop : tie.MeasureT-loop
 μ-loop starts copies n partitions p mask₀ b₀ mask b = n - b
@@ -59,13 +59,13 @@ loop-again c =
     let d = c .before .before .after in
     let s = cell (a .starts .now) (k .loop .b) in
     let m = cell (a .copies .now) (k .loop .b) in
-    let f : ℕ → ℕ = λ i. reaches (a .partitions) (cell (a .starts .now) i) (cell (a .copies .now) i) (a .p) in (
+    let f : ℕ → ℕ = λ i. among (a .partitions) (cell (a .starts .now) i) (cell (a .copies .now) i) (a .p) in (
       search needs,
       ⊎-elim
           (λ w. w .2 ∙ (w .1 .ensures ∙ mask-here f (k .loop .b) (k .loop .mask) (k .loop .inv .1) (omega arith)
-          (omega (arith, reaches-some (a .partitions) s m (a .p) (d .result) (d .ensures) (w .0 .taken)))))
+          (omega (arith, among-some (a .partitions) s m (a .p) (d .result) (d .ensures) (w .0 .taken)))))
           (λ w. w .1 ∙ mask-not-here f (k .loop .b) (k .loop .mask) (k .loop .inv .1)
-          (reaches-none (a .partitions) s m (a .p) (d .result) (d .ensures) (w .0 .left)))
+          (among-none (a .partitions) s m (a .p) (d .result) (d .ensures) (w .0 .left)))
           (c .if1 .came),
     )
 
@@ -74,7 +74,7 @@ returns c =
     let k = c .before in
     let a = k .before .before .before .args in
     let e : k .loop .b ≡ a .n = omega arith in
-    k .loop .inv .1 ∙ ap (maskOf (λ i. reaches (a .partitions) (cell (a .starts .now) i) (cell (a .copies .now) i) (a .p))) e
+    k .loop .inv .1 ∙ ap (maskOf (λ i. among (a .partitions) (cell (a .starts .now) i) (cell (a .copies .now) i) (a .p))) e
 
 pub row-spec : {M : Type 1} → statement M
 row-spec =

@@ -4,6 +4,8 @@ use borrow.Author.Needs.{needs}
 use native.Mathlib.Omega.{arith}
 use Prim.Native.Nat.{ℕ, _-_, _%_, _≤_}
 use mathlib.Core.Path.{_≡_, ap}
+use Rattle.sizing.specs.ModelSizing.{mostInZone}
+use Rattle.cluster.specs.Terms.{mostNodes, bufferRows}
 use Rattle.dealing.specs.ModelDeal.{start}
 use Rattle.incidence.specs.ModelIncidence.{cell, column}
 use Rattle.incidence.proofs.Columns.{column-none, column-next, column-end}
@@ -13,7 +15,7 @@ use Rattle.sizing.proofs.line.starts.Statement.{statement}
 use Rattle.sizing.proofs.line.starts.Tie as tie
 
 abbrev Inv-loop : tie.InvT-loop
-Inv-loop zones copies n partitions sums starts₀ b₀ starts b = (b ≤ n) × (n ≤ 32) × (starts ≡ column (λ i. start partitions n (cell zones) (cell copies) i % partitions) b)
+Inv-loop zones copies n partitions sums starts₀ b₀ starts b = (b ≤ n) × (n ≤ mostNodes) × (starts ≡ column (λ i. start partitions n (cell zones) (cell copies) i % partitions) b)
 
 abbrev μ-loop : tie.MeasureT-loop
 μ-loop zones copies n partitions sums starts₀ b₀ starts b = n - b
@@ -66,9 +68,9 @@ add-starts c =
       arith,
       c .before .zone-begins .ensures,
       c .in-zone .ensures,
-      begins-bound (a .partitions) (cell (t .result)) (a .n) z (search needs) (omega (arith, s .pre .4 (k .loop .b) (omega arith)))
+      begins-bound (a .partitions) (cell (t .result)) (a .n) z mostInZone (search needs) (omega (arith, s .pre .4 (k .loop .b) (omega arith)))
           (totals-most (cell (a .zones .now)) (cell (a .copies .now)) (a .n) (t .result) (search needs) (s .pre .5) (t .ensures)),
-      zone-bound (cell (a .zones .now)) (cell (a .copies .now)) (k .loop .b) z 256 (λ i l. s .pre .5 i (omega arith)),
+      zone-bound (cell (a .zones .now)) (cell (a .copies .now)) (k .loop .b) z bufferRows (λ i l. s .pre .5 i (omega arith)),
     )
 
 rem-starts : tie.Need-rem-starts Inv-loop μ-loop

@@ -4,17 +4,14 @@ use borrow.Author.Needs.{needs}
 use native.Mathlib.Omega.{arith}
 use Prim.Native.Nat.{ℕ, _/_}
 use mathlib.Core.Path.{ap}
-use native.Mathlib.Nat.{div-zero, div-le-self}
+use native.Mathlib.Nat.{div-zero}
 use Rattle.sizing.proofs.nodes.cap.Statement.{statement}
 use Rattle.sizing.proofs.nodes.cap.Tie as tie
 
 returns : tie.Need-returns
 returns c =
     let a = c .before .args in
-    omega (arith, ap (λ (s : ℕ). a .capacity / s) (c .if1 .taken), div-zero (a .capacity))
-
-partitions-requires : tie.Need-partitions-requires
-partitions-requires c κs = search needs
+    (omega (arith, ap (λ (s : ℕ). a .capacity / s) (c .if1 .taken), div-zero (a .capacity)), search needs)
 
 div-least : tie.Need-div-least
 div-least c = search needs
@@ -23,9 +20,7 @@ least-requires : tie.Need-least-requires
 least-requires c κs = search needs
 
 returns-2 : tie.Need-returns-2
-returns-2 c =
-    let s = c .before .before .before in
-    omega (arith, c .least .ensures, c .before .partitions .ensures, div-le-self (s .args .capacity) (s .args .size))
+returns-2 c = search needs
 
 pub cap-spec : {M : Type 1} → statement M
-cap-spec = tie.close (tie.spec returns partitions-requires div-least least-requires returns-2)
+cap-spec = tie.close (tie.spec returns div-least least-requires returns-2)

@@ -3,6 +3,7 @@
 use borrow.Author.Needs.{needs}
 use native.Mathlib.Omega.{arith}
 use native.Mathlib.Nat.{mul-le-mul}
+use Rattle.cluster.specs.Terms.{bufferRows, mostCopies}
 use Rattle.incidence.specs.ModelIncidence.{cell}
 use Rattle.sizing.proofs.Fitting.{fits-not, fits-wide}
 use Rattle.sizing.proofs.totals.fit.Statement.{statement}
@@ -14,7 +15,7 @@ total-requires c κs = search needs
 mul-if1 : tie.Need-mul-if1
 mul-if1 c =
     let s = c .before .before .before in
-    omega (arith, mul-le-mul {n₁ = s .args .replication} {m₁ = s .args .partitions} {n₂ = 8} {m₂ = 256} (search needs) (search needs))
+    omega (arith, mul-le-mul {n₁ = s .args .replication} {m₁ = s .args .partitions} {n₂ = mostCopies} {m₂ = bufferRows} (search needs) (search needs))
 
 returns : tie.Need-returns
 returns c =
@@ -31,7 +32,7 @@ zone-totals-requires c κs =
 mul-result : tie.Need-mul-result
 mul-result c =
     let s = c .before .before .before .before .before in
-    omega (arith, mul-le-mul {n₁ = s .args .redundancy} {m₁ = s .args .partitions} {n₂ = 8} {m₂ = 256} (search needs) (search needs))
+    omega (arith, mul-le-mul {n₁ = s .args .redundancy} {m₁ = s .args .partitions} {n₂ = mostCopies} {m₂ = bufferRows} (search needs) (search needs))
 
 slice-aggregate-total : tie.Need-slice-aggregate-total
 slice-aggregate-total c = search needs

@@ -5,6 +5,7 @@ use native.Mathlib.Omega.{arith}
 use Prim.Native.Nat.{_*_, _-_, _≤_}
 use mathlib.Core.Path.{_≡_, refl, ap, _∙_}
 use mathlib.Core.Logic.{⊎-elim}
+use Rattle.cluster.specs.Terms.{bufferRows}
 use Rattle.sums.specs.TermsSums.{sumTo}
 use Rattle.dealing.specs.ModelDeal.{inZone}
 use Rattle.incidence.specs.ModelIncidence.{cell}
@@ -13,7 +14,7 @@ use Rattle.sizing.proofs.totals.in_zone.Statement.{statement}
 use Rattle.sizing.proofs.totals.in_zone.Tie as tie
 
 abbrev Inv-loop : tie.InvT-loop
-Inv-loop zones numbers z n sum₀ b₀ sum b = (b ≤ n) × (sum ≤ 256 * b) × (sum ≡ inZone (cell zones) (cell numbers) z b)
+Inv-loop zones numbers z n sum₀ b₀ sum b = (b ≤ n) × (sum ≤ bufferRows * b) × (sum ≡ inZone (cell zones) (cell numbers) z b)
 
 abbrev μ-loop : tie.MeasureT-loop
 μ-loop zones numbers z n sum₀ b₀ sum b = n - b

@@ -4,14 +4,15 @@ use borrow.Author.Needs.{needs}
 use native.Mathlib.Omega.{arith}
 use Prim.Native.Nat.{ℕ, _*_, _-_, _≤_, min}
 use mathlib.Core.Path.{_≡_, refl, ap, _∙_}
+use Rattle.sizing.specs.ModelSizing.{mostInZone}
 use Rattle.sums.specs.TermsSums.{sumTo}
 use Rattle.incidence.specs.ModelIncidence.{cell}
-use Rattle.sizing.proofs.Adding.{sum-next}
+use Rattle.sums.proofs.Sum.{sum-next}
 use Rattle.sizing.proofs.totals.total.Statement.{statement}
 use Rattle.sizing.proofs.totals.total.Tie as tie
 
 abbrev Inv-loop : tie.InvT-loop
-Inv-loop numbers n most sum₀ b₀ sum b = (b ≤ n) × (sum ≤ 256 * b) × (sum ≡ sumTo b (λ i. min most (cell numbers i)))
+Inv-loop numbers n most sum₀ b₀ sum b = (b ≤ n) × (sum ≤ mostInZone * b) × (sum ≡ sumTo b (λ i. min most (cell numbers i)))
 
 abbrev μ-loop : tie.MeasureT-loop
 μ-loop numbers n most sum₀ b₀ sum b = n - b

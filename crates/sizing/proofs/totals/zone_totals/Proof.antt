@@ -5,23 +5,26 @@ use native.Mathlib.Omega.{arith}
 use Prim.Native.Nat.{ℕ, _-_, _≤_, _<_}
 use mathlib.Core.Path.{_≡_, ap, _∙_}
 use lib.ListN.{length}
+use mathlib.Core.List.{[]}
+use Rattle.cluster.specs.Terms.{bufferRows, mostNodes}
+use Rattle.cluster.proofs.CellRows.{getD-zeros}
 use Rattle.sums.specs.TermsSums.{sumTo}
 use Rattle.dealing.specs.ModelDeal.{inZone}
 use Rattle.incidence.specs.ModelIncidence.{cell}
-use Rattle.incidence.proofs.Columns.{cell-blank, column-cells}
+use Rattle.incidence.proofs.Columns.{column-cells}
 use Rattle.sizing.proofs.Adding.{zone-bound, zones-next}
 use Rattle.sizing.proofs.totals.zone_totals.Statement.{statement}
 use Rattle.sizing.proofs.totals.zone_totals.Tie as tie
 
 abbrev Inv-loop : tie.InvT-loop
-Inv-loop zones numbers n sums₀ b₀ sums b = (b ≤ n) × (length sums ≡ 32) × ((z : ℕ) → z < 32 → cell sums z ≡ inZone (cell zones) (cell numbers) z b)
+Inv-loop zones numbers n sums₀ b₀ sums b = (b ≤ n) × (length sums ≡ mostNodes) × ((z : ℕ) → z < mostNodes → cell sums z ≡ inZone (cell zones) (cell numbers) z b)
 
 abbrev μ-loop : tie.MeasureT-loop
 μ-loop zones numbers n sums₀ b₀ sums b = n - b
 
 loop-holds : tie.Need-loop-holds Inv-loop μ-loop
 unfolding inZone sumTo
-loop-holds c = (search needs, search needs, λ z l. cell-blank 32 z)
+loop-holds c = (search needs, search needs, λ z l. getD-zeros [] mostNodes z)
 
 mul-z : tie.Need-mul-z Inv-loop μ-loop
 mul-z c = search needs
@@ -49,11 +52,11 @@ add-sums c =
     let k = c .before .before .before in
     let a = k .before .args in
     let z = cell (a .zones .now) (k .loop .b) in
-    let low : z < 32 = omega (arith, k .before .pre .3 (k .loop .b) (omega arith)) in
+    let low : z < mostNodes = omega (arith, k .before .pre .3 (k .loop .b) (omega arith)) in
     omega (
       arith,
       k .loop .inv .2 z low,
-      zone-bound (cell (a .zones .now)) (cell (a .numbers .now)) (k .loop .b) z 256 (λ i l. k .before .pre .4 i (omega arith)),
+      zone-bound (cell (a .zones .now)) (cell (a .numbers .now)) (k .loop .b) z bufferRows (λ i l. k .before .pre .4 i (omega arith)),
       k .before .pre .4 (k .loop .b) (omega arith),
     )
 

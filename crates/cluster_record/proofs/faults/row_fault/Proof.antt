@@ -1,0 +1,106 @@
+-- `cluster_record::faults::row_fault` meets its contract: the tests stand in the order of the faults, both of range before both of order.
+-- Assumes nothing.
+use Prim.Native.Nat.{_^_, _≤_, _<_}
+use mathlib.Core.Path.{sym, _∙_}
+use borrow.Author.Tests.{le-leb, lt-leb, lt-ltb, le-ltb}
+use Rattle.fields.specs.RecordField.{numberAt}
+use Rattle.cluster_record.proofs.FieldFaults.{shift-one}
+use borrow.Author.Needs.{needs}
+use native.Mathlib.Omega.{arith}
+use Rattle.cluster_record.proofs.faults.row_fault.Statement.{statement}
+use Rattle.cluster_record.proofs.faults.row_fault.Tie as tie
+use Rattle.cluster_record.proofs.faults.row_fault.Reads as reads
+use Rattle.cluster_record.proofs.faults.row_fault.Lts as lts
+use Rattle.fields.proofs.ids.has_zero.Reads as has-zero-reads
+use Rattle.fields.proofs.ids.ids_rise.Reads as ids-rise-reads
+use Rattle.fields.proofs.pair_at.Reads as pair-at-reads
+
+-- What the first test says of the partition.
+above : (c : tie.Then1) → let a = c .before .before .before .args in 2 ^ (a .bits) ≤ numberAt (a .bytes .now) (a .start) 2
+above c = omega (arith, c .before .pair-at .ensures, shift-one (c .before .before .before .args .bits) (c .before .before .before .pre .0))
+
+below : (c : tie.Else1) → let a = c .before .before .before .args in numberAt (a .bytes .now) (a .start) 2 < 2 ^ (a .bits)
+below c = omega (arith, c .before .pair-at .ensures, shift-one (c .before .before .before .args .bits) (c .before .before .before .pre .0))
+
+pair-at-requires : tie.Need-pair-at-requires
+pair-at-requires c κs = search needs
+
+cast-partition : tie.Need-cast-partition
+cast-partition c = search needs
+
+shl-if1 : tie.Need-shl-if1
+shl-if1 c = search needs
+
+returns : tie.Need-returns
+returns c =
+    let a = c .before .before .before .args in
+    simp (le-leb (2 ^ (a .bits)) (numberAt (a .bytes .now) (a .start) 2) (above c))
+
+add-has-zero : tie.Need-add-has-zero
+add-has-zero c = search needs
+
+has-zero-requires : tie.Need-has-zero-requires
+has-zero-requires c κs = search needs
+
+returns-2 : tie.Need-returns-2
+returns-2 c =
+    let a = c .before .before .before .before .before .args in
+    simp (lt-leb (2 ^ (a .bits)) (numberAt (a .bytes .now) (a .start) 2) (below (c .before .before)), sym (c .before .has-zero .ensures) ∙ c .if2 .taken)
+
+returns-3 : tie.Need-returns-3
+returns-3 c =
+    let k = c .before .before .before in
+    let a = k .before .before .before .args in
+    let p = numberAt (a .bytes .now) (a .start) 2 in
+    simp (
+      lt-leb (2 ^ (a .bits)) p (below k),
+      sym (c .before .before .has-zero .ensures) ∙ c .before .if2 .left,
+      lt-ltb p (a .next) (omega (arith, k .before .pair-at .ensures, c .if3 .taken)),
+    )
+
+add-ids-rise : tie.Need-add-ids-rise
+add-ids-rise c = search needs
+
+ids-rise-requires : tie.Need-ids-rise-requires
+ids-rise-requires c κs = search needs
+
+returns-4 : tie.Need-returns-4
+returns-4 c =
+    let k = c .before .before .before .before .before in
+    let a = k .before .before .before .args in
+    let p = numberAt (a .bytes .now) (a .start) 2 in
+    simp (
+      lt-leb (2 ^ (a .bits)) p (below k),
+      sym (c .before .before .before .before .has-zero .ensures) ∙ c .before .before .before .if2 .left,
+      le-ltb p (a .next) (omega (arith, k .before .pair-at .ensures, c .before .before .if3 .left)),
+      sym (c .before .ids-rise .ensures) ∙ c .if4 .taken,
+    )
+
+returns-5 : tie.Need-returns-5
+returns-5 c =
+    let k = c .before .before .before .before .before in
+    let a = k .before .before .before .args in
+    let p = numberAt (a .bytes .now) (a .start) 2 in
+    simp (
+      lt-leb (2 ^ (a .bits)) p (below k),
+      sym (c .before .before .before .before .has-zero .ensures) ∙ c .before .before .before .if2 .left,
+      le-ltb p (a .next) (omega (arith, k .before .pair-at .ensures, c .before .before .if3 .left)),
+      sym (c .before .ids-rise .ensures) ∙ c .if4 .left,
+    )
+
+pub row-fault-spec : {M : Type 1} → statement M
+row-fault-spec =
+    tie.close
+    (tie.spec
+    pair-at-requires
+    cast-partition
+    shl-if1
+    returns
+    add-has-zero
+    has-zero-requires
+    returns-2
+    returns-3
+    add-ids-rise
+    ids-rise-requires
+    returns-4
+    returns-5)

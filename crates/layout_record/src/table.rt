@@ -1,0 +1,109 @@
+// The numbers before the rows: one table for reading them, for the test of their ranges and for writing them.
+ghost use mathlib.Core.Path.{_≡_};
+ghost use Prim.Native.Nat.{_<_};
+ghost use lib.ListN.{length};
+ghost use Rattle.layout_record.specs.RecordLayout.{headTable, entryAt, holds, numbersIn, numbersFrom};
+use super::Numbers;
+use cluster::Cluster;
+
+// What the record has of one number: the tag of its field, the bytes of its body, and its range.
+pub struct Entry {
+    pub tag: u32,
+    pub width: usize,
+    pub least: u32,
+    pub most: u32,
+}
+
+// The fields before the rows, in their order.
+pub(crate) const HEAD: [Entry; 6] = [
+    // 1 bits.
+    Entry {
+        tag: 1,
+        width: 1,
+        least: 0,
+        most: Cluster::BITS,
+    },
+    // 2 replication.
+    Entry {
+        tag: 2,
+        width: 1,
+        least: 1,
+        most: Cluster::REPLICATION,
+    },
+    // 6 size.
+    Entry {
+        tag: 6,
+        width: 4,
+        least: 1,
+        most: Cluster::SIZE,
+    },
+    // 7 distance.
+    Entry {
+        tag: 7,
+        width: 2,
+        least: 0,
+        most: Cluster::DISTANCE,
+    },
+    // 8 verdict.
+    Entry {
+        tag: 8,
+        width: 1,
+        least: 0,
+        most: Cluster::VERDICT,
+    },
+    // 9 improvements.
+    Entry {
+        tag: 9,
+        width: 2,
+        least: 0,
+        most: Cluster::IMPROVEMENTS,
+    },
+];
+
+impl Entry {
+    // The entry of a number.
+    pub fn at(i: usize) -> Entry
+        requires { ⌜ i < length headTable ⌝ }
+        ensures { λ r. ⌜ r ≡ entryAt i ⌝ }
+    {
+        HEAD[i]
+    }
+
+    // Whether a number is in the range of its entry.
+    pub fn holds(self, value: u32) -> bool
+        ensures { λ r. ⌜ r ≡ holds self value ⌝ }
+    {
+        if value < self.least {
+            return false;
+        }
+        value <= self.most
+    }
+}
+
+// The numbers in the order of their fields.
+pub fn numbers_in(n: Numbers) -> [u32; 6]
+    ensures { λ r. ⌜ r ≡ numbersIn n ⌝ }
+{
+    [
+        n.bits,
+        n.replication,
+        n.size,
+        n.distance,
+        n.verdict,
+        n.improvements,
+    ]
+}
+
+// And back.
+pub fn numbers_from(values: [u32; 6]) -> Numbers
+    ensures { λ r. ⌜ r ≡ numbersFrom values ⌝ }
+{
+    Numbers {
+        bits: values[0],
+        replication: values[1],
+        size: values[2],
+        distance: values[3],
+        verdict: values[4],
+        improvements: values[5],
+    }
+}
