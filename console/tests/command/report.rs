@@ -62,7 +62,9 @@ fn names_are_shown_as_they_are_written() {
 
 /// A page needs no other file and no program, and each link in it has its end.
 fn stands_alone(text: &str) {
-    for word in ["<script", "http", "src=", "@import", "<link", "<img"] {
+    for word in [
+        "<script", "http", "src=", "@import", "<link", "<img", "\u{fffd}",
+    ] {
         assert!(!text.contains(word), "{word}");
     }
     let page = page::read(text);

@@ -34,8 +34,8 @@ pub struct Laid {
     /// What a partition was planned for before, where there was a plan.
     pub former_size: Option<u64>,
     pub best: Best,
-    /// Sentences that tell why the size is no larger and which boxes are not used.
-    pub why: String,
+    /// Why the size is no larger, and which boxes are not used; nothing where a larger one is allowed.
+    pub why: Vec<String>,
     /// The rows of the partitions before and after.
     pub before: Layout,
     pub after: Layout,
@@ -121,8 +121,8 @@ impl Laid {
             size: plan.size.into(),
             hope,
             why: match best {
-                Best::Larger(_) => String::new(),
-                _ => why::not_more(described, plan, hope) + &why::unused(described, plan),
+                Best::Larger(_) => Vec::new(),
+                _ => binding(described, plan),
             },
             best,
             rows,
@@ -157,6 +157,13 @@ impl Laid {
         let alike = order.chunk_by(|a, b| cells(*a) == cells(*b));
         alike.map(<[u8]>::to_vec).collect()
     }
+}
+
+/// The sentences on what binds at the size of a plan that has the largest.
+fn binding(described: &Description, plan: &Plan) -> Vec<String> {
+    let mut why = why::sentences(described, plan.size);
+    why.extend(why::unused(described, plan).lines().map(String::from));
+    why
 }
 
 impl Best {

@@ -72,10 +72,14 @@ fn first_words(facts: &Facts) -> String {
 fn of_layout(facts: &Facts, laid: &Laid) -> String {
     let why = words::why_not_more(laid);
     let why: String = why.iter().map(|line| paragraph("why", line)).collect();
+    let why = match why.is_empty() {
+        true => why,
+        false => section("why", "Why not more", &why),
+    };
     [
         bars::of_layout(facts, laid),
         map::of_layout(facts, laid),
-        section("why", "Why not more", &why),
+        why,
         section("tables", "", &tables::boxes_and_zones(facts, laid)),
         tables::partitions(facts, laid),
     ]

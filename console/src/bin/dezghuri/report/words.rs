@@ -95,16 +95,14 @@ pub fn source(facts: &Facts) -> String {
 
 /// What keeps the size from being larger, in sentences.
 pub fn why_not_more(laid: &Laid) -> Vec<String> {
-    let hope = match laid.hope == laid.size {
-        true => "The disks together allow no larger size.".into(),
-        false => format!(
+    let sentence = |why: &String| with_capital(&why.replace('\n', " "));
+    let mut sentences: Vec<String> = laid.why.iter().map(sentence).collect();
+    if laid.hope > laid.size {
+        sentences.push(format!(
             "With nothing lost to rounding and zones it would be {} MB a partition.",
             thousands(laid.hope)
-        ),
-    };
-    let why = laid.why.strip_prefix("Why not more: ").unwrap_or(&laid.why);
-    let mut sentences = vec![hope];
-    sentences.extend(why.lines().map(with_capital));
+        ));
+    }
     sentences
 }
 
