@@ -172,7 +172,7 @@ pub fn partitions(facts: &Facts, laid: &Laid) -> String {
     };
     let body = format!(
         "<p>{words}</p>\n<div class=\"many\" style=\"--least:{}em\">\n{tables}</div>\n",
-        width(laid, heads.len())
+        width(facts, laid, heads.len())
     );
     section("partitions", "The partitions", &body)
 }
@@ -181,7 +181,7 @@ pub fn partitions(facts: &Facts, laid: &Laid) -> String {
 const HEAD: usize = 8;
 
 /// How wide a table of partitions must be for its longest row, in letters' heights.
-fn width(laid: &Laid, columns: usize) -> usize {
+fn width(facts: &Facts, laid: &Laid, columns: usize) -> usize {
     let long = |layout: &Layout| {
         let letters = |ids: &[u32]| ids.iter().map(|id| id.to_string().len() + 2).sum::<usize>();
         layout
@@ -194,7 +194,8 @@ fn width(laid: &Laid, columns: usize) -> usize {
         2 => long(&laid.after).max(HEAD),
         _ => long(&laid.before).max(HEAD) + long(&laid.after).max(HEAD),
     };
-    8 + letters * 11 / 20
+    let told = if facts.losses.is_empty() { 0 } else { 8 };
+    8 + letters * 11 / 20 + told
 }
 
 fn partition(facts: &Facts, laid: &Laid, partition: u8) -> String {
