@@ -16,7 +16,7 @@ use Rattle.sums.proofs.Sum.{lt-or-ge}
 use Rattle.sets.specs.ModelBits.{withOf, withoutOf, bitsAt}
 use Rattle.cells.specs.ModelCells.{put}
 use Rattle.cells.proofs.Cells.{put-more, length-put, getD-put-in, getD-put-out}
-use Rattle.exchange.specs.ModelUncross.{Walk, Same, partner, first, inner, outer, split, uncross}
+use Rattle.exchange.specs.ModelUncross.{Walk, Same, partner, firstCrossed, inner, outer, split, uncross}
 use Rattle.exchange.proofs.Uncross.{skip-low, skip-high, wrap-low, wrap-end, first-pair}
 use Rattle.exchange.proofs.Walk.{uncross-stop, uncross-go, uncross-same, same-trans}
 use Rattle.walks.specs.ModelWalks.{okOf, witnessOf, walkIn, innerGains}
@@ -110,18 +110,18 @@ module _ (P m i j : ℕ) (g : ℕ → ℕ → ℕ) (ys qs : List ℕ) (l : i < j
 
 module _ (P : ℕ) (g : ℕ → ℕ → ℕ) (ok : ℕ → ℕ → ℕ → Bool) (v : Walk) where
   -- No pair is crossed.
-  pub free-stop : (n : ℕ) (w : Walk) → Same v (uncross n P 1 g ok w) → w .len ≤ first P ok w → Same v w
+  pub free-stop : (n : ℕ) (w : Walk) → Same v (uncross n P 1 g ok w) → w .len ≤ firstCrossed P ok w → Same v w
   free-stop n w s l = subst (λ (u : Walk). Same v u) (uncross-stop P 1 g ok n w l) s
 
   -- The first crossed pair.
-  pub pair-in : (w : Walk) (i j : ℕ) → i ≡ first P ok w → j ≡ partner P ok w i → i < w .len → (i < j) × (j < w .len)
+  pub pair-in : (w : Walk) (i j : ℕ) → i ≡ firstCrossed P ok w → j ≡ partner P ok w i → i < w .len → (i < j) × (j < w .len)
   pair-in w i j e f l =
       let p = first-pair P ok w (omega arith) in
-      let d : partner P ok w i ≡ partner P ok w (first P ok w) = ap (partner P ok w) e in
+      let d : partner P ok w i ≡ partner P ok w (firstCrossed P ok w) = ap (partner P ok w) e in
       omega arith
 
   -- A pair is crossed.
-  pub free-go : (n : ℕ) (w u : Walk) (i j : ℕ) → 0 < n → Same v (uncross n P 1 g ok w) → i ≡ first P ok w → j ≡ partner P ok w i → i < w .len
+  pub free-go : (n : ℕ) (w u : Walk) (i j : ℕ) → 0 < n → Same v (uncross n P 1 g ok w) → i ≡ firstCrossed P ok w → j ≡ partner P ok w i → i < w .len
       → Same (split P 1 g w i j) u → Same v (uncross (n - 1) P 1 g ok u)
   free-go n w u i j p s e f l t =
       let d : n ≡ suc (n - 1) = omega arith in

@@ -23,7 +23,7 @@ use Rattle.cluster_record.specs.RecordCluster.{bitsField, replicationFie
 use Rattle.cluster_record.specs.RecordClusterFaults.{Item, BitsOf, ReplicationOf, RedundancyOf, OneNode, FormerRow, itemIn, Reading, nothingRead, allowedAfter, withItem, upTo, formerWith, readingWith, lastOf, faultIn, ended, walk, readCluster}
 use Rattle.fields.proofs.IdBytes.{length-id-bytes, ids-here}
 use Rattle.cluster_record.proofs.Items.{item-bits, item-replication, item-redundancy, item-node, item-five, node-sound, row-sound}
-use Rattle.cluster_record.proofs.FieldFaults.{few-partitions}
+use Rattle.cluster.proofs.Accepting.{few-partitions}
 use Rattle.cluster_record.proofs.Rows.{upTo-full, length-next}
 use Rattle.cluster_record.proofs.Walks.{walk-ends, walk-on}
 use Rattle.cluster_record.proofs.Readings.{Kind, number-next, node-next, row-next, kind-allowed}

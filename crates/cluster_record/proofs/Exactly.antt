@@ -10,21 +10,20 @@ use lib.ListN.{length, drop}
 use Rattle.cluster.specs.Terms.{mostNodes, layoutCells, Topology, topology, partitions, Layout, IsFormer, cellsOf, rowsIn}
 use Rattle.cluster.specs.ModelRows.{FitsCells}
 use Rattle.cluster.specs.TermsReading.{Accepted, slotsOf}
-use Rattle.cluster.proofs.Accepting.{no-fault}
+use Rattle.cluster.proofs.Accepting.{no-fault, few-partitions}
 use Rattle.cluster.proofs.CellLayouts.{rowsIn-written}
 use Rattle.fields.specs.RecordField.{Bytes}
-use Rattle.fields.proofs.RecordField.{whole}
+use Rattle.fields.proofs.RecordField.{whole, refused-some}
 use Rattle.cluster_record.specs.declared.ReadCluster.{ReadCluster}
 use Rattle.cluster_record.specs.RecordCluster.{IsClusterRecord}
 use Rattle.cluster_record.specs.RecordClusterFaults.{Reading, ClusterRead, nothingRead, allowedAfter, clusterRefused, ended, upTo, readCluster}
 use Rattle.cluster_record.specs.RecordClusterAnswer.{clusterOutcome, clusterAnswer, readClusterOf, formerRead}
 use Rattle.cluster_record.specs.RecordClusterClaims.{ReadsCluster, AnswersCluster, Yielded}
-use Rattle.cluster_record.proofs.FieldFaults.{few-partitions}
 use Rattle.cluster.proofs.Slots.{topology-slots}
 use Rattle.cluster_record.proofs.Walks.{walk-holds}
 use Rattle.cluster_record.proofs.Readings.{kind, row-bytes, Well, well-nothing, well-step}
 use Rattle.cluster_record.proofs.Answers.{long-answer, accepted-former}
-use Rattle.cluster_record.proofs.Sound.{reads-records}
+use Rattle.cluster_record.proofs.Sound.{well-former, reads-records}
 use Rattle.cluster_record.proofs.Complete.{records-read}
 
 -- A cluster reading accepts exactly the records, and yields what they are records of.
@@ -74,11 +73,16 @@ module _ (s former : List ℕ) (long : layoutCells ≤ length former) where
 
 -- ---- every cluster that is answered
 
--- Each reading yields a cluster without fault, refused ones the cluster with no nodes.
-reads-accepted : (s : List ℕ) → Accepted (readCluster s .cluster)
+-- Each reading yields a cluster without fault, refused ones the cluster with no nodes; one that is not refused yields a former layout of it too.
+abbrev Yields : ClusterRead → Type 0
+Yields o = Accepted (o .cluster) × (o .refusal ≡ 0 → IsFormer (o .cluster) (o .former))
+
+pub reads-yield : (s : List ℕ) → Yields (readCluster s)
 unfolding readCluster
-reads-accepted s =
-    walk-holds s (λ at r. Well r) (λ o. Accepted (o .cluster)) (λ at r w h. at-end r w) (λ at r w refusal byte e. none) (λ at r w tag start len e some. none)
+reads-yield s =
+    walk-holds s (λ at r. Well r) Yields (λ at r w h. at-end r w)
+    (λ at r w refusal byte e. (none, λ z. absurd (omega (arith, refused-some s at (allowedAfter (r .last)) 0 refusal byte e))))
+    (λ at r w tag start len e some. (none, λ z. absurd (some z)))
     (λ at r w tag start len e z. let f = whole s at (allowedAfter (r .last)) 0 tag start len e in
     well-step s r tag start len w (kind (r .last) tag (f .member)) (λ d. row-bytes f d .1) z)
     (length s) 0 nothingRead (omega arith) well-nothing
@@ -86,12 +90,12 @@ reads-accepted s =
     none : Accepted (clusterRefused 0 0 .cluster)
     none = unfold nothingRead in well-nothing .accepted
 
-    at-end : (r : Reading) → Well r → Accepted (ended s r .cluster)
+    at-end : (r : Reading) → Well r → Yields (ended s r)
     at-end r w = unfold ended in go (ltb (r .last) 3)
       where
-        go : (x : Bool) → Accepted (cond x (clusterRefused 7 (length s)) (record { refusal = 0; byte = 0; cluster = r .cluster; former = upTo (partitions (r .cluster)) (r .former) }) .cluster)
-        go true = none
-        go false = w .accepted
+        go : (x : Bool) → Yields (cond x (clusterRefused 7 (length s)) (record { refusal = 0; byte = 0; cluster = r .cluster; former = upTo (partitions (r .cluster)) (r .former) }))
+        go true = (none, λ z. absurd (omega arith))
+        go false = (w .accepted, λ z. well-former r w)
 
 -- Each cluster that is answered is without fault.
 yielded : (t : Topology) → Accepted t → Yielded (slotsOf t)
@@ -110,4 +114,4 @@ answer-yields s former = go (ltb (length former) layoutCells)
   where
     go : (x : Bool) → Yielded (slotsOf (cond x (clusterRefused 8 0) (readCluster s) .cluster))
     go true = yielded (clusterRefused 8 0 .cluster) (unfold nothingRead in well-nothing .accepted)
-    go false = yielded (readCluster s .cluster) (reads-accepted s)
+    go false = yielded (readCluster s .cluster) (reads-yield s .0)

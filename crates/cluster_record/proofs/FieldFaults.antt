@@ -1,27 +1,17 @@
 -- The faults of a field by its tag, over plain numbers.
 -- Assumes nothing.
-use Prim.Native.Nat.{ℕ, _+_, _-_, _*_, _/_, _%_, _^_, _≤_}
+use Prim.Native.Nat.{ℕ, _+_, _-_, _/_}
 use mathlib.Core.Path.{_≡_, sym, ap, ap₂, _∙_}
 use mathlib.Core.Bool.{Bool, _||_, not, cond}
 use mathlib.Core.List.{List}
-use native.Mathlib.Nat.{one-mul, mod-eq-of-lt}
 use native.Mathlib.Omega.{arith}
 use lib.Dec.{ltb, leb, eqb}
 use lib.ListN.{length}
-use lib.Pow.{pow-mono}
 use borrow.Author.Tests.{le-ltb}
 use Rattle.cluster.specs.Terms.{mostBits, mostCopies, mostNodes, Topology, partitions, idsOf, mem, rising}
 use Rattle.fields.specs.RecordField.{numberAt, nodeAtByte, idsAt}
 use Rattle.cluster_record.specs.RecordClusterFaults.{itemIn, lastOf, faultIn}
 use Rattle.cluster_record.proofs.Items.{below-one, item-bits, item-replication, item-redundancy, item-node, item-row}
-
--- There are at most 256 partitions.
-pub few-partitions : (k : ℕ) → k ≤ mostBits → 2 ^ k ≤ 256
-few-partitions k h = pow-mono {i = k} {j = 8} h
-
--- 1 shifted by the bits is the number of partitions.
-pub shift-one : (k : ℕ) → k ≤ mostBits → 1 * 2 ^ k % 2 ^ 64 ≡ 2 ^ k
-shift-one k h = ap (λ (n : ℕ). n % 2 ^ 64) (one-mul (2 ^ k)) ∙ mod-eq-of-lt (omega (arith, few-partitions k h))
 
 module _ (t : Topology) (next : ℕ) (s : List ℕ) (tag start len : ℕ) where
   pub bits-fault : (v r : ℕ) → tag ≡ 1 → v ≡ numberAt s start 1 → r ≡ cond (ltb v 0 || ltb mostBits v) 4 0 → r ≡ faultIn t next (itemIn s tag start len)

@@ -23,7 +23,7 @@ use Rattle.cluster_record.specs.RecordCluster.{bitsField, replicationFie
 use Rattle.cluster_record.specs.RecordClusterFaults.{Item, BitsOf, ReplicationOf, RedundancyOf, OneNode, FormerRow, itemIn, Reading, ClusterRead, nothingRead, allowedAfter, withItem, upTo, formerWith, readingWith, faultIn, clusterRefused, walk, readCluster}
 use Rattle.cluster_record.specs.RecordClusterAnswer.{clusterOutcome, clusterAnswer, readClusterOf, formerRead}
 use Rattle.cluster_record.proofs.Items.{item-node, item-five, sound-row}
-use Rattle.cluster_record.proofs.FieldFaults.{few-partitions}
+use Rattle.cluster.proofs.Accepting.{few-partitions}
 use Rattle.cluster_record.proofs.Rows.{length-next}
 use Rattle.cluster_record.proofs.Walks.{walk-refused, walk-fault, walk-on, walk-holds}
 use Rattle.cluster_record.proofs.Readings.{Kind, number-next, node-next, row-next, kind, one-byte, node-length, row-bytes, Well, well-nothing, well-step, rows-few}

@@ -20,7 +20,7 @@ use Rattle.cluster_record.specs.RecordClusterFaults.{Item, BitsOf, Repli
 use Rattle.sums.proofs.Tests.{neither}
 use Rattle.cluster_record.proofs.Items.{item-bits, item-replication, item-redundancy, item-node, item-five, ids-snoc, rising-snoc, in-range, sound-node, sound-row}
 use Rattle.fields.proofs.IdBytes.{length-ids}
-use Rattle.cluster_record.proofs.FieldFaults.{few-partitions}
+use Rattle.cluster.proofs.Accepting.{few-partitions}
 use Rattle.cluster_record.proofs.Rows.{every-snoc, row-upTo, length-next}
 
 -- ---- the tags allowed next

@@ -10,7 +10,7 @@ use lib.ListN.{length, take, getD}
 use lib.Seq.{take-all}
 use borrow.Author.Tests.{ltb-false}
 use Rattle.cluster.specs.declared.Node.{Node}
-use Rattle.cluster.specs.Terms.{mostCopies, Topology, partitions, Layout, noNode, rising}
+use Rattle.cluster.specs.Terms.{mostCopies, Topology, partitions, Layout, noNode, rising, IsFormer}
 use Rattle.fields.specs.RecordField.{bytesOf, Bytes, part, numberAt, nodeWidth, FitsNode, field, fieldAt, Whole, nodeAtByte, idBytes, idsAt}
 use Rattle.fields.specs.declared.Field.the-variants.{Body}
 use Rattle.fields.proofs.IdBytes.{ids-back, ids-words, length-ids}
@@ -201,6 +201,16 @@ sound-step s b at r tag start len q e none =
       inside = f .ends;
     }
 
+-- The rows that a reading has taken, up to P, are a former layout of its cluster.
+pub well-former : (r : Reading) → Well r → IsFormer (r .cluster) (upTo (partitions (r .cluster)) (r .former))
+well-former r w =
+    let P : ℕ = partitions (r .cluster) in
+    record {
+      partition-rows = length-upTo P (r .former) (w .rows-le);
+      ids = λ p k. ap rising (row-upTo P (r .former) p) ∙ w .row-ids p;
+      few = λ p k. subst (λ (x : List ℕ). length x ≤ mostCopies) (sym (row-upTo P (r .former) p)) (w .row-few p);
+    }
+
 -- At the end, after field 3, the whole is a record.
 sound-end : (s : List ℕ) (at : ℕ) (r : Reading) → Sound s at r → length s ≤ at → 3 ≤ r .last → IsClusterRecord s (r .cluster) (upTo (partitions (r .cluster)) (r .former))
 sound-end s at r q h l =
@@ -211,11 +221,7 @@ sound-end s at r q h l =
     record {
       bytes = sym (take-all at s h) ∙ (q .bytes ∙ whole-record);
       accepted = w .accepted;
-      former = record {
-        partition-rows = length-upTo P F (w .rows-le);
-        ids = λ p k. ap rising (row-upTo P F p) ∙ w .row-ids p;
-        few = λ p k. subst (λ (x : List ℕ). length x ≤ mostCopies) (sym (row-upTo P F p)) (w .row-few p);
-      };
+      former = well-former r w;
       fits = record {
         nodes = q .fits .nodes;
         former = λ p j. subst (λ (x : List ℕ). getD x j 0 < 2 ^ 32) (sym (row-upTo P F p)) (q .fits .former p j);

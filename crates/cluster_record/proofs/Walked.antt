@@ -16,7 +16,7 @@ use Rattle.fields.proofs.RecordField.{whole, refused-some}
 use Rattle.cluster_record.specs.RecordClusterFaults.{itemIn, Reading, ClusterRead, nothingRead, allowedAfter, withItem, formerWith, readingWith, faultIn, clusterRefused, ended, walk, readCluster}
 use Rattle.cluster_record.specs.RecordClusterAnswer.{clusterAnswer}
 use Rattle.cluster_record.proofs.Items.{item-node, item-five, sound-node, sound-row}
-use Rattle.cluster_record.proofs.FieldFaults.{few-partitions}
+use Rattle.cluster.proofs.Accepting.{few-partitions}
 use Rattle.cluster_record.proofs.Rows.{cells-none, cells-upTo}
 use Rattle.cluster.proofs.Slots.{topology-slots}
 use Rattle.cluster_record.proofs.Walks.{walk-ends, walk-refused, walk-fault, walk-on}

@@ -1,13 +1,13 @@
 // The faults of what a field says, in the paper's order: a value outside its range, an id or partition not rising, too
 // many nodes; 0 where there is none.
 ghost use mathlib.Core.Path.{_≡_};
-ghost use mathlib.Core.Bool.{_||_, not, cond};
-ghost use Prim.Native.Nat.{_+_, _^_, _≤_, _<_};
+ghost use mathlib.Core.Bool.{_||_, cond};
+ghost use Prim.Native.Nat.{_+_, _≤_, _<_};
 ghost use lib.Dec.{ltb, leb, eqb};
 ghost use lib.ListN.{length};
-ghost use Rattle.cluster.specs.Terms.{mostBits, mostNodes, topology, idsOf, mem, rising};
-ghost use Rattle.fields.specs.RecordField.{numberAt, idsAt};
+ghost use Rattle.cluster.specs.Terms.{mostBits, mostNodes, topology, idsOf};
 ghost use Rattle.cluster_record.specs.RecordClusterFaults.{itemIn, lastOf, faultIn};
+use super::row_faults;
 use cluster::Cluster;
 use cluster::refusal;
 
@@ -52,29 +52,6 @@ fn node_fault(count: usize, last: u32, id: u32) -> u32
     0
 }
 
-// Of a former row of so many ids, where the partitions before `next` are passed.
-fn row_fault(bytes: &[u8], bits: u32, next: usize, start: usize, count: usize) -> u32
-    requires { ⌜ (bits ≤ mostBits) × (start + 2 ≤ length (now bytes)) ⌝ }
-    ensures { λ r. ⌜ r ≡ cond (leb (2 ^ bits) (numberAt (now (bytes .entry)) start 2) || mem 0 (idsAt (now (bytes .entry)) (start + 2) count)) 4
-        (cond (ltb (numberAt (now (bytes .entry)) start 2) next || not (rising (idsAt (now (bytes .entry)) (start + 2) count))) 5 0) ⌝ }
-{
-    let partition = fields::pair_at(bytes, start) as usize;
-    if (1 << bits) <= partition {
-        return refusal::RANGE;
-    }
-    if fields::ids::has_zero(bytes, start + 2, count) {
-        return refusal::RANGE;
-    }
-    if partition < next {
-        return refusal::ORDER;
-    }
-    if fields::ids::ids_rise(bytes, start + 2, count) {
-        0
-    } else {
-        refusal::ORDER
-    }
-}
-
 // Of a whole field.
 pub(crate) fn field_fault(
     bytes: &[u8],
@@ -100,5 +77,5 @@ pub(crate) fn field_fault(
         let n = fields::node_at(bytes, start);
         return node_fault(c.count, last_id(c), n.id);
     }
-    row_fault(bytes, c.bits, next, start, (len - 2) / 4)
+    row_faults::row_fault(bytes, c.bits, next, start, (len - 2) / 4)
 }

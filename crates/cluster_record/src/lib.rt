@@ -10,6 +10,7 @@ use cluster::refusal;
 use fields::Field;
 
 mod faults;
+mod row_faults;
 mod taking;
 
 // What a reading yields: the refusal, 0 for none, with its byte, and the cluster.

@@ -1,17 +1,22 @@
--- The answers in lent cells, by the number of cells.
+-- The two tests that come before an operation: whether the cells of the answer are enough, and whether the record is refused.
 -- Assumes nothing.
 use Prim.Native.Nat.{ℕ, _≤_, _<_}
 use mathlib.Core.Path.{_≡_}
-use mathlib.Core.List.{List, _++_}
-use lib.ListN.{length, drop}
-use borrow.Author.Tests.{lt-ltb, le-ltb}
-use Rattle.console.specs.TermsConsole.{answered}
+use mathlib.Core.List.{List}
+use lib.ListN.{length}
+use borrow.Author.Tests.{lt-ltb, le-ltb, eq-eqb, ne-eqb}
+use Rattle.cluster_record.specs.declared.ReadCluster.{ReadCluster}
+use Rattle.console.specs.TermsConsole.{unlessShort, afterReading}
 
-module _ (n : ℕ) (numbers answer : List ℕ) where
-  pub answered-short : length answer < n → answered n numbers answer ≡ answer
-  unfolding answered
-  answered-short h = simp (lt-ltb (length answer) n h)
+module _ {A : Type 0} where
+  pub short : {x : A} (y : A) (n : ℕ) (answer : List ℕ) → length answer < n → x ≡ unlessShort n answer x y
+  short y n answer h = simp (lt-ltb (length answer) n h)
 
-  pub answered-long : n ≤ length answer → answered n numbers answer ≡ numbers ++ drop n answer
-  unfolding answered
-  answered-long h = simp (le-ltb (length answer) n h)
+  pub long : {w y : A} (x : A) (n : ℕ) (answer : List ℕ) → n ≤ length answer → w ≡ y → w ≡ unlessShort n answer x y
+  long x n answer h e = simp (le-ltb (length answer) n h) e
+
+  pub refused : {x : A} (y : A) (r : ReadCluster) → (r .refusal ≡ 0 → ⊥) → x ≡ afterReading r x y
+  refused y r h = simp (ne-eqb (r .refusal) 0 h)
+
+  pub accepted : {w y : A} (x : A) (r : ReadCluster) → r .refusal ≡ 0 → w ≡ y → w ≡ afterReading r x y
+  accepted x r h e = simp (eq-eqb (r .refusal) 0 h) e

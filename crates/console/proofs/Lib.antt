@@ -1,7 +1,5 @@
 pub mod Answered
-pub mod CheckAnswers
 pub mod ClusterAnswers
-pub mod NodeCells
+pub mod Puts
 pub mod PlanAnswers
-pub mod RecordAnswers
 pub mod RowAnswers

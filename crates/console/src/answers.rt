@@ -1,8 +1,9 @@
 // Numbers in lent cells.
 ghost use mathlib.Core.Path.{_≡_};
-ghost use Prim.Native.Nat.{_/_, _%_, _^_};
-ghost use lib.ListN.{length};
-ghost use Rattle.console.specs.TermsConsole.{answered};
+ghost use mathlib.Core.List.{_++_};
+ghost use Prim.Native.Nat.{_+_, _/_, _%_, _^_, _≤_};
+ghost use lib.ListN.{length, take, drop};
+ghost use Rattle.console.specs.TermsConsole.{halves};
 
 // The high half of a number of 64 bits.
 pub(crate) fn high(x: u64) -> u32
@@ -18,16 +19,24 @@ pub(crate) fn low(x: u64) -> u32
     (x % 4294967296) as u32
 }
 
-// Numbers go into the first cells, all of them or, where there are too few cells, none.
-pub(crate) fn put(numbers: &[u32], cells: &mut [u32])
-    ensures { λ _. ⌜ now (cells .exit) ≡ answered (length (now (numbers .entry))) (now (numbers .entry)) (now (cells .entry)) ⌝ }
+// Numbers go into the cells from `at` on.
+pub(crate) fn put(numbers: &[u32], at: usize, cells: &mut [u32])
+    requires { ⌜ at + length (now numbers) ≤ length (now cells) ⌝ }
+    ensures { λ _. ⌜ now (cells .exit) ≡ take at (now (cells .entry)) ++ now (numbers .entry) ++ drop (at + length (now (numbers .entry))) (now (cells .entry)) ⌝ }
 {
-    if cells.len() < numbers.len() {
-        return;
-    }
     let mut i = 0;
     while i < numbers.len() {
-        cells[i] = numbers[i];
+        cells[at + i] = numbers[i];
         i += 1;
     }
+}
+
+// A number of 64 bits goes into the first two cells, numbers into those after them.
+pub(crate) fn put_after(x: u64, numbers: &[u32], cells: &mut [u32])
+    requires { ⌜ 2 + length (now numbers) ≤ length (now cells) ⌝ }
+    ensures { λ _. ⌜ now (cells .exit) ≡ halves x ++ now (numbers .entry) ++ drop (2 + length (now (numbers .entry))) (now (cells .entry)) ⌝ }
+{
+    put(numbers, 2, cells);
+    let first = [high(x), low(x)];
+    put(&first, 0, cells);
 }

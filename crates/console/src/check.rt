@@ -1,6 +1,6 @@
 // Whether a layout in hand is valid at a size, asked through C.
 ghost use mathlib.Core.Path.{_≡_};
-ghost use Rattle.console.specs.TermsConsole.{checked, checkRefusal, checkAnswer};
+ghost use Rattle.console.specs.TermsConsole.{unlessShort, answerAfter, reading, checkCells, checked, checkNumbers};
 use super::answers;
 use super::cluster_in;
 use cluster::refusal;
@@ -33,16 +33,16 @@ pub extern "C" fn dezghuri_check(
     size: u32,
     answer: &mut [u32],
 ) -> u32
-    ensures { λ r. ⌜ (r ≡ checkRefusal (now (bytes .entry)) (now (assignment .entry)) size (now (answer .entry)))
-        × (now (answer .exit) ≡ checkAnswer (now (bytes .entry)) (now (assignment .entry)) size (now (answer .entry))) ⌝ }
+    ensures { λ r. let read = reading (now (bytes .entry)) in let found = checked read (now (assignment .entry)) size in let lent = now (answer .entry) in
+        ⌜ (r ≡ unlessShort checkCells lent 8 (found .refusal))
+        × (now (answer .exit) ≡ answerAfter checkCells lent (checkNumbers read found)) ⌝ }
 {
     if answer.len() < ANSWER {
         return refusal::BUFFER;
     }
     let read = cluster_in::read(bytes);
     let found = check_read(read, assignment, size);
-    let byte = read.byte as u64;
-    let numbers = [answers::high(byte), answers::low(byte), found.place];
-    answers::put(&numbers, answer);
+    let numbers = [found.place];
+    answers::put_after(read.byte as u64, &numbers, answer);
     found.refusal
 }

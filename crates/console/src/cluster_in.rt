@@ -3,7 +3,8 @@ ghost use mathlib.Core.Path.{_≡_};
 ghost use mathlib.Core.List.{_++_};
 ghost use Prim.Native.Nat.{_≤_};
 ghost use lib.ListN.{length, take, drop};
-ghost use Rattle.console.specs.TermsConsole.{reading, nodeCells, readClusterRefusal, readClusterFormer, readClusterAnswer};
+ghost use Rattle.cluster_record.specs.RecordClusterAnswer.{readClusterOf, formerRead};
+ghost use Rattle.console.specs.TermsConsole.{unlessShort, answerAfter, reading, headCells, readClusterCells, nodeCells, clusterNumbers};
 use super::answers;
 use cluster::Cluster;
 use cluster::refusal;
@@ -24,18 +25,16 @@ pub(crate) fn read(bytes: &[u8]) -> ReadCluster
     cluster_record::read_cluster(bytes, &mut former)
 }
 
-// The slots of a cluster go into three cells each, after the head.
+// The slots of a cluster go into the cells after the head.
 fn put_nodes(c: Cluster, cells: &mut [u32])
-    requires { ⌜ 102 ≤ length (now cells) ⌝ }
-    ensures { λ _. ⌜ now (cells .exit) ≡ take 6 (now (cells .entry)) ++ nodeCells (c .nodes) ++ drop 102 (now (cells .entry)) ⌝ }
+    requires { ⌜ readClusterCells ≤ length (now cells) ⌝ }
+    ensures { λ _. ⌜ now (cells .exit) ≡ take headCells (now (cells .entry)) ++ nodeCells (c .nodes) ++ drop readClusterCells (now (cells .entry)) ⌝ }
 {
     let mut b = 0;
     while b < Cluster::NODES {
         let node = c.nodes[b];
-        let at = HEAD + NODE * b;
-        cells[at] = node.id;
-        cells[at + 1] = node.zone as u32;
-        cells[at + 2] = node.capacity;
+        let numbers = [node.id, node.zone as u32, node.capacity];
+        answers::put(&numbers, HEAD + NODE * b, cells);
         b += 1;
     }
 }
@@ -43,25 +42,18 @@ fn put_nodes(c: Cluster, cells: &mut [u32])
 // Reads a cluster record, and its former layout into the lent cells.
 #[no_mangle]
 pub extern "C" fn dezghuri_read_cluster(bytes: &[u8], former: &mut [u32], answer: &mut [u32]) -> u32
-    ensures { λ r. ⌜ (r ≡ readClusterRefusal (now (bytes .entry)) (now (former .entry)) (now (answer .entry)))
-        × (now (former .exit) ≡ readClusterFormer (now (bytes .entry)) (now (former .entry)) (now (answer .entry)))
-        × (now (answer .exit) ≡ readClusterAnswer (now (bytes .entry)) (now (former .entry)) (now (answer .entry))) ⌝ }
+    ensures { λ r. let read = readClusterOf (now (bytes .entry)) (now (former .entry)) in let lent = now (answer .entry) in
+        ⌜ (r ≡ unlessShort readClusterCells lent 8 (read .refusal))
+        × (now (former .exit) ≡ unlessShort readClusterCells lent (now (former .entry)) (formerRead (now (bytes .entry)) (now (former .entry))))
+        × (now (answer .exit) ≡ answerAfter readClusterCells lent (clusterNumbers read)) ⌝ }
 {
     if answer.len() < ANSWER {
         return refusal::BUFFER;
     }
     let read = cluster_record::read_cluster(bytes, former);
-    let byte = read.byte as u64;
     let c = read.cluster;
-    let head = [
-        answers::high(byte),
-        answers::low(byte),
-        c.bits,
-        c.replication,
-        c.redundancy,
-        c.count as u32,
-    ];
-    answers::put(&head, answer);
+    let numbers = [c.bits, c.replication, c.redundancy, c.count as u32];
+    answers::put_after(read.byte as u64, &numbers, answer);
     put_nodes(c, answer);
     read.refusal
 }

@@ -1,6 +1,6 @@
 // The figures of a layout in hand, asked through C.
 ghost use mathlib.Core.Path.{_≡_};
-ghost use Rattle.console.specs.TermsConsole.{figured, figuresLeft, figuresRefusal, figuresAfter, figuresAnswer};
+ghost use Rattle.console.specs.TermsConsole.{unlessShort, answerAfter, reading, figuredCells, figured, figuresLeft, figuredNumbers};
 use super::answers;
 use super::cluster_in;
 use cluster::refusal;
@@ -36,23 +36,21 @@ pub extern "C" fn dezghuri_figures(
     figures: &mut [u32],
     answer: &mut [u32],
 ) -> u32
-    ensures { λ r. ⌜ (r ≡ figuresRefusal (now (bytes .entry)) (now (assignment .entry)) size (now (figures .entry)) (now (answer .entry)))
-        × (now (figures .exit) ≡ figuresAfter (now (bytes .entry)) (now (assignment .entry)) size (now (figures .entry)) (now (answer .entry)))
-        × (now (answer .exit) ≡ figuresAnswer (now (bytes .entry)) (now (assignment .entry)) size (now (figures .entry)) (now (answer .entry))) ⌝ }
+    ensures { λ r. let read = reading (now (bytes .entry)) in let found = figured read (now (assignment .entry)) size (now (figures .entry)) in let lent = now (answer .entry) in
+        ⌜ (r ≡ unlessShort figuredCells lent 8 (found .refusal))
+        × (now (figures .exit) ≡ unlessShort figuredCells lent (now (figures .entry)) (figuresLeft read (now (assignment .entry)) size (now (figures .entry))))
+        × (now (answer .exit) ≡ answerAfter figuredCells lent (figuredNumbers read found)) ⌝ }
 {
     if answer.len() < ANSWER {
         return refusal::BUFFER;
     }
     let read = cluster_in::read(bytes);
     let found = figures_read(read, assignment, size, figures);
-    let byte = read.byte as u64;
     let numbers = [
-        answers::high(byte),
-        answers::low(byte),
         found.place,
         answers::high(found.hope),
         answers::low(found.hope),
     ];
-    answers::put(&numbers, answer);
+    answers::put_after(read.byte as u64, &numbers, answer);
     found.refusal
 }

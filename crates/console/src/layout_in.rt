@@ -1,6 +1,7 @@
 // Layout records, read through C.
 ghost use mathlib.Core.Path.{_≡_};
-ghost use Rattle.console.specs.TermsConsole.{readLayoutRefusal, readLayoutAssignment, readLayoutAnswer};
+ghost use Rattle.layout_record.specs.RecordLayoutAnswer.{readLayoutOf, assignmentRead};
+ghost use Rattle.console.specs.TermsConsole.{unlessShort, answerAfter, readLayoutCells, layoutNumbers};
 use super::answers;
 use cluster::refusal;
 
@@ -14,19 +15,17 @@ pub extern "C" fn dezghuri_read_layout(
     assignment: &mut [u32],
     answer: &mut [u32],
 ) -> u32
-    ensures { λ r. ⌜ (r ≡ readLayoutRefusal (now (bytes .entry)) (now (assignment .entry)) (now (answer .entry)))
-        × (now (assignment .exit) ≡ readLayoutAssignment (now (bytes .entry)) (now (assignment .entry)) (now (answer .entry)))
-        × (now (answer .exit) ≡ readLayoutAnswer (now (bytes .entry)) (now (assignment .entry)) (now (answer .entry))) ⌝ }
+    ensures { λ r. let read = readLayoutOf (now (bytes .entry)) (now (assignment .entry)) in let lent = now (answer .entry) in
+        ⌜ (r ≡ unlessShort readLayoutCells lent 8 (read .refusal))
+        × (now (assignment .exit) ≡ unlessShort readLayoutCells lent (now (assignment .entry)) (assignmentRead (now (bytes .entry)) (now (assignment .entry))))
+        × (now (answer .exit) ≡ answerAfter readLayoutCells lent (layoutNumbers read)) ⌝ }
 {
     if answer.len() < ANSWER {
         return refusal::BUFFER;
     }
     let read = layout_record::read_layout(bytes, assignment);
-    let byte = read.byte as u64;
     let n = read.numbers;
     let numbers = [
-        answers::high(byte),
-        answers::low(byte),
         n.bits,
         n.replication,
         n.size,
@@ -34,6 +33,6 @@ pub extern "C" fn dezghuri_read_layout(
         n.verdict,
         n.improvements,
     ];
-    answers::put(&numbers, answer);
+    answers::put_after(read.byte as u64, &numbers, answer);
     read.refusal
 }

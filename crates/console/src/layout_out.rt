@@ -1,7 +1,8 @@
 // Layout records, written through C.
 ghost use mathlib.Core.Path.{_≡_};
 ghost use Rattle.layout_record.specs.RecordLayout.{numbersOf};
-ghost use Rattle.console.specs.TermsConsole.{writeRefusal, writeOut, writtenAnswer};
+ghost use Rattle.layout_record.specs.RecordLayoutAnswer.{writeAnswer, outAfter};
+ghost use Rattle.console.specs.TermsConsole.{halves, unlessShort, answerAfter, writeCells};
 use super::answers;
 use cluster::refusal;
 use layout_record::Numbers;
@@ -22,9 +23,10 @@ pub extern "C" fn dezghuri_write_layout(
     out: &mut [u8],
     answer: &mut [u32],
 ) -> u32
-    ensures { λ r. ⌜ (r ≡ writeRefusal (numbersOf bits replication size distance verdict improvements) (now (assignment .entry)) (now (out .entry)) (now (answer .entry)))
-        × (now (out .exit) ≡ writeOut (numbersOf bits replication size distance verdict improvements) (now (assignment .entry)) (now (out .entry)) (now (answer .entry)))
-        × (now (answer .exit) ≡ writtenAnswer (numbersOf bits replication size distance verdict improvements) (now (assignment .entry)) (now (out .entry)) (now (answer .entry))) ⌝ }
+    ensures { λ r. let n = numbersOf bits replication size distance verdict improvements in let written = writeAnswer n (now (assignment .entry)) (now (out .entry)) in let lent = now (answer .entry) in
+        ⌜ (r ≡ unlessShort writeCells lent 8 (written .refusal))
+        × (now (out .exit) ≡ unlessShort writeCells lent (now (out .entry)) (outAfter n (now (assignment .entry)) (now (out .entry))))
+        × (now (answer .exit) ≡ answerAfter writeCells lent (halves (written .length))) ⌝ }
 {
     if answer.len() < ANSWER {
         return refusal::BUFFER;
@@ -40,6 +42,6 @@ pub extern "C" fn dezghuri_write_layout(
     let written = layout_record::write_layout(n, assignment, out);
     let length = written.length as u64;
     let numbers = [answers::high(length), answers::low(length)];
-    answers::put(&numbers, answer);
+    answers::put(&numbers, 0, answer);
     written.refusal
 }

@@ -2,7 +2,9 @@
 ghost use mathlib.Core.Path.{_≡_};
 ghost use lib.ListN.{length};
 ghost use Rattle.sums.specs.TermsSums.{one-if};
-ghost use Rattle.console.specs.TermsConsole.{planned, plannedAssignment, plannedScratch, planRefusal, planAssignment, planScratch, planAnswer};
+ghost use Rattle.cluster.specs.Terms.{topology, partitions, rowsIn};
+ghost use Rattle.planner.specs.TermsPlan.{unusable, Owed};
+ghost use Rattle.console.specs.TermsConsole.{unlessShort, answerAfter, reading, formerIn, planCells, planned, plannedAssignment, plannedScratch, plannedNumbers, PlanOwed};
 use super::answers;
 use cluster::Cluster;
 use cluster::refusal;
@@ -29,7 +31,9 @@ fn plan_read(
 ) -> Planned
     ensures { λ r. ⌜ (r ≡ planned read (now (former .entry)) allowance (length (now (assignment .entry))) (length (now (scratch .entry))))
         × (now (assignment .exit) ≡ plannedAssignment read (now (former .entry)) allowance (now (assignment .entry)) (length (now (scratch .entry))))
-        × (now (scratch .exit) ≡ plannedScratch read (now (former .entry)) (length (now (assignment .entry))) (now (scratch .entry))) ⌝ }
+        × (now (scratch .exit) ≡ plannedScratch read (now (former .entry)) (length (now (assignment .entry))) (now (scratch .entry)))
+        × (read .refusal ≡ 0 → unusable (read .cluster) (now (former .entry)) (length (now (assignment .entry))) (length (now (scratch .entry))) ≡ 0
+        → Owed (topology (read .cluster)) (rowsIn (partitions (topology (read .cluster))) (now (former .entry))) (r .refusal)) ⌝ }
 {
     if read.refusal != 0 {
         return Planned {
@@ -53,10 +57,13 @@ pub extern "C" fn dezghuri_plan(
     scratch: &mut [u32],
     answer: &mut [u32],
 ) -> u32
-    ensures { λ r. ⌜ (r ≡ planRefusal (now (bytes .entry)) allowance (now (assignment .entry)) (now (scratch .entry)) (now (answer .entry)))
-        × (now (assignment .exit) ≡ planAssignment (now (bytes .entry)) allowance (now (assignment .entry)) (now (scratch .entry)) (now (answer .entry)))
-        × (now (scratch .exit) ≡ planScratch (now (bytes .entry)) (now (assignment .entry)) (now (scratch .entry)) (now (answer .entry)))
-        × (now (answer .exit) ≡ planAnswer (now (bytes .entry)) allowance (now (assignment .entry)) (now (scratch .entry)) (now (answer .entry))) ⌝ }
+    ensures { λ r. let s = now (bytes .entry) in let cells = now (assignment .entry) in let rest = now (scratch .entry) in let lent = now (answer .entry) in
+        let made = planned (reading s) (formerIn s) allowance (length cells) (length rest) in
+        ⌜ (r ≡ unlessShort planCells lent 8 (made .refusal))
+        × (now (assignment .exit) ≡ unlessShort planCells lent cells (plannedAssignment (reading s) (formerIn s) allowance cells (length rest)))
+        × (now (scratch .exit) ≡ unlessShort planCells lent rest (plannedScratch (reading s) (formerIn s) (length cells) rest))
+        × (now (answer .exit) ≡ answerAfter planCells lent (plannedNumbers (reading s) made))
+        × PlanOwed s (length cells) (length rest) (length lent) r ⌝ }
 {
     if answer.len() < ANSWER {
         return refusal::BUFFER;
@@ -64,15 +71,12 @@ pub extern "C" fn dezghuri_plan(
     let mut former = [0u32; Cluster::CELLS];
     let read = cluster_record::read_cluster(bytes, &mut former);
     let made = plan_read(read, &former, allowance, assignment, scratch);
-    let byte = read.byte as u64;
     let numbers = [
-        answers::high(byte),
-        answers::low(byte),
         made.size,
         made.distance,
         verdict(made.finished),
         made.improvements,
     ];
-    answers::put(&numbers, answer);
+    answers::put_after(read.byte as u64, &numbers, answer);
     made.refusal
 }

@@ -12,7 +12,7 @@ use Rattle.sums.specs.TermsSums.{sumTo}
 use Rattle.sums.specs.ModelSums.{is}
 use Rattle.sums.proofs.Sum.{sum-cong, sum-le, sum-const, sum-scale, sum-swap}
 use Rattle.exchange.specs.ModelRow.{zoneCount, cover, Within, copies}
-use Rattle.dealing.specs.ModelDeal.{inZone, Fits, fits, given, start, dealt}
+use Rattle.dealing.specs.ModelDeal.{inZone, Fits, hasRoom, given, start, dealt}
 use Rattle.dealing.proofs.Climb.{inZone-le}
 use Rattle.dealing.proofs.Turns.{turns, turns-whole}
 use Rattle.dealing.proofs.Line.{among-le, zoneCount-inZone, line, line-copies, line-row, line-cover}
@@ -21,13 +21,13 @@ use Rattle.dealing.proofs.Given.{given-le, given-sum, given-zones}
 -- ---- the test
 
 -- Where the caps fit, the test passes.
-pub fits-true : (P N R Z : ℕ) (zone cap : ℕ → ℕ) → Fits P N R Z zone cap → fits P N R Z zone cap ≡ true
-unfolding fits
+pub fits-true : (P N R Z : ℕ) (zone cap : ℕ → ℕ) → Fits P N R Z zone cap → hasRoom P N R Z zone cap ≡ true
+unfolding hasRoom
 fits-true P N R Z zone cap h = simp (le-leb _ _ (h .0), le-leb _ _ (h .1))
 
 -- Where the test passes, the caps fit.
-pub true-fits : (P N R Z : ℕ) (zone cap : ℕ → ℕ) → fits P N R Z zone cap ≡ true → Fits P N R Z zone cap
-unfolding fits
+pub true-fits : (P N R Z : ℕ) (zone cap : ℕ → ℕ) → hasRoom P N R Z zone cap ≡ true → Fits P N R Z zone cap
+unfolding hasRoom
 true-fits P N R Z zone cap e =
     let b = both (leb (R * P) (sumTo N cap)) (leb (Z * P) (sumTo N (λ z. min P (inZone zone cap z N)))) e in
     (leb-true _ _ (b .0), leb-true _ _ (b .1))

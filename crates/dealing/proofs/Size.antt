@@ -7,7 +7,7 @@ use native.Mathlib.Omega.{arith}
 use lib.Pow.{pow-pos, pow-lt}
 use Rattle.sums.proofs.Sum.{lt-or-ge, sum-le, sum-zero}
 use Rattle.exchange.specs.ModelRow.{Within}
-use Rattle.dealing.specs.ModelDeal.{Fits, fits, dealt}
+use Rattle.dealing.specs.ModelDeal.{Fits, hasRoom, dealt}
 use Rattle.dealing.specs.ModelBisect.{Largest}
 use Rattle.dealing.specs.ModelSize.{bestSize, Caps, Best}
 use Rattle.dealing.proofs.Bisect.{bisect-largest}
@@ -18,9 +18,9 @@ module _ (n P N R Z : ℕ) (zone : ℕ → ℕ) (cap : ℕ → ℕ → ℕ) (bit
   fits-falls : (s s′ : ℕ) → 1 ≤ s → s ≤ s′ → Fits P N R Z zone (cap s′) → Fits P N R Z zone (cap s)
   fits-falls s s′ a l h = fits-rising P N R Z zone (cap s′) (cap s) (λ b m. c .fall s s′ b a l m) h
 
-  bisected : Largest (2 ^ n) (λ s. fits P N R Z zone (cap s)) (bestSize n P N R Z zone cap)
+  bisected : Largest (2 ^ n) (λ s. hasRoom P N R Z zone (cap s)) (bestSize n P N R Z zone cap)
   unfolding bestSize
-  bisected = bisect-largest (λ s. fits P N R Z zone (cap s))
+  bisected = bisect-largest (λ s. hasRoom P N R Z zone (cap s))
       (λ s s′ a l e. fits-true P N R Z zone (cap s) (fits-falls s s′ a l (true-fits P N R Z zone (cap s′) e))) n
 
   deals : (s : ℕ) → 1 ≤ s → s ≤ bestSize n P N R Z zone cap → Within P N R Z zone (cap s) (dealt P N R zone (cap s))

@@ -18,8 +18,8 @@ abbrev pub Fits : (P N R Z : ℕ) (zone cap : ℕ → ℕ) → Type 0
 Fits P N R Z zone cap = (R * P ≤ sumTo N cap) × (Z * P ≤ sumTo N (λ z. min P (inZone zone cap z N)))
 
 -- The same as a test that is computed.
-unfoldable pub fits : (P N R Z : ℕ) (zone cap : ℕ → ℕ) → Bool
-fits P N R Z zone cap = leb (R * P) (sumTo N cap) && leb (Z * P) (sumTo N (λ z. min P (inZone zone cap z N)))
+unfoldable pub hasRoom : (P N R Z : ℕ) (zone cap : ℕ → ℕ) → Bool
+hasRoom P N R Z zone cap = leb (R * P) (sumTo N cap) && leb (Z * P) (sumTo N (λ z. min P (inZone zone cap z N)))
 
 -- ---- how many copies each node is given
 
@@ -32,16 +32,16 @@ unfoldable pub zoned : ℕ → (ℕ → ℕ) → (ℕ → ℕ) → ℕ → ℕ
 zoned P zone cap b = min (cap b) (P - inZone zone cap (zone b) b)
 
 -- The first pass: at most P copies to a zone, R * P copies in all.
-unfoldable pub first : (P R : ℕ) (zone cap : ℕ → ℕ) → ℕ → ℕ
-first P R zone cap b = pour (R * P) (zoned P zone cap) b
+unfoldable pub firstPass : (P R : ℕ) (zone cap : ℕ → ℕ) → ℕ → ℕ
+firstPass P R zone cap b = pour (R * P) (zoned P zone cap) b
 
 -- The second pass: what is left of R * P, up to the caps.
 unfoldable pub more : (P N R : ℕ) (zone cap : ℕ → ℕ) → ℕ → ℕ
-more P N R zone cap b = pour (R * P - sumTo N (first P R zone cap)) (λ c. cap c - first P R zone cap c) b
+more P N R zone cap b = pour (R * P - sumTo N (firstPass P R zone cap)) (λ c. cap c - firstPass P R zone cap c) b
 
 -- The copies of a node: both passes.
 unfoldable pub given : (P N R : ℕ) (zone cap : ℕ → ℕ) → ℕ → ℕ
-given P N R zone cap b = first P R zone cap b + more P N R zone cap b
+given P N R zone cap b = firstPass P R zone cap b + more P N R zone cap b
 
 -- ---- the line of all copies, from the copies t of the zones
 

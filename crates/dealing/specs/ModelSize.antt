@@ -3,12 +3,12 @@
 use Prim.Native.Nat.{ℕ, _≤_, _<_}
 use mathlib.Core.Path.{_≡_}
 use Rattle.exchange.specs.ModelRow.{Within}
-use Rattle.dealing.specs.ModelDeal.{fits, dealt}
+use Rattle.dealing.specs.ModelDeal.{hasRoom, dealt}
 use Rattle.dealing.specs.ModelBisect.{bisect}
 
 -- The largest size below 2 ^ n at which the caps fit, bisected; 0 where there is none.
 unfoldable pub bestSize : (n P N R Z : ℕ) (zone : ℕ → ℕ) (cap : ℕ → ℕ → ℕ) → ℕ
-bestSize n P N R Z zone cap = bisect n (λ s. fits P N R Z zone (cap s))
+bestSize n P N R Z zone cap = bisect n (λ s. hasRoom P N R Z zone (cap s))
 
 -- Caps by size: at most P, and falling as the size grows.
 pub record Caps (P N : ℕ) (cap : ℕ → ℕ → ℕ) : Type 0 where

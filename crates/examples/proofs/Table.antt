@@ -12,7 +12,7 @@ use Rattle.sums.specs.TermsSums.{sumTo, one-if}
 use Rattle.sums.proofs.Sum.{lt-or-ge}
 use Rattle.cluster.specs.Terms.{takes, Topology, idsOf, mem, risingFrom, rising, different, zonesNamed, Layout, copiesIn, ValidAt, onlyIn, distance}
 use Rattle.sums.proofs.Tests.{both}
-use Rattle.examples.specs.TermsExamples.{Rows, HasRows, Outcome, no-layout, planned, Comes, Example, Holds, table, EveryHolds, Table}
+use Rattle.examples.specs.TermsExamples.{Rows, HasRows, Expected, no-layout, planned, Comes, Example, Holds, table, EveryHolds, Table}
 use Rattle.examples.specs.ModelExamples.{every, some, implies, choices, before, layoutsOf, candidates, rowTest, nodeTest, validTest, acceptedTest, formerRowTest, formerTest, sameRow, sameLayout, rowsTest, nearest, agrees, outcomeTest, passes}
 use Rattle.examples.proofs.Listing.{candidate}
 use Rattle.examples.proofs.Testing.{test-valid, valid-test, valid-below, test-accepted, test-former, test-rows}
@@ -90,7 +90,7 @@ module _ (t : Topology) (F : Layout) (s d : ℕ) (rows : Rows) (u : rising (idsO
       (then (nearest t F s d L) (rowsTest rows L) (agreed t F s d rows L (all-agree L s v) .2) (valid-nearest t F s d L v e))
 
 -- The outcome that passes comes about.
-pub test-comes : (t : Topology) (F : Layout) (o : Outcome) → rising (idsOf (t .nodes)) ≡ true → outcomeTest t F o ≡ true → Comes t F o
+pub test-comes : (t : Topology) (F : Layout) (o : Expected) → rising (idsOf (t .nodes)) ≡ true → outcomeTest t F o ≡ true → Comes t F o
 unfolding outcomeTest
 test-comes t F no-layout u h = λ L v. fails (validTest t L 1) (candidate t L 1 u v (λ M. not (validTest t M 1)) h) (valid-test t L 1 v)
 test-comes t F (planned s d rows) u h =

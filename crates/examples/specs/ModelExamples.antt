@@ -8,7 +8,7 @@ use lib.Dec.{ltb, leb, eqb}
 use lib.ListN.{length}
 use Rattle.cluster.specs.Terms.{takes, mostBits, mostCopies, mostNodes, Topology, partitions, idsOf, mem, rising, zonesOf, Layout, copiesIn, distance}
 use Rattle.cluster.specs.declared.Node.{Node}
-use Rattle.examples.specs.TermsExamples.{Rows, unnamed, named, Outcome, no-layout, planned, Example}
+use Rattle.examples.specs.TermsExamples.{Rows, unnamed, named, Expected, no-layout, planned, Example}
 
 -- ---- tests over a list
 
@@ -113,7 +113,7 @@ agrees t F s d rows L =
     && (implies (validTest t L s) (leb d (distance t L F)) && implies (nearest t F s d L) (rowsTest rows L))
 
 -- Comes: one candidate is what the example says, and all agree with it.
-unfoldable pub outcomeTest : Topology → Layout → Outcome → Bool
+unfoldable pub outcomeTest : Topology → Layout → Expected → Bool
 outcomeTest t F no-layout = every (λ (L : Layout). not (validTest t L 1)) (candidates t)
 outcomeTest t F (planned s d rows) = some (nearest t F s d) (candidates t) && every (agrees t F s d rows) (candidates t)
 

@@ -18,15 +18,15 @@ pub data Rows : Type 0 where
   named : Layout → Rows
 
 -- The column "outcome": 9, that no layout is valid at size 1; or the size, the distance, and the rows where they are named.
-pub data Outcome : Type 0 where
-  no-layout : Outcome
-  planned : ℕ → ℕ → Rows → Outcome
+pub data Expected : Type 0 where
+  no-layout : Expected
+  planned : ℕ → ℕ → Rows → Expected
 
 -- A line of the table: "k, R, Z" and "boxes" are the topology, then "former" and "outcome".
 pub record Example : Type 0 where
   pub topology : Topology
   pub former : Layout
-  pub outcome : Outcome
+  pub outcome : Expected
 
 -- ---- what it means
 
@@ -43,7 +43,7 @@ pub record Planned (t : Topology) (F : Layout) (s d : ℕ) (rows : Rows) : Type 
   pub has-rows : (L : Layout) → ValidAt t L s → distance t L F ≡ d → HasRows rows L
 
 -- The outcome comes about. "9: no layout is valid at size 1."
-abbrev pub Comes : Topology → Layout → Outcome → Type 0
+abbrev pub Comes : Topology → Layout → Expected → Type 0
 Comes t F no-layout = (L : Layout) → ValidAt t L 1 → ⊥
 Comes t F (planned s d rows) = Planned t F s d rows
 
@@ -68,7 +68,7 @@ cluster k r z nodes = record { bits = k; replication = r; redundancy = z; nodes 
 abbrev pub noCopies : ℕ → Layout
 noCopies partitions = replicate partitions []
 
-abbrev pub line : Topology → Layout → Outcome → Example
+abbrev pub line : Topology → Layout → Expected → Example
 line t F o = record { topology = t; former = F; outcome = o }
 
 -- ---- the lines. C and G name no distance: with no former copies it is "R times P".
@@ -97,7 +97,7 @@ abbrev pub F : Example
 F = line (cluster 1 1 1 (node 1 1 10 ∷ node 2 1 10 ∷ [])) ((1 ∷ []) ∷ (1 ∷ []) ∷ []) (planned 10 2 unnamed)
 
 -- G: 2, 1, 1; 1/1/c; none; an outcome for each c.
-abbrev pub G : ℕ → Outcome → Example
+abbrev pub G : ℕ → Expected → Example
 G c o = line (cluster 2 1 1 (node 1 1 c ∷ [])) (noCopies 4) o
 
 -- H: 0, 1, 1; 1/1/10; 0: 9; size 10, distance 2.

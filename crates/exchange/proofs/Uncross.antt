@@ -12,7 +12,7 @@ use Rattle.sums.specs.TermsSums.{sumTo}
 use Rattle.sums.proofs.Sum.{lt-or-ge, eq-or-ne, sum-cong, sum-part, sum-but-one}
 use Rattle.exchange.specs.ModelRow.{Within}
 use Rattle.exchange.specs.ModelCircuit.{cost, Allowed, Crossed, Uncrossed, Better}
-use Rattle.exchange.specs.ModelUncross.{Walk, crosses, partner, first, skip, wrap, part, inner, outer, walk-costs, split, uncross, improved, Round, Right}
+use Rattle.exchange.specs.ModelUncross.{Walk, crosses, partner, firstCrossed, skip, wrap, part, inner, outer, walk-costs, split, uncross, improved, Round, Right}
 use Rattle.sums.proofs.First.{first-cases, first-some, first-none}
 use Rattle.exchange.proofs.Circuit.{cost-row, exchange, turn-better}
 
@@ -223,22 +223,22 @@ module _ (P : ℕ) (ok : ℕ → ℕ → ℕ → Bool) (w : Walk) where
       (first-cases (crosses P ok (w .node) (w .partition) i) (w .len - suc i) (suc i))
 
   -- The pair that the search finds.
-  pub first-pair : first P ok w < w .len → (first P ok w < partner P ok w (first P ok w)) × (partner P ok w (first P ok w) < w .len)
-  first-pair l = let h = some in (partner-some (first P ok w) h .0, h)
+  pub first-pair : firstCrossed P ok w < w .len → (firstCrossed P ok w < partner P ok w (firstCrossed P ok w)) × (partner P ok w (firstCrossed P ok w) < w .len)
+  first-pair l = let h = some in (partner-some (firstCrossed P ok w) h .0, h)
     where
-      some : partner P ok w (first P ok w) < w .len
+      some : partner P ok w (firstCrossed P ok w) < w .len
       some =
-          unfold first in
-          ltb-true (partner P ok w (first P ok w)) (w .len)
-          (first-some (λ i. ltb (partner P ok w i) (w .len)) (w .len) (lt-ltb (first P ok w) (w .len) l) .1)
+          unfold firstCrossed in
+          ltb-true (partner P ok w (firstCrossed P ok w)) (w .len)
+          (first-some (λ i. ltb (partner P ok w i) (w .len)) (w .len) (lt-ltb (firstCrossed P ok w) (w .len) l) .1)
 
   -- Where it finds none, no two arcs pass.
-  pub first-none-pair : w .len ≤ first P ok w → (i j : ℕ) → i < j → j < w .len → crosses P ok (w .node) (w .partition) i j ≡ false
-  unfolding first
+  pub first-none-pair : w .len ≤ firstCrossed P ok w → (i j : ℕ) → i < j → j < w .len → crosses P ok (w .node) (w .partition) i j ≡ false
+  unfolding firstCrossed
   first-none-pair l i j a b =
       partner-none i
       (ltb-false (partner P ok w i) (w .len)
-      (first-none (λ i. ltb (partner P ok w i) (w .len)) (w .len) (le-ltb (first P ok w) (w .len) l) i (omega arith)))
+      (first-none (λ i. ltb (partner P ok w i) (w .len)) (w .len) (le-ltb (firstCrossed P ok w) (w .len) l) i (omega arith)))
       j a b
 
 -- ---- no crossed pair is left
@@ -276,7 +276,7 @@ module _ (P N R Z C : ℕ) (zone cap : ℕ → ℕ) (g free S : ℕ → ℕ → 
       )
 
   -- Where the search finds no pair, none is crossed.
-  none-crossed : (w : Walk) → w .len ≤ first P ok w → Uncrossed P N R Z zone free S (w .len) (w .node) (w .partition)
+  none-crossed : (w : Walk) → w .len ≤ firstCrossed P ok w → Uncrossed P N R Z zone free S (w .len) (w .node) (w .partition)
   none-crossed w e i j l h x =
       true≢false (sym (crosses-complete (w .node) (w .partition) i j x) ∙ first-none-pair P ok w e i j l h)
 
@@ -285,23 +285,23 @@ module _ (P N R Z C : ℕ) (zone cap : ℕ → ℕ) (g free S : ℕ → ℕ → 
       → let u = uncross n P C g ok w in Round P N R Z C zone cap g free S u × Uncrossed P N R Z zone free S (u .len) (u .node) (u .partition)
   unfolding uncross
   uncross-circuit light zero w l c = (c, λ i j a b. absurd (omega arith))
-  uncross-circuit light (suc n) w l c = go (λ v. uncross-circuit light n v) (ltb (first P ok w) (w .len)) refl
+  uncross-circuit light (suc n) w l c = go (λ v. uncross-circuit light n v) (ltb (firstCrossed P ok w) (w .len)) refl
     where
       Done : Walk → Type 0
       Done u = Round P N R Z C zone cap g free S u × Uncrossed P N R Z zone free S (u .len) (u .node) (u .partition)
 
       next : Walk
-      next = split P C g w (first P ok w) (partner P ok w (first P ok w))
+      next = split P C g w (firstCrossed P ok w) (partner P ok w (firstCrossed P ok w))
 
-      go : ((v : Walk) → v .len ≤ n → Round P N R Z C zone cap g free S v → Done (uncross n P C g ok v)) → (t : Bool) → ltb (first P ok w) (w .len) ≡ t
+      go : ((v : Walk) → v .len ≤ n → Round P N R Z C zone cap g free S v → Done (uncross n P C g ok v)) → (t : Bool) → ltb (firstCrossed P ok w) (w .len) ≡ t
           → Done (cond t (uncross n P C g ok next) w)
       go again true e =
-          let i = first P ok w in
+          let i = firstCrossed P ok w in
           let j = partner P ok w i in
           let (a, b) = first-pair P ok w (ltb-true i (w .len) e) in
           again next (omega (arith, split-shorter P C g w i j a b))
           (split-circuit P N R Z C zone cap g free S w c i j a b (crosses-sound w c i j a b (partner-some P ok w i b .1)) light)
-      go again false e = (c, none-crossed w (ltb-false (first P ok w) (w .len) e))
+      go again false e = (c, none-crossed w (ltb-false (firstCrossed P ok w) (w .len) e))
 
   -- From a circuit of a layout to a better layout.
   pub improved-better : ((x : ℕ) → x < N → zone x < N) → ((p b : ℕ) → g p b ≤ C) → Within P N R Z zone cap S → (w : Walk)

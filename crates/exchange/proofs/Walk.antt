@@ -13,25 +13,25 @@ use Rattle.sums.specs.TermsSums.{sumTo}
 use Rattle.sums.specs.ModelSums.{is, firstFrom}
 use Rattle.sums.proofs.Sum.{lt-or-ge, sum-cong}
 use Rattle.exchange.specs.ModelCircuit.{cost, turn}
-use Rattle.exchange.specs.ModelUncross.{Walk, Same, crosses, partner, first, skip, wrap, part, inner, outer, walk-costs, split, uncross, improved}
+use Rattle.exchange.specs.ModelUncross.{Walk, Same, crosses, partner, firstCrossed, skip, wrap, part, inner, outer, walk-costs, split, uncross, improved}
 use Rattle.exchange.proofs.Uncross.{skip-le, wrap-low, wrap-end, first-pair}
 
 -- ---- the steps
 
 module _ (P C : ℕ) (g : ℕ → ℕ → ℕ) (ok : ℕ → ℕ → ℕ → Bool) where
   -- Where the search finds no pair, the walk stays.
-  pub uncross-stop : (n : ℕ) (w : Walk) → w .len ≤ first P ok w → uncross n P C g ok w ≡ w
+  pub uncross-stop : (n : ℕ) (w : Walk) → w .len ≤ firstCrossed P ok w → uncross n P C g ok w ≡ w
   unfolding uncross
   uncross-stop zero w h = refl
   uncross-stop (suc n) w h =
-      ap (λ (t : Bool). cond t (uncross n P C g ok (split P C g w (first P ok w) (partner P ok w (first P ok w)))) w) (le-ltb (first P ok w) (w .len) h)
+      ap (λ (t : Bool). cond t (uncross n P C g ok (split P C g w (firstCrossed P ok w) (partner P ok w (firstCrossed P ok w)))) w) (le-ltb (firstCrossed P ok w) (w .len) h)
 
   -- Where it finds one, it goes on with a part.
-  pub uncross-go : (n : ℕ) (w : Walk) → first P ok w < w .len
-      → uncross (suc n) P C g ok w ≡ uncross n P C g ok (split P C g w (first P ok w) (partner P ok w (first P ok w)))
+  pub uncross-go : (n : ℕ) (w : Walk) → firstCrossed P ok w < w .len
+      → uncross (suc n) P C g ok w ≡ uncross n P C g ok (split P C g w (firstCrossed P ok w) (partner P ok w (firstCrossed P ok w)))
   unfolding uncross
   uncross-go n w h =
-      ap (λ (t : Bool). cond t (uncross n P C g ok (split P C g w (first P ok w) (partner P ok w (first P ok w)))) w) (lt-ltb (first P ok w) (w .len) h)
+      ap (λ (t : Bool). cond t (uncross n P C g ok (split P C g w (firstCrossed P ok w) (partner P ok w (firstCrossed P ok w)))) w) (lt-ltb (firstCrossed P ok w) (w .len) h)
 
 -- ---- walks that are the same
 
@@ -83,8 +83,8 @@ module _ (P C : ℕ) (g : ℕ → ℕ → ℕ) (ok : ℕ → ℕ → ℕ → Boo
       ∙ first-cong (crosses P ok (w .node) (w .partition) i) (crosses P ok (u .node) (u .partition) i) (u .len - suc i) (suc i)
       (λ j a b. crosses-same s i j a (omega arith))
 
-  first-same : {w u : Walk} → Same w u → first P ok w ≡ first P ok u
-  unfolding first
+  first-same : {w u : Walk} → Same w u → firstCrossed P ok w ≡ firstCrossed P ok u
+  unfolding firstCrossed
   first-same {w} {u} s =
       first-cong (λ i. ltb (partner P ok w i) (w .len)) (λ i. ltb (partner P ok u i) (u .len)) (w .len) 0
       (λ i a b. ap₂ ltb (partner-same s i (omega arith)) (s .lens))
@@ -126,13 +126,13 @@ module _ (P C : ℕ) (g : ℕ → ℕ → ℕ) (ok : ℕ → ℕ → ℕ → Boo
   uncross-same zero s = s
   uncross-same (suc n) {w} {u} s =
       ⊎-elim
-      (λ a. let l : first P ok u < u .len = omega (arith, s .lens, first-same s) in
+      (λ a. let l : firstCrossed P ok u < u .len = omega (arith, s .lens, first-same s) in
       let d = first-pair P ok w a in
-      rw (uncross-go P C g ok n w a, uncross-go P C g ok n u l, ← first-same s, ← partner-same s (first P ok w) a)
-      (uncross-same n (split-same s (first P ok w) (partner P ok w (first P ok w)) (d .0) (d .1))))
-      (λ b. let l : u .len ≤ first P ok u = omega (arith, s .lens, first-same s) in
+      rw (uncross-go P C g ok n w a, uncross-go P C g ok n u l, ← first-same s, ← partner-same s (firstCrossed P ok w) a)
+      (uncross-same n (split-same s (firstCrossed P ok w) (partner P ok w (firstCrossed P ok w)) (d .0) (d .1))))
+      (λ b. let l : u .len ≤ firstCrossed P ok u = omega (arith, s .lens, first-same s) in
       rw (uncross-stop P C g ok (suc n) w b, uncross-stop P C g ok (suc n) u l) s)
-      (lt-or-ge (first P ok w) (w .len))
+      (lt-or-ge (firstCrossed P ok w) (w .len))
 
   -- They lead to the same layout.
   pub improved-same : {w u : Walk} → Same w u → (S : ℕ → ℕ → ℕ) (p x : ℕ) → improved P C g ok w S p x ≡ improved P C g ok u S p x

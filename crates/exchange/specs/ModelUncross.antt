@@ -28,8 +28,8 @@ unfoldable pub partner : ℕ → (ℕ → ℕ → ℕ → Bool) → Walk → ℕ
 partner P ok w i = firstFrom (crosses P ok (w .node) (w .partition) i) (w .len - suc i) (suc i)
 
 -- The first arc that can be crossed with a later one, or the length.
-unfoldable pub first : ℕ → (ℕ → ℕ → ℕ → Bool) → Walk → ℕ
-first P ok w = firstFrom (λ i. ltb (partner P ok w i) (w .len)) (w .len) 0
+unfoldable pub firstCrossed : ℕ → (ℕ → ℕ → ℕ → Bool) → Walk → ℕ
+firstCrossed P ok w = firstFrom (λ i. ltb (partner P ok w i) (w .len)) (w .len) 0
 
 -- Where entry t of the outer circuit stands in the old one: the k entries after i are left out.
 unfoldable pub skip : ℕ → ℕ → ℕ → ℕ
@@ -62,7 +62,7 @@ split P C g w i j = cond (ltb (walk-costs P C g (inner w i j)) ((j - i) * C)) (i
 unfoldable pub uncross : ℕ → ℕ → ℕ → (ℕ → ℕ → ℕ) → (ℕ → ℕ → ℕ → Bool) → Walk → Walk
 uncross zero P C g ok w = w
 uncross (suc n) P C g ok w =
-    let i = first P ok w in
+    let i = firstCrossed P ok w in
     let r = uncross n P C g ok (split P C g w i (partner P ok w i)) in
     cond (ltb i (w .len)) r w
 

@@ -5,3 +5,4 @@ pub mod Written
 pub mod IdBytes
 pub mod Nodes
 pub mod Cut
+pub mod Puts

@@ -232,6 +232,10 @@ pub length-field : (tag : ℕ) (body : List ℕ) → length (field tag body) ≡
 unfolding field
 length-field tag body = omega (arith, length-append (bytesOf 2 (length body)) body, length-bytes 2 (length body))
 
+-- A field of one number has the bytes of a head and of the number.
+pub length-number : (tag w v : ℕ) → length (field tag (bytesOf w v)) ≡ headWidth + w
+length-number tag w v = length-field tag (bytesOf w v) ∙ ap (λ (k : ℕ). headWidth + k) (length-bytes w v)
+
 -- A field in its three parts, as it is written.
 pub field-bytes : (tag : ℕ) (body : List ℕ) → tag < 256 → field tag body ≡ bytesOf 1 tag ++ (bytesOf 2 (length body) ++ body)
 unfolding field bytesOf

@@ -3,11 +3,11 @@
 use Prim.Native.Nat.{ℕ, _+_, _/_, _%_, _^_, _≤_, _<_}
 use mathlib.Core.Path.{_≡_, refl, sym, ap, ap₂, _∙_}
 use mathlib.Core.Bool.{Bool, cond}
-use mathlib.Core.List.{List, [], _∷_, _++_, append-assoc}
+use mathlib.Core.List.{List, [], _∷_, _++_, append-assoc, append-nil}
 use mathlib.Core.Logic.{⊎-elim}
-use native.Mathlib.Nat.{div-one}
+use native.Mathlib.Nat.{add-zero, div-one}
 use native.Mathlib.Omega.{arith}
-use lib.ListN.{length, take, drop, set, length-append, length-drop}
+use lib.ListN.{length, take, drop, set, length-append, length-drop, take-append-drop}
 use lib.Seq.{take-at, drop-append-add, drop-drop, length-take-le, sets-eq}
 use Rattle.sums.proofs.Sum.{lt-or-ge}
 use Rattle.fields.specs.RecordField.{bytesOf, written, over}
@@ -87,3 +87,10 @@ written-split s at v w n h =
     ap (λ (k : ℕ). written (written s at high) (at + k) (bytesOf w n)) (sym (length-bytes v (n / 256 ^ w)))
     ∙ (written-append s at high (bytesOf w n) (omega (arith, length-bytes v (n / 256 ^ w), length-bytes w n))
     ∙ ap (written s at) (bytes-append v w n))
+
+-- Nothing that is written changes nothing.
+pub written-none : (s : List ℕ) (at : ℕ) → s ≡ written s at []
+written-none s at =
+    ⊎-elim (λ l. sym (written-not s at [] (omega arith)))
+    (λ g. sym (written-fits s at [] (omega arith) ∙ (ap₂ (λ (l : List ℕ) (k : ℕ). l ++ drop k s) (append-nil (take at s)) (add-zero at) ∙ take-append-drop at s)))
+    (lt-or-ge (length s) at)

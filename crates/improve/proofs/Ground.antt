@@ -25,7 +25,7 @@ use Rattle.exchange.specs.ModelJoin.{ExchangeGraph, improves}
 use Rattle.exchange.proofs.Prices.{weigh-le}
 use Rattle.exchange.proofs.Search.{outcome-cycle}
 use Rattle.exchange.proofs.Circuit.{cost-row, cost-store}
-use Rattle.exchange.proofs.Join.{join-stays, no-gain}
+use Rattle.exchange.proofs.Join.{join-potential, no-gain}
 use Rattle.cluster.specs.Terms.{bufferRows}
 use Rattle.swaps.specs.ModelMates.{Mates}
 use Rattle.graph.specs.ModelArcs.{arcsOf, cellOf}
@@ -251,13 +251,14 @@ module _ {P N R Z : ℕ} {zone cap : ℕ → ℕ} {former mates caps : List ℕ}
   pub none-heavier : (rows : List ℕ) → Good P N R Z zone cap rows → improvesIn former P mates caps N Z rows ≡ false
       → (T : ℕ → ℕ → ℕ) → Within P N R Z zone cap T → weigh P N (bitsAt former) T ≤ agreementIn rows former P
   none-heavier rows g e T w =
+      let d = stays-potential rows g e in
       omega (
         arith,
         agreement-weighs rows g,
-        join-stays P N R Z 1 zone cap (bitsAt former) any (bitsAt rows) (graph rows g) (witness rows g) (the-graph rows g)
+        join-potential P N R Z 1 zone cap (bitsAt former) any (bitsAt rows) (graph rows g) (witness rows g) (the-graph rows g)
             (okOf rows mates (belowOf N) Z)
             (ok-right P N R Z zone cap any (λ p b. refl) rows former mates (arcs rows g) (G .zones) (g .small) (g .within)) (some rows g)
-            (G .zones .inside) light (λ p b. omega arith) (g .within) (sym (improves-is rows g) ∙ e) .0 T w (λ p l b k z. absurd (omega (arith, z))),
+            (G .zones .inside) light (λ p b. omega arith) (g .within) (d .0) (d .1) T w (λ p l b k z. absurd (omega (arith, z))),
       )
 
   -- Without former copies there is nothing to improve, and nothing is shared.

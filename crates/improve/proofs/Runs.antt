@@ -1,8 +1,8 @@
 -- What a run of improvements is, whatever is improved: its steps, its verdict, and that allowances past the least finishing one change nothing.
 -- Assumes nothing.
 use Prim.Native.Nat.{ℕ, zero, suc, _+_, _≤_, _<_}
-use mathlib.Core.Path.{_≡_, refl, sym, ap, _∙_, subst}
-use mathlib.Core.Bool.{Bool, true, false, not, cond}
+use mathlib.Core.Path.{_≡_, refl, sym, ap, _∙_}
+use mathlib.Core.Bool.{Bool, true, false, not, cond, false≢true}
 use mathlib.Core.Logic.{⊎-elim}
 use native.Mathlib.Omega.{arith}
 use native.Mathlib.Numerals.{one-add}
@@ -15,6 +15,20 @@ pub not-both : (b : Bool) → b ≡ true → b ≡ false → ⊥
 not-both b p q = let z : _≡_ {A = ℕ} 0 1 = cc in omega arith
 
 module _ {A : Type 0} (improves : A → Bool) (next : A → A) where
+  -- What holds of every run follows from the three ways it can go: no allowance, nothing to improve, an improvement and the run after it.
+  run-rule : (Q : ℕ → A → Ran A → Type 0) → ((s : A) → Q 0 s (record { state = s; finished = not (improves s); steps = 0 }))
+      → ((a : ℕ) (s : A) → improves s ≡ false → Q (suc a) s (record { state = s; finished = true; steps = 0 }))
+      → ((a : ℕ) (s : A) → improves s ≡ true → Q a (next s) (run improves next a (next s)) → Q (suc a) s (later 1 (run improves next a (next s))))
+      → (a : ℕ) (s : A) → Q a s (run improves next a s)
+  unfolding run
+  run-rule Q none over more zero s = none s
+  run-rule Q none over more (suc a) s = go (run-rule Q none over more a (next s)) (improves s) refl
+    where
+      go : Q a (next s) (run improves next a (next s)) → (b : Bool) → improves s ≡ b
+          → Q (suc a) s (cond b (later 1 (run improves next a (next s))) (record { state = s; finished = true; steps = 0 }))
+      go h true e = more a s e h
+      go h false e = over a s e
+
   -- A run with allowance a from the state s: it made `steps` improvements, all that were possible, unless the allowance was spent.
   pub record Run (a : ℕ) (s : A) (r : Ran A) : Type 0 where
     pub few : r .steps ≤ a
@@ -23,38 +37,27 @@ module _ {A : Type 0} (improves : A → Bool) (next : A → A) where
     pub verdict : r .finished ≡ not (improves (r .state))
     pub early : r .steps < a → improves (r .state) ≡ false
 
-  -- A run that improved once more at its start.
-  more : (a : ℕ) (s : A) (r : Ran A) → improves s ≡ true → Run a (next s) r → Run (suc a) s (later 1 r)
-  unfolding after
-  more a s r can x =
-      record {
-        few = omega (arith, x .few);
-        there = x .there ∙ ap (λ (n : ℕ). after improves next n s) (sym (one-add (r .steps)));
-        before = first;
-        verdict = x .verdict;
-        early = λ l. x .early (omega arith);
-      }
-    where
-      first : (j : ℕ) → j < 1 + r .steps → improves (after improves next j s) ≡ true
-      first zero l = can
-      first (suc j) l = x .before j (omega arith)
-
   -- Every run is such a one.
   pub run-is : (a : ℕ) (s : A) → Run a s (run improves next a s)
-  unfolding run after
-  run-is zero s = record { few = omega arith; there = refl; before = λ j l. absurd (omega arith); verdict = refl; early = λ l. absurd (omega arith) }
-  run-is (suc a) s = go (run-is a (next s)) (improves s) refl
+  unfolding after
+  run-is =
+      run-rule Run
+      (λ s. record { few = omega arith; there = refl; before = λ j l. absurd (omega arith); verdict = refl; early = λ l. absurd (omega arith) })
+      (λ a s e. record { few = omega arith; there = refl; before = λ j l. absurd (omega arith); verdict = ap not (sym e); early = λ l. e }) more
     where
-      go : Run a (next s) (run improves next a (next s)) → (b : Bool) → improves s ≡ b
-          → Run (suc a) s (cond b (later 1 (run improves next a (next s))) (record { state = s; finished = true; steps = 0 }))
-      go x true e = more a s (run improves next a (next s)) e x
-      go x false e =
+      first : (s : A) (n : ℕ) → improves s ≡ true → ((j : ℕ) → j < n → improves (after improves next j (next s)) ≡ true) → (j : ℕ) → j < 1 + n
+          → improves (after improves next j s) ≡ true
+      first s n can before zero l = can
+      first s n can before (suc j) l = before j (omega arith)
+
+      more : (a : ℕ) (s : A) → improves s ≡ true → Run a (next s) (run improves next a (next s)) → Run (suc a) s (later 1 (run improves next a (next s)))
+      more a s can x =
           record {
-            few = omega arith;
-            there = refl;
-            before = λ j l. absurd (omega arith);
-            verdict = ap not (sym e);
-            early = λ l. e;
+            few = omega (arith, x .few);
+            there = x .there ∙ ap (λ (n : ℕ). after improves next n s) (sym (one-add (run improves next a (next s) .steps)));
+            before = first s (run improves next a (next s) .steps) can (x .before);
+            verdict = x .verdict;
+            early = λ l. x .early (omega arith);
           }
 
   -- Without an allowance the state stays.
@@ -62,39 +65,19 @@ module _ {A : Type 0} (improves : A → Bool) (next : A → A) where
   unfolding run
   run-none s = refl
 
-  -- What improvements keep, a run keeps.
   module _ (Good : A → Type 0) (stays : (x : A) → Good x → improves x ≡ true → Good (next x)) where
+    -- What improvements keep, a run keeps.
     pub run-keeps : (a : ℕ) (s : A) → Good s → Good (run improves next a s .state)
-    unfolding run
-    run-keeps zero s g = g
-    run-keeps (suc a) s g = go (run-keeps a (next s)) (improves s) refl
-      where
-        go : (Good (next s) → Good (run improves next a (next s) .state)) → (b : Bool) → improves s ≡ b
-            → Good (cond b (later 1 (run improves next a (next s))) (record { state = s; finished = true; steps = 0 }) .state)
-        go more true e = more (stays s g e)
-        go more false e = g
+    run-keeps = run-rule (λ a s r. Good s → Good (r .state)) (λ s g. g) (λ a s e g. g) (λ a s e h g. h (stays s g e))
 
     -- Where each improvement makes good states worth more, and none is worth more than `most`, an allowance of what is missing to it finishes.
     pub run-ends : (worth : A → ℕ) (most : ℕ) → ((x : A) → Good x → improves x ≡ true → worth x + 1 ≤ worth (next x))
         → ((x : A) → Good x → worth x ≤ most) → (a : ℕ) (s : A) → Good s → most ≤ worth s + a → run improves next a s .finished ≡ true
-    unfolding run
-    run-ends worth most gains few zero s g l = go (improves s) refl
-      where
-        go : (b : Bool) → improves s ≡ b → not b ≡ true
-        go true e = absurd (omega (arith, gains s g e, few (next s) (stays s g e)))
-        go false e = refl
-    run-ends worth most gains few (suc a) s g l = go (run-ends worth most gains few a (next s)) (improves s) refl
-      where
-        go : (Good (next s) → most ≤ worth (next s) + a → run improves next a (next s) .finished ≡ true) → (b : Bool) → improves s ≡ b
-            → cond b (later 1 (run improves next a (next s))) (record { state = s; finished = true; steps = 0 }) .finished ≡ true
-        go more true e = more (stays s g e) (omega (arith, gains s g e))
-        go more false e = refl
-
-  -- The state after one improvement more.
-  pub after-next : (n : ℕ) (s : A) → after improves next (suc n) s ≡ next (after improves next n s)
-  unfolding after
-  after-next zero s = refl
-  after-next (suc n) s = after-next n (next s)
+    run-ends worth most gains few =
+        run-rule (λ a s r. Good s → most ≤ worth s + a → r .finished ≡ true)
+        (λ s g l.
+        ⊎-elim (λ e. absurd (omega (arith, gains s g e, few (next s) (stays s g e)))) (λ e. ap not e) (true-or-false (improves s)))
+        (λ a s e g l. refl) (λ a s e h g l. h (stays s g e) (omega (arith, gains s g e)))
 
   module _ (s : A) where
     pub stopped-improves : (a : ℕ) → run improves next a s .finished ≡ false → improves (run improves next a s .state) ≡ true
@@ -148,25 +131,9 @@ module _ {A : Type 0} (improves : A → Bool) (next : A → A) where
           (finished-done b f)))
           (λ g. g) (lt-or-ge b (run improves next a s .steps))
 
-    -- After a stopped run an allowance one larger makes one improvement more.
-    pub stopped-next : (a : ℕ) → run improves next a s .finished ≡ false
-        → run improves next (suc a) s .state ≡ next (run improves next a s .state)
-    stopped-next a e =
-        let spent = stopped-spent a e in
-        let can = stopped-improves a e in
-        let here : improves (after improves next a s) ≡ true =
-        ap improves (ap (λ (n : ℕ). after improves next n s) (sym spent) ∙ sym (run-is a s .there)) ∙ can in
-        let steps : run improves next (suc a) s .steps ≡ suc a =
-        ⊎-elim
-        (λ l. absurd (not-both (improves (run improves next (suc a) s .state))
-        (ap improves (run-is (suc a) s .there) ∙ earlier a here spent (run improves next (suc a) s .steps) (omega arith))
-        (run-is (suc a) s .early l)))
-        (λ g. omega (arith, run-is (suc a) s .few)) (lt-or-ge (run improves next (suc a) s .steps) (suc a)) in
-        run-is (suc a) s .there ∙ (ap (λ (n : ℕ). after improves next n s) steps
-        ∙ (after-next a s ∙ ap next (ap (λ (n : ℕ). after improves next n s) (sym spent) ∙ sym (run-is a s .there))))
-      where
-        earlier : (a : ℕ) → improves (after improves next a s) ≡ true → run improves next a s .steps ≡ a → (j : ℕ) → j ≤ a
-            → improves (after improves next j s) ≡ true
-        earlier a here spent j l =
-            ⊎-elim (λ u. run-is a s .before j (omega arith)) (λ v. let q : a ≡ j = omega arith in subst (λ (n : ℕ). improves (after improves next n s) ≡ true) q here)
-            (lt-or-ge j a)
+  -- After a stopped run an allowance one larger makes one improvement more.
+  pub stopped-next : (a : ℕ) (s : A) → run improves next a s .finished ≡ false → run improves next (suc a) s .state ≡ next (run improves next a s .state)
+  unfolding run
+  stopped-next =
+      run-rule (λ a s r. r .finished ≡ false → run improves next (suc a) s .state ≡ next (r .state)) (λ s f. rw (stopped-improves s 0 f))
+      (λ a s e f. absurd (false≢true (sym f))) (λ a s e h f. rw e (h f))

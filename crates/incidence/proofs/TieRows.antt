@@ -49,7 +49,7 @@ over-ids (n ∷ ns) f =
 
 -- ---- counting
 
--- Whatever is added up over the ids of a row can be added up over the nodes, where the row's bits cond.
+-- Whatever is added up over the ids of a row can be added up over the nodes that the row names.
 pub row-sum : (j k : ℕ) (ns : List Node) (r : List ℕ) (f : ℕ → ℕ) → risingFrom j (idsOf ns) ≡ true → risingFrom k r ≡ true
     → ((i : ℕ) → mem i r ≡ true → mem i (idsOf ns) ≡ true)
     → over r f ≡ sumTo (length ns) (λ b. bitsOf ns r b * f (getD ns b noNode .id))

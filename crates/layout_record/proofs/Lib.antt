@@ -4,7 +4,6 @@ pub mod FieldFaults
 pub mod HeadExact
 pub mod NumberFields
 pub mod PutRows
-pub mod Puts
 pub mod RecordLaws
 pub mod RowFaults
 pub mod RowSteps

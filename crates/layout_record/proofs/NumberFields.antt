@@ -4,24 +4,25 @@ use Prim.Native.Nat.{ℕ, zero, suc, _+_, _^_, _≤_, _<_}
 use mathlib.Core.Path.{_≡_, refl, sym, ap, ap₂, _∙_, subst}
 use mathlib.Core.Bool.{Bool, true, false, _&&_, cond}
 use mathlib.Core.List.{List, [], _∷_, _++_}
-use mathlib.Core.Logic.{_⊎_, inl, inr}
+use mathlib.Core.Logic.{_⊎_, inl, inr, ⊎-elim}
 use native.Mathlib.Numerals.{add-one}
 use native.Mathlib.Omega.{arith}
-use lib.Dec.{leb}
+use lib.Dec.{ltb, leb, eqb}
 use lib.ListN.{length, drop, getD, length-append}
 use lib.Seq.{drop-cons, drop-length}
-use borrow.Author.Tests.{le-leb, lt-leb, leb-true}
+use borrow.Author.Tests.{le-leb, lt-leb, leb-true, ltb-true, eqb-true}
 use Rattle.sums.proofs.Tests.{both}
-use Rattle.cluster.specs.Terms.{mostBits, mostCopies}
+use Rattle.cluster.specs.Terms.{mostBits, mostCopies, mem}
+use Rattle.cluster.proofs.Lists.{mem-cases}
 use Rattle.fields.specs.RecordField.{bytesOf, field, numberAt, written, ruleOf, legal, fieldAt, Whole}
 use Rattle.fields.specs.declared.Field.{Field}
 use Rattle.fields.specs.declared.Field.the-variants.{Body, Refused}
-use Rattle.fields.proofs.RecordField.{one-tag}
+use Rattle.fields.proofs.RecordField.{one-tag, length-number}
 use Rattle.layout_record.specs.declared.Numbers.{Numbers}
 use Rattle.layout_record.specs.declared.table.Entry.{Entry}
 use Rattle.layout_record.specs.RecordLayout.{entry, headTable, entryAt, numbersIn, numbersFrom, holds, allHold, inRange, numberFields, headFields}
 use Rattle.layout_record.specs.RecordLayoutFaults.{nextField, HeadRead, HeadEnds, HeadRefused, headNumber, headFrom}
-use Rattle.layout_record.proofs.Puts.{put-next, length-number}
+use Rattle.fields.proofs.Puts.{put-next}
 
 -- ---- the next field
 
@@ -47,10 +48,43 @@ pub record Lawful (e : Entry) : Type 0 where
   pub narrow : (e .width ≡ 1) ⊎ ((e .width ≡ 2) ⊎ (e .width ≡ 4))
   pub room : e .most < 256 ^ (e .width)
 
+-- The same as a test,
+abbrev agrees : Entry → Bool
+agrees e =
+    ltb (e .tag) 32 && (eqb (ruleOf (e .tag) .least) (e .width) && (eqb (ruleOf (e .tag) .greatest) (e .width)
+    && (legal (e .tag) (e .width) && (mem (e .width) (1 ∷ 2 ∷ 4 ∷ []) && ltb (e .most) (256 ^ (e .width))))))
+
+-- and what the test tells.
+lawful : (e : Entry) → agrees e ≡ true → Lawful e
+lawful e h =
+    let a = both (ltb (e .tag) 32) _ h in
+    let b = both (eqb (ruleOf (e .tag) .least) (e .width)) _ (a .1) in
+    let c = both (eqb (ruleOf (e .tag) .greatest) (e .width)) _ (b .1) in
+    let d = both (legal (e .tag) (e .width)) _ (c .1) in
+    let f = both (mem (e .width) (1 ∷ 2 ∷ 4 ∷ [])) _ (d .1) in
+    record {
+      small = ltb-true (e .tag) 32 (a .0);
+      least-is = eqb-true (ruleOf (e .tag) .least) (e .width) (b .0);
+      greatest-is = eqb-true (ruleOf (e .tag) .greatest) (e .width) (c .0);
+      legal-is = d .0;
+      narrow = ⊎-elim (λ p. inl p) (λ m. inr (⊎-elim (λ p. inl p) (λ k. inr (one-tag 4 (e .width) k)) (mem-cases (e .width) 2 (4 ∷ []) m)))
+          (mem-cases (e .width) 1 (2 ∷ 4 ∷ []) (f .0));
+      room = ltb-true (e .most) (256 ^ (e .width)) (f .1);
+    }
+
 -- Every entry of a table does.
 abbrev pub Each : List Entry → Type 0
 Each [] = Unit
 Each (e ∷ es) = Lawful e × Each es
+
+all-agree : List Entry → Bool
+all-agree [] = true
+all-agree (e ∷ es) = agrees e && all-agree es
+
+each : (es : List Entry) → all-agree es ≡ true → Each es
+unfolding all-agree
+each [] h = tt
+each (e ∷ es) h = let b = both (agrees e) (all-agree es) h in (lawful e (b .0), each es (b .1))
 
 pub each-at : (es : List Entry) (i : ℕ) → Each es → i < length es → Lawful (getD es i (entry 0 0 0 0))
 each-at [] i h l = absurd (omega arith)
@@ -58,23 +92,8 @@ each-at (e ∷ es) zero h l = h .0
 each-at (e ∷ es) (suc i) h l = each-at es i (h .1) (omega arith)
 
 pub table-lawful : Each headTable
-unfolding legal ruleOf
-table-lawful = (
-  record { small = omega arith; least-is = refl; greatest-is = refl; legal-is = refl; narrow = inl refl; room = omega arith },
-  (
-    record { small = omega arith; least-is = refl; greatest-is = refl; legal-is = refl; narrow = inl refl; room = omega arith },
-    (
-      record { small = omega arith; least-is = refl; greatest-is = refl; legal-is = refl; narrow = inr (inr refl); room = omega arith },
-      (
-        record { small = omega arith; least-is = refl; greatest-is = refl; legal-is = refl; narrow = inr (inl refl); room = omega arith },
-        (
-          record { small = omega arith; least-is = refl; greatest-is = refl; legal-is = refl; narrow = inl refl; room = omega arith },
-          (record { small = omega arith; least-is = refl; greatest-is = refl; legal-is = refl; narrow = inr (inl refl); room = omega arith }, tt),
-        ),
-      ),
-    ),
-  ),
-)
+unfolding all-agree legal ruleOf mem
+table-lawful = each headTable refl
 
 -- A body with the number of an entry has the entry's width.
 pub entry-width : (e : Entry) (n at t start len : ℕ) → Lawful e → Whole n at (e .tag ∷ []) 0 t start len → (t ≡ e .tag) × (len ≡ e .width)

@@ -1,7 +1,7 @@
 -- Rows that are put one after the other, and the whole record.
 -- Assumes nothing.
 use Prim.Native.Nat.{ℕ, _+_, _-_, _*_, _^_, _≤_, _<_}
-use mathlib.Core.Path.{_≡_, refl, sym, ap, _∙_, subst}
+use mathlib.Core.Path.{_≡_, refl, sym, ap, ap₂, _∙_, subst}
 use mathlib.Core.Bool.{true}
 use mathlib.Core.List.{List, _++_}
 use native.Mathlib.Nat.{suc-mul}
@@ -13,15 +13,31 @@ use Rattle.cluster.specs.Terms.{rowCells, bufferRows, Layout, rowAt, idsIn, for
 use Rattle.cluster.proofs.CellRows.{formed-cells}
 use Rattle.cluster.proofs.CellLayouts.{length-rowsIn, row-rowsIn}
 use Rattle.fields.specs.RecordField.{bytesOf, written, over, idBytes}
-use Rattle.fields.proofs.Written.{written-over}
+use Rattle.fields.proofs.Numbers.{length-bytes}
+use Rattle.fields.proofs.Written.{written-over, length-written}
+use Rattle.fields.proofs.IdBytes.{length-id-bytes}
 use Rattle.layout_record.specs.declared.Numbers.{Numbers}
 use Rattle.layout_record.specs.RecordLayout.{headFields, layoutRowField, layoutRowFields, layoutRecord, recordLength}
 use Rattle.layout_record.specs.RecordLayoutFaults.{rowFits, rowsFit}
-use Rattle.layout_record.proofs.Puts.{put-next, put-parts}
+use Rattle.fields.proofs.Puts.{put-next, put-body}
 use Rattle.layout_record.proofs.NumberFields.{few-bits, length-head}
 use Rattle.layout_record.proofs.RecordLaws.{length-row, rows-snoc, length-rows, rowsIn-more}
 use Rattle.layout_record.proofs.RowFaults.{fits-formed, few-partitions, Writable}
 use Rattle.sums.proofs.Tests.{every-at}
+
+-- A row: the head of its field, its partition, its ids.
+pub put-parts : (s a b r ids : List ℕ) (at p count : ℕ) → length ids ≡ count → at + 5 + 4 * count ≤ length s
+    → a ≡ written s at (bytesOf 1 10 ++ bytesOf 2 (2 + 4 * count)) → b ≡ written a (at + 3) (bytesOf 2 p) → r ≡ written b (at + 5) (idBytes ids)
+    → r ≡ written s at (layoutRowField p ids)
+unfolding layoutRowField
+put-parts s a b r ids at p count k h e1 e2 e3 =
+    let la : length a ≡ length s = ap length e1 ∙ length-written s at (bytesOf 1 10 ++ bytesOf 2 (2 + 4 * count)) in
+    let li : length (idBytes ids) ≡ 4 * count = length-id-bytes ids ∙ ap (λ (n : ℕ). 4 * n) k in
+    let five : at + 3 + 2 ≡ at + 5 = omega arith in
+    e3
+    ∙ (put-next a b (bytesOf 2 p) (idBytes ids) (at + 3) 2 (at + 5) e2 (length-bytes 2 p) five (omega arith)
+    ∙ put-body s a (bytesOf 2 p ++ idBytes ids) at 10 (2 + 4 * count) e1 (omega arith)
+    (length-append (bytesOf 2 p) (idBytes ids) ∙ ap₂ _+_ (length-bytes 2 p) li) (omega arith))
 
 -- The first cells of a formed row with so many ids are its ids.
 pub take-ids : (k count : ℕ) (l : List ℕ) → formedFrom k l ≡ true → length (idsIn l) ≡ count → take count l ≡ idsIn l

@@ -1,33 +1,25 @@
 -- Check passes exactly the layouts valid at the size that is named.
 -- Assumes nothing.
-use Prim.Native.Nat.{ℕ, _≤_, _<_}
+use Prim.Native.Nat.{ℕ, _<_}
 use mathlib.Core.Path.{_≡_, sym, ap, ap₂, _∙_, subst}
 use mathlib.Core.Bool.{true}
 use mathlib.Core.List.{List}
 use mathlib.Core.Logic.{⊎-elim}
 use native.Mathlib.Omega.{arith}
-use lib.ListN.{length, take}
+use lib.ListN.{length}
 use Rattle.sums.proofs.Sum.{lt-or-ge}
-use Rattle.cluster.specs.Terms.{bufferRows, layoutCells, Topology, topology, partitions, nodeAt, Layout, ValidRow, ValidAt, cellsOf, rowAt, idsIn, blank, formed, rowsIn, faultOf}
+use Rattle.cluster.specs.Terms.{bufferRows, Topology, topology, partitions, nodeAt, Layout, ValidRow, ValidAt, cellsOf, rowAt, idsIn, blank, formed, rowsIn}
 use Rattle.cluster.specs.ModelRows.{FitsCells, HoldsRows}
 use Rattle.cluster.specs.TermsReading.{Accepted}
 use Rattle.cluster.specs.declared.Cluster.{Cluster}
 use Rattle.cluster.proofs.Accepting.{few-partitions, accepted}
 use Rattle.cluster.proofs.CellLayouts.{length-rowsIn, row-rowsIn, rowAt-take, rowsIn-take, rowsIn-cellsOf, holds-cellsOf, cellsOf-rowsIn}
 use Rattle.layouts.specs.declared.check.Checked.{Checked}
-use Rattle.layouts.specs.TermsCheck.{fault, passed, rowFault, rowsFault, nodeFault, nodesFault, checkOf}
+use Rattle.layouts.specs.TermsCheck.{fault, Passes, rowFault, rowsFault, nodeFault, nodesFault, checkOf}
 use Rattle.layouts.proofs.FaultMeaning.{own-row, row-own, other-row, row-other, node-held, held-node, each-row}
 use Rattle.layouts.proofs.CheckOrder.{none-found, find-none, sound, no-cluster-fault, order-nodes, all-pass}
 
 -- ---- the theorem
-
--- The cells are a layout valid at a size: a whole buffer of 2,048 cells that are those of the layout, whatever stands after them.
-pub record Passes (c : Cluster) (cells : List ℕ) (size : ℕ) : Type 0 where
-  pub whole : layoutCells ≤ length cells
-  pub accepted-cluster : faultOf c ≡ 0
-  pub layout : Layout
-  pub valid : ValidAt (topology c) layout size
-  pub written : take layoutCells cells ≡ cellsOf layout
 
 -- A valid layout of an accepted cluster fits the cells.
 pub valid-fits : (t : Topology) (L : Layout) (size : ℕ) → Accepted t → ValidAt t L size → FitsCells L
@@ -97,7 +89,7 @@ module _ (c : Cluster) (cells : List ℕ) (size : ℕ) where
       }
 
   -- A valid layout passes, with place 0.
-  pub valid-passed : Passes c cells size → checkOf c cells size ≡ passed
+  pub valid-passed : Passes c cells size → checkOf c cells size ≡ fault 0 0
   unfolding rowsFault nodesFault
   valid-passed h =
       let e = check-layout c cells size h in

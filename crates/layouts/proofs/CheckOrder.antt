@@ -13,30 +13,30 @@ use Rattle.sums.proofs.Sum.{lt-or-ge, eq-or-ne}
 use Rattle.cluster.specs.Terms.{mostNodes, layoutCells, topology, partitions, rowsIn, faultOf}
 use Rattle.cluster.specs.declared.Cluster.{Cluster}
 use Rattle.layouts.specs.declared.check.Checked.{Checked}
-use Rattle.layouts.specs.TermsCheck.{fault, passed, firstFrom, clusterFault, rowsFault, nodesFault, checkOf}
+use Rattle.layouts.specs.TermsCheck.{fault, firstFault, clusterFault, rowsFault, nodesFault, checkOf}
 use Rattle.cluster.proofs.Accepting.{few-nodes}
 
 -- ---- a first fault
 
 -- Where no fault is found there is none.
-pub none-found : (n i : ℕ) (f : ℕ → Checked) → firstFrom n i f .refusal ≡ 0 → (j : ℕ) → i ≤ j → j < i + n → f j .refusal ≡ 0
-unfolding firstFrom
+pub none-found : (n i : ℕ) (f : ℕ → Checked) → firstFault n i f .refusal ≡ 0 → (j : ℕ) → i ≤ j → j < i + n → f j .refusal ≡ 0
+unfolding firstFault
 none-found zero i f e j l k = absurd (omega arith)
 none-found (suc n) i f e j l k = go (eqb (f i .refusal) 0) refl e (none-found n (suc i) f)
   where
-    go : (b : Bool) → eqb (f i .refusal) 0 ≡ b → cond b (firstFrom n (suc i) f) (f i) .refusal ≡ 0
-        → (firstFrom n (suc i) f .refusal ≡ 0 → (x : ℕ) → suc i ≤ x → x < suc i + n → f x .refusal ≡ 0) → f j .refusal ≡ 0
+    go : (b : Bool) → eqb (f i .refusal) 0 ≡ b → cond b (firstFault n (suc i) f) (f i) .refusal ≡ 0
+        → (firstFault n (suc i) f .refusal ≡ 0 → (x : ℕ) → suc i ≤ x → x < suc i + n → f x .refusal ≡ 0) → f j .refusal ≡ 0
     go false q h r = absurd (eqb-false (f i .refusal) 0 q h)
     go true q h r =
         ⊎-elim (λ a. r h j a (omega arith)) (λ a. let d : j ≡ i = omega arith in ap (λ (x : ℕ). f x .refusal) d ∙ eqb-true (f i .refusal) 0 q)
         (lt-or-ge i j)
 
 -- Where there is none, none is found.
-pub find-none : (n i : ℕ) (f : ℕ → Checked) → ((j : ℕ) → i ≤ j → j < i + n → f j .refusal ≡ 0) → firstFrom n i f ≡ passed
-unfolding firstFrom
+pub find-none : (n i : ℕ) (f : ℕ → Checked) → ((j : ℕ) → i ≤ j → j < i + n → f j .refusal ≡ 0) → firstFault n i f ≡ fault 0 0
+unfolding firstFault
 find-none zero i f h = refl
 find-none (suc n) i f h =
-    ap (λ (b : Bool). cond b (firstFrom n (suc i) f) (f i)) (eq-eqb (f i .refusal) 0 (h i (omega arith) (omega arith)))
+    ap (λ (b : Bool). cond b (firstFault n (suc i) f) (f i)) (eq-eqb (f i .refusal) 0 (h i (omega arith) (omega arith)))
     ∙ find-none n (suc i) f (λ j l k. h j (omega arith) (omega arith))
 
 -- ---- the order

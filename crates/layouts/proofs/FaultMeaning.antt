@@ -10,22 +10,22 @@ use lib.ListN.{length}
 use borrow.Author.Tests.{lt-ltb, le-ltb, ltb-false, eq-eqb, eqb-true}
 use Rattle.cluster.proofs.Taking.{takes-held}
 use Rattle.cluster.proofs.Accepting.{few-partitions}
-use Rattle.cluster.specs.Terms.{takes, bufferRows, Topology, partitions, nodeAt, idsOf, zonesOf, Layout, copiesIn, ValidRow, rowAt, idsIn, blank, formed}
+use Rattle.cluster.specs.Terms.{takes, bufferRows, Topology, partitions, nodeAt, idsOf, zonesOf, Layout, copiesIn, ValidRow, onlyIn, rowAt, idsIn, blank, formed}
 use Rattle.cluster.specs.TermsReading.{Accepted}
 use Rattle.sums.proofs.Tests.{both}
 use Rattle.cluster.proofs.CellRows.{formed-rising}
-use Rattle.layouts.specs.TermsCheck.{fault, allIn, rightIds, rowFault, rowsFault, nodeFault}
-use Rattle.layouts.proofs.RowFaults.{all-mem, mem-all}
+use Rattle.layouts.specs.TermsCheck.{fault, rightIds, rowFault, rowsFault, nodeFault}
+use Rattle.layouts.proofs.RowFaults.{only-none, none-only}
 use Rattle.layouts.proofs.CheckOrder.{none-found}
 
 -- What the right ids are.
 pub right-parts : (t : Topology) (r : List ℕ) → rightIds t r ≡ true
-    → (formed r ≡ true) × (length (idsIn r) ≡ t .replication) × (allIn (idsIn r) (idsOf (t .nodes)) ≡ true)
+    → (formed r ≡ true) × (length (idsIn r) ≡ t .replication) × (onlyIn (idsIn r) (idsOf (t .nodes)) ≡ 0)
 unfolding rightIds
 right-parts t r e =
-    let a = both (formed r && eqb (length (idsIn r)) (t .replication)) (allIn (idsIn r) (idsOf (t .nodes))) e in
+    let a = both (formed r && eqb (length (idsIn r)) (t .replication)) (eqb (onlyIn (idsIn r) (idsOf (t .nodes))) 0) e in
     let b = both (formed r) (eqb (length (idsIn r)) (t .replication)) (a .0) in
-    (b .0, eqb-true (length (idsIn r)) (t .replication) (b .1), a .1)
+    (b .0, eqb-true (length (idsIn r)) (t .replication) (b .1), eqb-true (onlyIn (idsIn r) (idsOf (t .nodes))) 0 (a .1))
 
 -- A row of the first P without fault is rising ids followed by zeros, and these are a valid row.
 pub own-row : (t : Topology) (cells : List ℕ) (p : ℕ) → p < partitions t → rowFault t cells p ≡ 0
@@ -48,7 +48,7 @@ own-row t cells p h e =
           record {
             ids = formed-rising 0 r (w .0);
             many = w .1;
-            known = all-mem (idsIn r) (idsOf (t .nodes)) (w .2);
+            known = none-only (idsIn r) (idsOf (t .nodes)) (w .2);
             zones = ltb-false (zonesOf (t .nodes) (idsIn r)) (t .redundancy) z;
           },
         )
@@ -62,7 +62,7 @@ row-own t cells p h f v =
       lt-ltb p (partitions t) h,
       f,
       eq-eqb (length (idsIn (rowAt cells p))) (t .replication) (v .many),
-      mem-all (idsIn (rowAt cells p)) (idsOf (t .nodes)) (v .known),
+      eq-eqb (onlyIn (idsIn (rowAt cells p)) (idsOf (t .nodes))) 0 (only-none (idsIn (rowAt cells p)) (idsOf (t .nodes)) (v .known)),
       le-ltb (zonesOf (t .nodes) (idsIn (rowAt cells p))) (t .redundancy) (v .zones),
     )
 

@@ -13,31 +13,31 @@ use Rattle.cluster.specs.declared.Cluster.{Cluster}
 use Rattle.cluster.specs.declared.Node.{Node}
 use Rattle.cluster.proofs.Slots.{node-slot}
 use Rattle.layouts.specs.declared.check.Checked.{Checked}
-use Rattle.layouts.specs.TermsCheck.{passed, firstFrom, nodeFault}
+use Rattle.layouts.specs.TermsCheck.{fault, firstFault, nodeFault}
 use Rattle.layouts.specs.ModelScans.{copiesSoFar}
 use Rattle.layouts.proofs.CopyWalk.{so-far-cell}
 
 module _ (n i : ℕ) (f : ℕ → Checked) where
   -- A scan that is at a fault has found the first.
-  pub scan-fault : i < n → (f i .refusal ≡ 0 → ⊥) → firstFrom (n - i) i f ≡ f i
-  unfolding firstFrom
+  pub scan-fault : i < n → (f i .refusal ≡ 0 → ⊥) → firstFault (n - i) i f ≡ f i
+  unfolding firstFault
   scan-fault l h =
       let e : n - i ≡ suc (n - (i + 1)) = omega arith in
-      ap (λ (k : ℕ). firstFrom k i f) e ∙ ap (λ (b : Bool). cond b (firstFrom (n - (i + 1)) (suc i) f) (f i)) (ne-eqb (f i .refusal) 0 h)
+      ap (λ (k : ℕ). firstFault k i f) e ∙ ap (λ (b : Bool). cond b (firstFault (n - (i + 1)) (suc i) f) (f i)) (ne-eqb (f i .refusal) 0 h)
 
   -- A scan that is at no fault goes on.
-  pub scan-on : i < n → f i .refusal ≡ 0 → firstFrom (n - i) i f ≡ firstFrom (n - (i + 1)) (i + 1) f
-  unfolding firstFrom
+  pub scan-on : i < n → f i .refusal ≡ 0 → firstFault (n - i) i f ≡ firstFault (n - (i + 1)) (i + 1) f
+  unfolding firstFault
   scan-on l h =
       let e : n - i ≡ suc (n - (i + 1)) = omega arith in
-      ap (λ (k : ℕ). firstFrom k i f) e
-      ∙ (ap (λ (b : Bool). cond b (firstFrom (n - (i + 1)) (suc i) f) (f i)) (eq-eqb (f i .refusal) 0 h)
-      ∙ ap (λ (k : ℕ). firstFrom (n - (i + 1)) k f) (sym (add-one i)))
+      ap (λ (k : ℕ). firstFault k i f) e
+      ∙ (ap (λ (b : Bool). cond b (firstFault (n - (i + 1)) (suc i) f) (f i)) (eq-eqb (f i .refusal) 0 h)
+      ∙ ap (λ (k : ℕ). firstFault (n - (i + 1)) k f) (sym (add-one i)))
 
   -- A scan at its end has found none.
-  pub scan-end : n ≤ i → firstFrom (n - i) i f ≡ passed
-  unfolding firstFrom
-  scan-end l = let e : n - i ≡ 0 = omega arith in ap (λ (k : ℕ). firstFrom k i f) e
+  pub scan-end : n ≤ i → firstFault (n - i) i f ≡ fault 0 0
+  unfolding firstFault
+  scan-end l = let e : n - i ≡ 0 = omega arith in ap (λ (k : ℕ). firstFault k i f) e
 
 -- ---- the fault of a node
 

@@ -3,18 +3,19 @@
 use Prim.Native.Nat.{ℕ, zero, suc, _+_, _*_, _≤_, _<_}
 use mathlib.Core.Path.{_≡_, refl, sym, ap, ap₂, _∙_}
 use mathlib.Core.Bool.{Bool, cond}
-use mathlib.Core.List.{List}
+use mathlib.Core.List.{List, [], _∷_, _++_, append-assoc, append-nil}
 use mathlib.Core.Logic.{⊎-elim}
 use native.Mathlib.Numerals.{add-one}
 use native.Mathlib.Omega.{arith}
 use lib.Dec.{ltb, eqb}
-use lib.ListN.{length, getD, List·getD-eq-default}
+use lib.ListN.{length, take, drop, getD, set, length-append, length-drop, take-append-drop, List·getD-eq-default}
+use lib.Seq.{length-take-le, take-at, drop-cons, drop-append-add, drop-drop, set-at}
 use borrow.Author.Tests.{lt-ltb, le-ltb, eq-eqb, ne-eqb}
 use Rattle.sums.specs.TermsSums.{sumTo, one-if, tab}
 use Rattle.sums.specs.ModelSums.{is}
 use Rattle.sums.proofs.Sum.{is-times, not-times, lt-or-ge, sum-cong}
 use Rattle.cells.specs.ModelCells.{put}
-use Rattle.cells.proofs.Cells.{put-cong}
+use Rattle.cells.proofs.Cells.{length-tab, put-cong}
 use Rattle.cluster.specs.Terms.{mostNodes, figureCells, Topology, topology, partitions, noNode, nodeAt, copiesIn, rowAt, rowsIn}
 use Rattle.cluster.specs.declared.Cluster.{Cluster}
 use Rattle.cluster.specs.declared.Node.{Node}
@@ -26,6 +27,32 @@ use Rattle.layouts.specs.TermsFigures.{nodeCopies, zoneCopies, figuresMa
 use Rattle.layouts.specs.ModelScans.{copiesSoFar, zoneSum}
 use Rattle.layouts.proofs.RowWalks.{zero-unnamed}
 use Rattle.layouts.proofs.CopyWalk.{copies-more, so-far-cell}
+
+-- Numbers put from a place on stand between what was before and what comes after.
+put-parts : (b : ℕ) (f : ℕ → ℕ) (n : ℕ) (l : List ℕ) → b + n ≤ length l → put b f n l ≡ take b l ++ tab f n ++ drop (b + n) l
+unfolding put tab
+put-parts b f zero l h =
+    let e : b ≡ b + 0 = omega arith in
+    sym (take-append-drop b l) ∙ ap₂ (λ (x : List ℕ) (k : ℕ). x ++ drop k l) (sym (append-nil (take b l))) e
+put-parts b f (suc n) l h =
+    let front = take b l ++ tab f n in
+    let rest = drop (suc (b + n)) l in
+    let long : length front ≡ b + n = omega (arith, length-append (take b l) (tab f n), length-take-le b l (omega arith), length-tab f n) in
+    let next : suc (b + n) ≡ b + suc n = omega arith in
+    ap (λ (k : List ℕ). set k (b + n) (f n)) (put-parts b f n l (omega arith) ∙ ap (λ (r : List ℕ). front ++ r) (drop-cons l (b + n) 0 (omega arith)))
+    ∙ (set-at front (getD l (b + n) 0) rest (f n) (b + n) long
+    ∙ (sym (append-assoc front (f n ∷ []) rest)
+    ∙ ap₂ (λ (x : List ℕ) (k : ℕ). x ++ drop k l) (append-assoc (take b l) (tab f n) (f n ∷ [])) next))
+
+-- A number for each node, and another for each in the cells after them.
+put-both : (f g : ℕ → ℕ) (l : List ℕ) → figureCells ≤ length l → put mostNodes g mostNodes (put 0 f mostNodes l) ≡ tab f mostNodes ++ tab g mostNodes ++ drop figureCells l
+put-both f g l h =
+    let k = tab f 32 ++ drop 32 l in
+    let rest : drop 64 k ≡ drop 64 l =
+    ap (λ (n : ℕ). drop (n + 32) k) (sym (length-tab f 32)) ∙ (drop-append-add (tab f 32) (drop 32 l) 32 ∙ drop-drop 32 32 l) in
+    ap (put 32 g 32) (put-parts 0 f 32 l (omega arith))
+    ∙ (put-parts 32 g 32 k (omega (arith, length-append (tab f 32) (drop 32 l), length-tab f 32, length-drop 32 l))
+    ∙ ap₂ (λ (x y : List ℕ). x ++ tab g 32 ++ y) (take-at (tab f 32) (drop 32 l) 32 (length-tab f 32)) rest)
 
 -- ---- the copies in a zone
 
@@ -84,23 +111,24 @@ module _ (t : Topology) (cells : List ℕ) (p : ℕ) where
 
   -- The sums of the counts are the copies of the zones.
   pub zone-figure : length (t .nodes) ≤ mostNodes → (b : ℕ) → zoneSum t (copiesSoFar t cells p) b ≡ zoneCopies t (rowsIn p cells) b
-  unfolding zoneSum zoneCopies
+  unfolding zoneSum zoneCopies is
   zone-figure few b =
       ap (λ (n : ℕ). cond (ltb b (length (t .nodes))) n 0)
       (sum-cong (length (t .nodes)) (λ x. is (nodeAt t x .zone) (nodeAt t b .zone) * getD (copiesSoFar t cells p) x 0)
       (λ x. is (nodeAt t x .zone) (nodeAt t b .zone) * copiesIn (rowsIn p cells) (nodeAt t x .id))
       (λ x l. ap (λ (n : ℕ). is (nodeAt t x .zone) (nodeAt t b .zone) * n) (so-far-cell t cells p x (omega arith))))
 
-  -- All cells.
-  pub all-figures : length (t .nodes) ≤ mostNodes → (counts l : List ℕ) → counts ≡ copiesSoFar t cells p
+  -- All 64 cells.
+  pub all-figures : length (t .nodes) ≤ mostNodes → (counts l : List ℕ) → figureCells ≤ length l → counts ≡ copiesSoFar t cells p
       → put mostNodes (zoneSum t counts) mostNodes (put 0 (λ b. getD counts b 0) mostNodes l)
       ≡ figuresMade t (rowsIn p cells) l
-  all-figures few counts l e =
+  all-figures few counts l long e =
       put-cong mostNodes (zoneSum t counts) (zoneCopies t (rowsIn p cells)) mostNodes (put 0 (λ b. getD counts b 0) mostNodes l)
       (λ b h. ap (λ (k : List ℕ). zoneSum t k b) e ∙ zone-figure few b)
-      ∙ ap (put mostNodes (zoneCopies t (rowsIn p cells)) mostNodes)
+      ∙ (ap (put mostNodes (zoneCopies t (rowsIn p cells)) mostNodes)
       (put-cong 0 (λ b. getD counts b 0) (nodeCopies t (rowsIn p cells)) mostNodes l
       (λ b h. ap (λ (k : List ℕ). getD k b 0) e ∙ node-figure b h))
+      ∙ put-both (nodeCopies t (rowsIn p cells)) (zoneCopies t (rowsIn p cells)) l long)
 
 -- ---- the answer
 

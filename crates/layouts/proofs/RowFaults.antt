@@ -16,58 +16,46 @@ use Rattle.cluster.specs.Terms.{bufferRows, layoutCells, Topology, partitions, 
 use Rattle.cluster.specs.ModelRows.{rowIds, rowIsBlank}
 use Rattle.cluster.specs.TermsReading.{Accepted}
 use Rattle.incidence.specs.ModelIncidence.{bitsOf, zoneCells}
-use Rattle.sums.proofs.Tests.{both, true-or-false, one-if-le}
+use Rattle.sums.proofs.Tests.{true-or-false, one-if-le}
 use Rattle.cluster.proofs.CellRows.{formed-rising}
 use Rattle.cluster.proofs.RowScans.{row-ids-formed, formed-row-ids, row-of-buffer}
 use Rattle.cluster.proofs.Lists.{same-test, mem-head, mem-tail, mem-none, mem-cases, over-common, only-or-common}
-use Rattle.incidence.proofs.TieRows.{over-ids, row-length}
+use Rattle.incidence.proofs.TieRows.{over-ids}
 use Rattle.masks.specs.ModelMasks.{rowMask}
 use Rattle.masks.proofs.Laws.{mask-bits}
-use Rattle.layouts.specs.TermsCheck.{allIn, rightIds, rowFault}
+use Rattle.layouts.specs.TermsCheck.{rightIds, rowFault}
 use Rattle.layouts.specs.ModelScans.{rowNodes, zonesIn}
 use Rattle.layouts.proofs.RowWalks.{count-zones}
 
 -- ---- rows of known ids
 
--- Of ids that all stand in a list, each does.
-pub all-mem : (l known : List ℕ) → allIn l known ≡ true → (i : ℕ) → mem i l ≡ true → mem i known ≡ true
-unfolding allIn
-all-mem [] known a i m = absurd (mem-none i m)
-all-mem (x ∷ xs) known a i m =
-    let b = both (mem x known) (allIn xs known) a in
-    ⊎-elim (λ e. ap (λ (k : ℕ). mem k known) e ∙ b .0) (λ h. all-mem xs known (b .1) i h) (mem-cases i x xs m)
+-- Where all ids of a row stand in a second one, none stands only in the first.
+pub only-none : (l r : List ℕ) → ((i : ℕ) → mem i l ≡ true → mem i r ≡ true) → onlyIn l r ≡ 0
+unfolding onlyIn one-if
+only-none [] r h = refl
+only-none (x ∷ xs) r h =
+    omega (arith, ap (λ (b : Bool). one-if (not b)) (h x (mem-head x x xs refl)), only-none xs r (λ i m. h i (mem-tail i x xs m)))
 
--- Where each id stands in a list, all do.
-pub mem-all : (l known : List ℕ) → ((i : ℕ) → mem i l ≡ true → mem i known ≡ true) → allIn l known ≡ true
-unfolding allIn
-mem-all [] known h = refl
-mem-all (x ∷ xs) known h =
-    ap₂ _&&_ (h x (mem-head x x xs refl)) (mem-all xs known (λ i m. h i (mem-tail i x xs m)))
-
--- Where no id stands in the first list only, all stand in the second.
-only-all : (l known : List ℕ) → onlyIn l known ≡ 0 → allIn l known ≡ true
-unfolding allIn onlyIn one-if
-only-all [] known e = refl
-only-all (x ∷ xs) known e = go (mem x known) (only-all xs known) e
+-- Where none stands only in the first, all of them stand in the second.
+pub none-only : (l r : List ℕ) → onlyIn l r ≡ 0 → (i : ℕ) → mem i l ≡ true → mem i r ≡ true
+unfolding onlyIn one-if
+none-only [] r e i m = absurd (mem-none i m)
+none-only (x ∷ xs) r e i m = go (λ h. none-only xs r h i) (mem x r) refl e
   where
-    go : (m : Bool) → (onlyIn xs known ≡ 0 → allIn xs known ≡ true) → one-if (not m) + onlyIn xs known ≡ 0 → m && allIn xs known ≡ true
-    go true r h = r (omega arith)
-    go false r h = absurd (omega arith)
+    go : (onlyIn xs r ≡ 0 → mem i xs ≡ true → mem i r ≡ true) → (b : Bool) → mem x r ≡ b → one-if (not b) + onlyIn xs r ≡ 0 → mem i r ≡ true
+    go rest true q h = ⊎-elim (λ s. ap (λ (k : ℕ). mem k r) s ∙ q) (rest (omega arith)) (mem-cases i x xs m)
+    go rest false q h = absurd (omega arith)
 
 -- Rising ids all stand among the ids of the nodes exactly where they are as many as the nodes that they name.
-pub all-count : (t : Topology) (r : List ℕ) → rising (idsOf (t .nodes)) ≡ true → rising r ≡ true
-    → allIn r (idsOf (t .nodes)) ≡ eqb (sumTo (length (t .nodes)) (bitsOf (t .nodes) r)) (length r)
+all-count : (t : Topology) (r : List ℕ) → rising (idsOf (t .nodes)) ≡ true → rising r ≡ true
+    → eqb (onlyIn r (idsOf (t .nodes))) 0 ≡ eqb (sumTo (length (t .nodes)) (bitsOf (t .nodes) r)) (length r)
 all-count t r d e =
-    same-test (allIn r (idsOf (t .nodes))) (eqb (sumTo (length (t .nodes)) (bitsOf (t .nodes) r)) (length r))
-    (λ a. eq-eqb (sumTo (length (t .nodes)) (bitsOf (t .nodes) r)) (length r) (sym (row-length 0 0 (t .nodes) r d e (all-mem r (idsOf (t .nodes)) a))))
-    (λ q. only-all r (idsOf (t .nodes))
-    (omega (
-      arith,
-      only-or-common r (idsOf (t .nodes)),
-      over-common 0 0 r (idsOf (t .nodes)) e d,
-      over-ids (t .nodes) (λ y. one-if (mem y r)),
-      eqb-true (sumTo (length (t .nodes)) (bitsOf (t .nodes) r)) (length r) q,
-    )))
+    let o = onlyIn r (idsOf (t .nodes)) in
+    let s = sumTo (length (t .nodes)) (bitsOf (t .nodes) r) in
+    let w : o + s ≡ length r =
+    omega (arith, only-or-common r (idsOf (t .nodes)), over-common 0 0 r (idsOf (t .nodes)) e d, over-ids (t .nodes) (λ y. one-if (mem y r))) in
+    same-test (eqb o 0) (eqb s (length r))
+    (λ q. eq-eqb s (length r) (omega (arith, eqb-true o 0 q))) (λ q. eq-eqb o 0 (omega (arith, eqb-true s (length r) q)))
 
 -- ---- the fault of a row
 
@@ -85,9 +73,9 @@ module _ (t : Topology) (cells : List ℕ) (p : ℕ) (a : Accepted t) (whole : l
   unfolding rightIds
   wrong-number h =
       ⊎-elim
-      (λ f. ap₂ (λ (s m : Bool). s && m && allIn ids (idsOf (t .nodes))) f
+      (λ f. ap₂ (λ (s m : Bool). s && m && eqb (onlyIn ids (idsOf (t .nodes))) 0) f
       (ne-eqb (length ids) (t .replication) (λ e. h (formed-row-ids cells p (row-of-buffer cells p whole inside) f ∙ e))))
-      (λ f. ap (λ (s : Bool). s && eqb (length ids) (t .replication) && allIn ids (idsOf (t .nodes))) f)
+      (λ f. ap (λ (s : Bool). s && eqb (length ids) (t .replication) && eqb (onlyIn ids (idsOf (t .nodes))) 0) f)
       (true-or-false (formed (rowAt cells p)))
 
   -- A row with the right number of ids has the right ones where it names as many nodes.
@@ -95,7 +83,7 @@ module _ (t : Topology) (cells : List ℕ) (p : ℕ) (a : Accepted t) (whole : l
   unfolding rightIds
   right-number e =
       let w = row-ids-formed cells p (omega (arith, a .replication)) in
-      ap₂ (λ (s m : Bool). s && m && allIn ids (idsOf (t .nodes))) (w .1) (eq-eqb (length ids) (t .replication) (w .2 ∙ e))
+      ap₂ (λ (s m : Bool). s && m && eqb (onlyIn ids (idsOf (t .nodes))) 0) (w .1) (eq-eqb (length ids) (t .replication) (w .2 ∙ e))
       ∙ (all-count t ids (a .ids) (formed-rising 0 (rowAt cells p) (w .1))
       ∙ ap₂ eqb (sym count-nodes) (w .2 ∙ e))
 

@@ -1,13 +1,11 @@
 -- What figures answer of a layout in hand, and what they leave in the lent cells.
 -- Assumes nothing.
 use Prim.Native.Nat.{ℕ, _*_, _/_}
-use mathlib.Core.List.{List}
+use mathlib.Core.List.{List, _++_}
 use lib.Dec.{ltb, eqb}
-use lib.ListN.{length}
-use Rattle.sums.specs.TermsSums.{sumTo}
-use Rattle.sums.specs.ModelSums.{is}
+use lib.ListN.{length, drop}
+use Rattle.sums.specs.TermsSums.{sumTo, one-if, tab}
 use mathlib.Core.Bool.{cond}
-use Rattle.cells.specs.ModelCells.{put}
 use Rattle.cluster.specs.Terms.{mostNodes, figureCells, Topology, topology, partitions, nodeAt, Layout, copiesIn, rowsIn}
 use Rattle.cluster.specs.declared.Cluster.{Cluster}
 use Rattle.layouts.specs.declared.check.Checked.{Checked}
@@ -22,7 +20,7 @@ nodeCopies t L b = cond (ltb b (length (t .nodes))) (copiesIn L (nodeAt t b .id)
 unfoldable pub zoneCopies : Topology → Layout → ℕ → ℕ
 zoneCopies t L b =
     cond (ltb b (length (t .nodes)))
-    (sumTo (length (t .nodes)) (λ x. is (nodeAt t x .zone) (nodeAt t b .zone) * copiesIn L (nodeAt t x .id))) 0
+    (sumTo (length (t .nodes)) (λ x. one-if (eqb (nodeAt t x .zone) (nodeAt t b .zone)) * copiesIn L (nodeAt t x .id))) 0
 
 -- "the size to hope for, total capacity over R times P, rounded down"
 unfoldable pub hopeOf : Topology → ℕ
@@ -30,7 +28,7 @@ hopeOf t = sumTo (length (t .nodes)) (λ b. nodeAt t b .capacity) / (t .replicat
 
 -- "Cells 0 to 31: copies held per box in id order; 32 to 63: copies in that box's zone; unused cells 0". Cells after the 64 are kept.
 abbrev pub figuresMade : Topology → Layout → List ℕ → List ℕ
-figuresMade t L cells = put mostNodes (zoneCopies t L) mostNodes (put 0 (nodeCopies t L) mostNodes cells)
+figuresMade t L cells = tab (nodeCopies t L) mostNodes ++ tab (zoneCopies t L) mostNodes ++ drop figureCells cells
 
 -- "Refused as Check, with 8 for this buffer too"
 unfoldable pub figuresFault : Cluster → List ℕ → ℕ → List ℕ → Checked

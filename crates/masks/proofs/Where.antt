@@ -7,8 +7,8 @@ use mathlib.Core.Bool.{Bool, cond}
 use mathlib.Core.Logic.{⊎-elim}
 use native.Mathlib.Omega.{arith}
 use lib.Dec.{eqb}
-use lib.ListN.{length, take, drop, getD, List·getD-eq-default}
-use lib.Seq.{drop-drop, getD-take, getD-drop}
+use lib.ListN.{length, drop, getD, List·getD-eq-default}
+use lib.Seq.{drop-drop, getD-drop}
 use borrow.Author.Tests.{eq-eqb, ne-eqb}
 use Rattle.sums.specs.TermsSums.{sumTo}
 use Rattle.sums.proofs.Sum.{lt-or-ge, sum-first}
@@ -17,10 +17,6 @@ use Rattle.sets.proofs.Laws.{bit-zero, bit-without, bit-without-same, bit-witho
 use Rattle.cluster.specs.Terms.{mostNodes, noNode}
 use Rattle.incidence.specs.ModelIncidence.{idsWhere}
 use Rattle.cluster.specs.declared.Node.{Node}
-
--- A node in use has the id of its slot.
-pub slot-id : (slots : List Node) (count b : ℕ) → b < count → getD (take count slots) b noNode .id ≡ getD slots b noNode .id
-slot-id slots count b h = ap (λ (n : Node). n .id) (getD-take count slots b noNode h)
 
 -- Past the nodes the id is 0.
 pub past-id : (ns : List Node) (b : ℕ) → length ns ≤ b → getD ns b noNode .id ≡ 0

@@ -7,7 +7,7 @@ mod print;
 // The bytes that are read at most: more than the longest record that is accepted, so a longer one is decided within them.
 const RECORD: usize = 11000;
 // The improvements allowed: so many always finish.
-const ALLOWANCE: u16 = 2048;
+const ALLOWANCE: u16 = Cluster::IMPROVEMENTS as u16;
 
 // Plans a cluster from its former layout.
 fn plan(c: Cluster, former: &[u32]) {

@@ -22,7 +22,7 @@ use Rattle.incidence.proofs.TieZones.{zone-below}
 use Rattle.incidence.proofs.TieDistance.{incidence-le, distance-law}
 use Rattle.incidence.proofs.TieLayouts.{distance-bits, within-of-valid, valid-of-within}
 use Rattle.incidence.proofs.Columns.{cell-column}
-use Rattle.sizing.specs.ModelSizing.{nodesOf, capCells, Fits32, sizeOf, beginning, dealtRows}
+use Rattle.sizing.specs.ModelSizing.{nodesOf, capCells, Fits32, sizeOf, dealtBits, dealtRows}
 use Rattle.sizing.proofs.Sizes.{size-is, beginning-within}
 use Rattle.sizing.proofs.Arrays.{partitions-few}
 use Rattle.sizing.proofs.Reading.{mates-hold, deal-length, deal-cell, deal-bit}
@@ -56,9 +56,9 @@ module _ (t : Topology) (acc : Accepted t) where
       let long : P ≤ length {A = ℕ} (replicate bufferRows 0) = omega (arith, few-partitions, length-replicate {A = ℕ} bufferRows 0) in
       record {
         long = omega (arith, long, deal-length t (sizeOf t) (replicate bufferRows 0));
-        small = λ p l. subst (λ (x : ℕ). x < 2 ^ N) (sym (deal-cell t (sizeOf t) (replicate bufferRows 0) long p l)) (mask-lt (beginning t (sizeOf t) p) N);
+        small = λ p l. subst (λ (x : ℕ). x < 2 ^ N) (sym (deal-cell t (sizeOf t) (replicate bufferRows 0) long p l)) (mask-lt (dealtBits t (sizeOf t) p) N);
         within =
-            within-cong P N (beginning t (sizeOf t)) (bitsAt (dealtRows t (sizeOf t) (replicate bufferRows 0)))
+            within-cong P N (dealtBits t (sizeOf t)) (bitsAt (dealtRows t (sizeOf t) (replicate bufferRows 0)))
             (λ p l b k. sym (deal-bit t (sizeOf t) (replicate bufferRows 0) long p l b k)) R (t .redundancy) (zoneIndex t) (capAt t (sizeOf t))
             (beginning-within t acc (sizeOf t) some (omega arith));
       }

@@ -1,23 +1,23 @@
 -- The refusals of planning, case by case, and what is there where nothing is refused.
 -- Assumes nothing.
 use Prim.Native.Nat.{ℕ, zero, suc, _≤_, _<_}
-use mathlib.Core.Path.{_≡_, refl, sym, ap, ap₂, _∙_}
+use mathlib.Core.Path.{_≡_, refl, sym, ap, ap₂, _∙_, subst}
 use mathlib.Core.Bool.{Bool, true, false, _&&_, _||_, cond}
-use mathlib.Core.List.{List}
+use mathlib.Core.List.{List, _++_}
 use native.Mathlib.Omega.{arith}
 use lib.Dec.{ltb, eqb}
 use lib.ListN.{length}
 use borrow.Author.Tests.{le-leb, lt-ltb, le-ltb, eq-eqb, ne-eqb, eqb-true, ltb-false}
-use Rattle.cluster.specs.Terms.{topology, partitions, IsFormer, rowAt, idsIn, formed, rowsIn, faultOf}
-use Rattle.cluster.specs.ModelRows.{illFormed, idCount, rowIds}
+use Rattle.cluster.specs.Terms.{topology, partitions, Layout, IsFormer, cellsOf, rowAt, idsIn, formed, rowsIn, faultOf}
+use Rattle.cluster.specs.ModelRows.{illFormed, idCount, rowIds, FitsCells, HoldsRows}
 use Rattle.cluster.specs.declared.Cluster.{Cluster}
 use Rattle.cluster.proofs.Accepting.{accepted}
-use Rattle.cluster.proofs.CellLayouts.{few-ids}
+use Rattle.cluster.proofs.CellLayouts.{few-ids, holds-cellsOf, holds-append}
 use Rattle.cluster.proofs.RowScans.{row-of-buffer}
 use Rattle.masks.specs.ModelMasks.{rowsFormed}
 use Rattle.sums.specs.TermsSums.{everyTo}
 use Rattle.improve.proofs.Runs.{not-both}
-use Rattle.masks.proofs.Laws.{formed-former}
+use Rattle.masks.proofs.Laws.{holds-formed, formed-former}
 use Rattle.planner.specs.TermsPlan.{unusable}
 use Rattle.planner.proofs.Machines.{few-partitions}
 
@@ -109,3 +109,16 @@ usable-has c former a s e = go (ltb (length former) 2048) refl (ltb a 2048) refl
 -- The former layout that a usable call is lent.
 pub lent-former : (c : Cluster) (former : List ℕ) (a s : ℕ) → Usable c former a s → IsFormer (topology c) (rowsIn (partitions (topology c)) former)
 lent-former c former a s u = formed-former (topology c) former (u .rows-formed)
+
+-- A cluster without fault and the cells of a former layout of it leave nothing to refuse but the lack of a layout, where the buffers are long enough.
+pub cells-usable : (c : Cluster) (F : Layout) (rest : List ℕ) (a s : ℕ) → faultOf c ≡ 0 → IsFormer (topology c) F → 2048 ≤ a → 16384 ≤ s
+    → unusable c (cellsOf F ++ rest) a s ≡ 0
+cells-usable c F rest a s e f long ample =
+    let P = partitions (topology c) in
+    let fits : FitsCells F = record {
+      few-rows = omega (arith, f .partition-rows, few-partitions (topology c) (accepted c e));
+      ids = λ p l. f .ids p (omega (arith, f .partition-rows));
+      few = λ p l. f .few p (omega (arith, f .partition-rows));
+    } in
+    let h = holds-append P (cellsOf F) rest (subst (λ (n : ℕ). HoldsRows n (cellsOf F)) (f .partition-rows) (holds-cellsOf F fits)) in
+    sym (usable c (cellsOf F ++ rest) a s (h .whole) long ample e (holds-formed P (cellsOf F ++ rest) h))

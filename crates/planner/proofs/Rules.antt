@@ -32,6 +32,7 @@ module _ (t : Topology) (F : Layout) (s : ℕ) {A : Type 0} (improves : A → Bo
   abbrev plan : ℕ → Answer
   plan = answerAt improves next lay far s start
 
+  -- Each rule is proved of the answers by itself, so that an answer that breaks it is refused there.
   module _ (machine : Machine) where
     abbrev state : ℕ → A
     state = reached improves next lay far s start
@@ -50,7 +51,7 @@ module _ (t : Topology) (F : Layout) (s : ℕ) {A : Type 0} (improves : A → Bo
       lower =
           omega (
             arith,
-            ap far (stopped-next improves next start a (cc)),
+            ap far (stopped-next improves next a start (cc)),
             machine .falls (state a) (good a) (stopped-improves improves next start a (cc)),
           )
 
@@ -61,7 +62,7 @@ module _ (t : Topology) (F : Layout) (s : ℕ) {A : Type 0} (improves : A → Bo
       bounded =
           omega (
             arith,
-            ap far (stopped-next improves next start a (cc)),
+            ap far (stopped-next improves next a start (cc)),
             machine .bounded (state a) (good a) (stopped-improves improves next start a (cc)),
           )
 
@@ -100,16 +101,7 @@ module _ (t : Topology) (F : Layout) (s : ℕ) {A : Type 0} (improves : A → Bo
     exactly : (a : ℕ) → ((L : Layout) → ValidAt t L s → plan a .distance ≤ distance t L F) → plan a .finished ≡ true
     exactly a h =
         ⊎-elim (λ e. e)
-        (λ e.
-        let can = stopped-improves improves next start a e in
-        let g = machine .stays (state a) (good a) can in
-        absurd
-        (omega (
-          arith,
-          machine .falls (state a) (good a) can,
-          machine .measured (next (state a)) g,
-          h (lay (next (state a))) (machine .valid (next (state a)) g),
-        )))
+        (λ e. absurd (omega (arith, lower a e, machine .measured (state (suc a)) (good (suc a)), h _ (machine .valid (state (suc a)) (good (suc a))))))
         (true-or-false (plan a .finished))
 
     -- The rules hold of the answers of such a machine.

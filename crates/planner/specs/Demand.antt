@@ -5,7 +5,7 @@ use Prim.Native.Nat.{ℕ, suc, _+_, _*_, _≤_, _<_, min}
 use mathlib.Core.Path.{_≡_}
 use mathlib.Core.Bool.{Bool, true, false}
 use lib.ListN.{length}
-use Rattle.cluster.specs.Terms.{Topology, partitions, Layout, row, ValidAt, IsSize, IsFormer, distance}
+use Rattle.cluster.specs.Terms.{mostImprovements, Topology, partitions, Layout, row, ValidAt, IsSize, IsFormer, distance}
 
 -- "The answer is layout, size, distance, verdict and improvements".
 pub record Answer : Type 0 where
@@ -43,9 +43,9 @@ pub record Rules (t : Topology) (beginning F : Layout) (plan : ℕ → Answer) :
   -- "called finished exactly when no layout valid at that size lies nearer"
   pub exactly : (a : ℕ) → ((L : Layout) → ValidAt t L (plan a .size) → plan a .distance ≤ distance t L F) → plan a .finished ≡ true
   -- "the count is the smaller of the allowance and the least one that finishes"
-  pub counted : (a : ℕ) → plan a .improvements ≡ min a (plan 2048 .improvements)
+  pub counted : (a : ℕ) → plan a .improvements ≡ min a (plan mostImprovements .improvements)
   -- "An allowance of 2,048 finishes"
-  pub enough : plan 2048 .finished ≡ true
+  pub enough : plan mostImprovements .finished ≡ true
   -- "With no former copies, allowance 0 finishes at distance R times P."
   pub nothing-former : ((p : ℕ) → p < partitions t → row F p ≡ []) → (plan 0 .finished ≡ true) × (plan 0 .distance ≡ t .replication * partitions t)
 

@@ -45,7 +45,7 @@ pub fn plan(
         × (now (assignment .exit) ≡ assignmentAfter c (now (former .entry)) allowance (now (assignment .entry)) (length (now (scratch .entry))))
         × (now (scratch .exit) ≡ scratchAfter c (now (former .entry)) (length (now (assignment .entry))) (now (scratch .entry)))
         × (unusable c (now (former .entry)) (length (now (assignment .entry))) (length (now (scratch .entry))) ≡ 0
-            → Owed (topology c) (rowsIn (partitions (topology c)) (now (former .entry))) (r .refusal)) ⌝ }
+        → Owed (topology c) (rowsIn (partitions (topology c)) (now (former .entry))) (r .refusal)) ⌝ }
 {
     let unusable = refuse::unusable(c, former, assignment.len(), scratch.len());
     if unusable != 0 {

@@ -8,7 +8,7 @@ use lib.Dec.{leb, ltb}
 use Rattle.sums.specs.TermsSums.{sumTo}
 use Rattle.sums.specs.ModelSums.{is}
 use Rattle.sums.proofs.Sum.{sum-cong}
-use Rattle.dealing.specs.ModelDeal.{totals, inZone, fits, pour, zoned, first, more, given, light, heavy, zoneStart, start, among, dealt}
+use Rattle.dealing.specs.ModelDeal.{totals, inZone, hasRoom, pour, zoned, firstPass, more, given, light, heavy, zoneStart, start, among, dealt}
 
 -- Two functions agree below N.
 abbrev pub SameBelow : ℕ → (ℕ → ℕ) → (ℕ → ℕ) → Type 0
@@ -45,16 +45,16 @@ module _ (N : ℕ) (zone zone′ : ℕ → ℕ) (same : SameBelow N zone zone′
   own-agree f g h b n l m = inZone-agree f g h (zone b) n m ∙ ap (λ (z : ℕ). inZone zone′ g z n) (same b l)
 
   -- The test.
-  pub fits-agree : (P R Z : ℕ) (f g : ℕ → ℕ) → SameBelow N f g → fits P N R Z zone f ≡ fits P N R Z zone′ g
-  unfolding fits
+  pub fits-agree : (P R Z : ℕ) (f g : ℕ → ℕ) → SameBelow N f g → hasRoom P N R Z zone f ≡ hasRoom P N R Z zone′ g
+  unfolding hasRoom
   fits-agree P R Z f g h =
       ap₂ (λ (a b : ℕ). leb (R * P) a && leb (Z * P) b) (sum-cong N f g h)
       (sum-cong N (λ z. min P (inZone zone f z N)) (λ z. min P (inZone zone′ g z N))
       (λ z l. ap (λ (x : ℕ). min P x) (inZone-agree f g h z N (omega arith))))
 
   -- The first pass.
-  pub first-agree : (P R : ℕ) (f g : ℕ → ℕ) → SameBelow N f g → SameBelow N (first P R zone f) (first P R zone′ g)
-  unfolding first
+  pub first-agree : (P R : ℕ) (f g : ℕ → ℕ) → SameBelow N f g → SameBelow N (firstPass P R zone f) (firstPass P R zone′ g)
+  unfolding firstPass
   first-agree P R f g h = pour-agree N (R * P) (zoned P zone f) (zoned P zone′ g) (λ b l. unfold zoned in
       ap₂ (λ (x s : ℕ). min x (P - s)) (h b l) (own-agree f g h b b l (omega arith)))
 
@@ -64,8 +64,8 @@ module _ (N : ℕ) (zone zone′ : ℕ → ℕ) (same : SameBelow N zone zone′
   given-agree P R f g h b l =
       let e = first-agree P R f g h in
       ap₂ _+_ (e b l)
-      (ap (λ (s : ℕ). pour (R * P - s) (λ c. f c - first P R zone f c) b) (sum-cong N (first P R zone f) (first P R zone′ g) e)
-      ∙ pour-agree N (R * P - sumTo N (first P R zone′ g)) (λ c. f c - first P R zone f c) (λ c. g c - first P R zone′ g c)
+      (ap (λ (s : ℕ). pour (R * P - s) (λ c. f c - firstPass P R zone f c) b) (sum-cong N (firstPass P R zone f) (firstPass P R zone′ g) e)
+      ∙ pour-agree N (R * P - sumTo N (firstPass P R zone′ g)) (λ c. f c - firstPass P R zone f c) (λ c. g c - firstPass P R zone′ g c)
       (λ c m. ap₂ _-_ (h c m) (e c m)) b l)
 
   -- Where a node's copies begin.

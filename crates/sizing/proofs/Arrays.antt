@@ -12,7 +12,7 @@ use Rattle.cluster.specs.Terms.{mostNodes, mostBits, Topology, partitions}
 use Rattle.cluster.specs.TermsReading.{Accepted}
 use Rattle.incidence.specs.ModelIncidence.{zoneIndex, capAt, cell, column, zoneCells}
 use Rattle.incidence.proofs.TieZones.{zone-below}
-use Rattle.dealing.specs.ModelDeal.{fits}
+use Rattle.dealing.specs.ModelDeal.{hasRoom}
 use Rattle.sizing.specs.ModelSizing.{Below, AtMost, nodesOf, capCells}
 use Rattle.incidence.proofs.Columns.{cell-column, length-column}
 use Rattle.sizing.proofs.Agree.{SameBelow, fits-agree}
@@ -59,9 +59,9 @@ module _ (t : Topology) (few : nodesOf t ≤ mostNodes) where
 
     -- The test of the arrays is the test of the cluster.
     pub arrays-fit : (n p : ℕ) (zones caps : List ℕ) (r : Bool) → n ≡ nodesOf t → p ≡ partitions t → zones ≡ zoneCells t → caps ≡ capCells t s
-        → r ≡ fits p n (t .replication) (t .redundancy) (cell zones) (cell caps)
-        → r ≡ fits (partitions t) (nodesOf t) (t .replication) (t .redundancy) (zoneIndex t) (capAt t s)
+        → r ≡ hasRoom p n (t .replication) (t .redundancy) (cell zones) (cell caps)
+        → r ≡ hasRoom (partitions t) (nodesOf t) (t .replication) (t .redundancy) (zoneIndex t) (capAt t s)
     arrays-fit n p zones caps r e q z k d =
-        d ∙ (ap₂ (λ (x y : ℕ). fits x y (t .replication) (t .redundancy) (cell zones) (cell caps)) q e
+        d ∙ (ap₂ (λ (x y : ℕ). hasRoom x y (t .replication) (t .redundancy) (cell zones) (cell caps)) q e
         ∙ fits-agree (nodesOf t) (cell zones) (zoneIndex t) (zones-hold zones z) (partitions t) (t .replication) (t .redundancy) (cell caps)
         (capAt t s) (caps-hold caps k))

@@ -7,14 +7,14 @@ use native.Mathlib.Nat.{two-pow-succ}
 use native.Mathlib.Omega.{arith}
 use Rattle.cluster.specs.Terms.{Topology, partitions}
 use Rattle.incidence.specs.ModelIncidence.{zoneIndex, capAt}
-use Rattle.dealing.specs.ModelDeal.{fits}
+use Rattle.dealing.specs.ModelDeal.{hasRoom}
 use Rattle.dealing.specs.ModelBisect.{bisect, bisectFrom}
 use Rattle.dealing.specs.ModelSize.{bestSize}
 use Rattle.sizing.specs.ModelSizing.{sizeBits, nodesOf, sizeOf}
 
 -- The test of a size.
 abbrev pub passing : Topology → ℕ → Bool
-passing t s = fits (partitions t) (nodesOf t) (t .replication) (t .redundancy) (zoneIndex t) (capAt t s)
+passing t s = hasRoom (partitions t) (nodesOf t) (t .replication) (t .redundancy) (zoneIndex t) (capAt t s)
 
 -- The bisection begins with no bit decided.
 pub size-begins : (t : Topology) → sizeOf t ≡ bisectFrom sizeBits (passing t) 0

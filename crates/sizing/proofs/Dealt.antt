@@ -14,8 +14,7 @@ use Rattle.cluster.specs.Terms.{mostNodes, Topology, partitions}
 use Rattle.incidence.specs.ModelIncidence.{zoneIndex, capAt, cell, column, zoneCells}
 use Rattle.dealing.specs.ModelDeal.{given, start, among, dealt}
 use Rattle.dealing.proofs.Given.{given-le}
-use Rattle.dealing.specs.ModelDeal.{among}
-use Rattle.sizing.specs.ModelSizing.{Below, AtMost, nodesOf, capCells, beginning, dealtRows}
+use Rattle.sizing.specs.ModelSizing.{Below, AtMost, nodesOf, capCells, dealtBits, dealtRows}
 use Rattle.cells.proofs.Cells.{put-cong}
 use Rattle.sizing.proofs.Agree.{SameBelow, start-agree, dealt-agree}
 use Rattle.sizing.proofs.Arrays.{cells-agree, zones-hold, caps-hold}
@@ -51,15 +50,15 @@ pub arrays-deal : (t : Topology) (s n P : ℕ) (zones caps copies starts l r : L
     → zones ≡ zoneCells t → caps ≡ capCells t s → copies ≡ column (given P n (t .replication) (cell zones) (cell caps)) n
     → starts ≡ column (λ b. start P n (cell zones) (cell copies) b % P) n
     → r ≡ put 0 (λ p. maskOf (λ b. among P (cell starts b) (cell copies b) p) n) P l → r ≡ dealtRows t s l
-unfolding dealtRows beginning
+unfolding dealtRows dealtBits
 arrays-deal t s n P zones caps copies starts l r few e q z k c w d =
     d ∙ (put-cong 0 (λ p. maskOf (λ b. among P (cell starts b) (cell copies b) p) n) (λ p. maskOf (dealt P n R (cell zones) (cell caps) p) n) P l
     (λ p m. mask-cong (λ b. among P (cell starts b) (cell copies b) p) (dealt P n R (cell zones) (cell caps) p) n
     (cells-deal P n R (cell zones) (cell caps) (omega arith) copies starts c w p))
     ∙ (ap₂ (λ (x y : ℕ). put 0 (λ p. maskOf (dealt x y R (cell zones) (cell caps) p) y) x l) q e
-    ∙ put-cong 0 (λ p. maskOf (dealt (partitions t) (nodesOf t) R (cell zones) (cell caps) p) (nodesOf t)) (λ p. maskOf (beginning t s p) (nodesOf t))
+    ∙ put-cong 0 (λ p. maskOf (dealt (partitions t) (nodesOf t) R (cell zones) (cell caps) p) (nodesOf t)) (λ p. maskOf (dealtBits t s p) (nodesOf t))
     (partitions t) l
-    (λ p m. mask-cong (dealt (partitions t) (nodesOf t) R (cell zones) (cell caps) p) (beginning t s p) (nodesOf t)
+    (λ p m. mask-cong (dealt (partitions t) (nodesOf t) R (cell zones) (cell caps) p) (dealtBits t s p) (nodesOf t)
     (dealt-agree (nodesOf t) (cell zones) (zoneIndex t) (zones-hold t few zones z) (partitions t) R (cell caps) (capAt t s) (caps-hold t few s caps k) p))))
   where
     R : ℕ

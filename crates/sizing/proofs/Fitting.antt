@@ -11,7 +11,7 @@ use Rattle.sizing.proofs.Adding.{sum-whole}
 use Rattle.cluster.specs.Terms.{mostNodes}
 use Rattle.sums.specs.TermsSums.{sumTo}
 use Rattle.sums.proofs.Sum.{sum-cong}
-use Rattle.dealing.specs.ModelDeal.{totals, inZone, fits}
+use Rattle.dealing.specs.ModelDeal.{totals, inZone, hasRoom}
 use Rattle.incidence.specs.ModelIncidence.{cell, column}
 use Rattle.incidence.proofs.Columns.{cell-column}
 
@@ -20,16 +20,16 @@ module _ (P n R Z : ℕ) (zone cap : ℕ → ℕ) (few : n ≤ mostNodes) (caps 
   total-caps s e = e ∙ sum-whole cap n P caps
 
   -- Caps with too small a sum do not fit.
-  pub fits-not : (s : ℕ) → s ≡ sumTo n (λ b. min P (cap b)) → s < R * P → false ≡ fits P n R Z zone cap
-  unfolding fits
+  pub fits-not : (s : ℕ) → s ≡ sumTo n (λ b. min P (cap b)) → s < R * P → false ≡ hasRoom P n R Z zone cap
+  unfolding hasRoom
   fits-not s e l =
       ap (λ (t : Bool). t && leb (Z * P) (sumTo n (λ z. min P (inZone zone cap z n))))
       (sym (lt-leb (R * P) (sumTo n cap) (omega (arith, total-caps s e))))
 
   -- Caps with a sum large enough fit where the zones are wide enough.
   pub fits-wide : (s w : ℕ) (l : List ℕ) → s ≡ sumTo n (λ b. min P (cap b)) → R * P ≤ s → l ≡ column (totals zone cap n) mostNodes
-      → w ≡ sumTo n (λ z. min P (cell l z)) → leb (Z * P) w ≡ fits P n R Z zone cap
-  unfolding fits
+      → w ≡ sumTo n (λ z. min P (cell l z)) → leb (Z * P) w ≡ hasRoom P n R Z zone cap
+  unfolding hasRoom
   fits-wide s w l e h d q =
       ap (λ (t : Bool). t && leb (Z * P) w) (sym (le-leb (R * P) (sumTo n cap) (omega (arith, total-caps s e))))
       ∙ ap (λ (k : ℕ). leb (R * P) (sumTo n cap) && leb (Z * P) k)

@@ -8,7 +8,7 @@ use Rattle.sizing.proofs.Adding.{sum-whole}
 use Rattle.cluster.specs.Terms.{mostNodes, bufferRows}
 use Rattle.sums.specs.TermsSums.{sumTo}
 use Rattle.sums.proofs.Sum.{sum-cong}
-use Rattle.dealing.specs.ModelDeal.{pour, zoned, first, more, given}
+use Rattle.dealing.specs.ModelDeal.{pour, zoned, firstPass, more, given}
 use Rattle.dealing.proofs.Given.{first-le}
 use Rattle.incidence.specs.ModelIncidence.{cell, column}
 use Rattle.sizing.specs.ModelSizing.{AtMost}
@@ -18,8 +18,8 @@ use Rattle.sizing.proofs.Arrays.{cells-agree}
 
 module _ (P n R : ℕ) (zone cap : ℕ → ℕ) (few : n ≤ mostNodes) (firsts : List ℕ) (e : firsts ≡ column (pour (R * P) (zoned P zone cap)) n) where
   -- The array of the first pass holds the first pass.
-  first-holds : SameBelow n (cell firsts) (first P R zone cap)
-  unfolding first
+  first-holds : SameBelow n (cell firsts) (firstPass P R zone cap)
+  unfolding firstPass
   first-holds = cells-agree (pour (R * P) (zoned P zone cap)) n firsts few e
 
   -- The first pass keeps within the caps.
@@ -35,8 +35,8 @@ module _ (P n R : ℕ) (zone cap : ℕ → ℕ) (few : n ≤ mostNodes) (firsts 
       d ∙ column-cong (λ b. cell firsts b + pour left (λ x. cap x - cell firsts x) b) (given P n R zone cap) n
       (λ b l. ap₂ _+_ (first-holds b l)
       (ap (λ (k : ℕ). pour k (λ x. cap x - cell firsts x) b) (q ∙ ap (λ (k : ℕ). R * P - k) (p ∙ all))
-      ∙ pour-agree n (R * P - sumTo n (first P R zone cap)) (λ x. cap x - cell firsts x) (λ x. cap x - first P R zone cap x)
+      ∙ pour-agree n (R * P - sumTo n (firstPass P R zone cap)) (λ x. cap x - cell firsts x) (λ x. cap x - firstPass P R zone cap x)
       (λ x m. ap (λ (k : ℕ). cap x - k) (first-holds x m)) b l))
     where
-      all : sumTo n (λ b. min bufferRows (cell firsts b)) ≡ sumTo n (first P R zone cap)
-      all = sum-whole (cell firsts) n bufferRows (first-most bufferRows h) ∙ sum-cong n (cell firsts) (first P R zone cap) first-holds
+      all : sumTo n (λ b. min bufferRows (cell firsts b)) ≡ sumTo n (firstPass P R zone cap)
+      all = sum-whole (cell firsts) n bufferRows (first-most bufferRows h) ∙ sum-cong n (cell firsts) (firstPass P R zone cap) first-holds

@@ -16,7 +16,7 @@ use Rattle.cells.proofs.Cells.{length-put, getD-put-in}
 use Rattle.cluster.specs.Terms.{mostBits, mostNodes, Topology, topology, partitions, faultOf}
 use Rattle.incidence.specs.ModelIncidence.{zoneIndex, cell, column, zoneCells}
 use Rattle.cluster.specs.declared.Cluster.{Cluster}
-use Rattle.sizing.specs.ModelSizing.{capCells, capsIn, nodesOf, mateCells, sizeOf, sizeIn, beginning, dealtRows, dealtIn}
+use Rattle.sizing.specs.ModelSizing.{capCells, capsIn, nodesOf, mateCells, sizeOf, sizeIn, dealtBits, dealtRows, dealtIn}
 use Rattle.sizing.proofs.Agree.{SameBelow}
 use Rattle.sizing.proofs.Arrays.{cells-agree, zones-hold}
 use Rattle.sizing.proofs.Sizes.{beginning-le}
@@ -55,16 +55,16 @@ module _ (t : Topology) (s : ℕ) (l : List ℕ) where
   -- No cell comes or goes.
   pub deal-length : length (dealtRows t s l) ≡ length l
   unfolding dealtRows
-  deal-length = length-put 0 (λ p. maskOf (beginning t s p) (nodesOf t)) (partitions t) l
+  deal-length = length-put 0 (λ p. maskOf (dealtBits t s p) (nodesOf t)) (partitions t) l
 
   -- A cell before P is the row of its partition.
-  pub deal-cell : partitions t ≤ length l → (p : ℕ) → p < partitions t → cell (dealtRows t s l) p ≡ maskOf (beginning t s p) (nodesOf t)
+  pub deal-cell : partitions t ≤ length l → (p : ℕ) → p < partitions t → cell (dealtRows t s l) p ≡ maskOf (dealtBits t s p) (nodesOf t)
   unfolding dealtRows
   deal-cell h p m =
-      ap (cell (put 0 (λ p. maskOf (beginning t s p) (nodesOf t)) (partitions t) l)) (sym (zero-add p))
-      ∙ getD-put-in 0 (λ p. maskOf (beginning t s p) (nodesOf t)) (partitions t) l p 0 m (omega arith)
+      ap (cell (put 0 (λ p. maskOf (dealtBits t s p) (nodesOf t)) (partitions t) l)) (sym (zero-add p))
+      ∙ getD-put-in 0 (λ p. maskOf (dealtBits t s p) (nodesOf t)) (partitions t) l p 0 m (omega arith)
 
   -- Its bits are the row of the beginning.
-  pub deal-bit : partitions t ≤ length l → (p : ℕ) → p < partitions t → SameBelow (nodesOf t) (bit (cell (dealtRows t s l) p)) (beginning t s p)
+  pub deal-bit : partitions t ≤ length l → (p : ℕ) → p < partitions t → SameBelow (nodesOf t) (bit (cell (dealtRows t s l) p)) (dealtBits t s p)
   deal-bit h p m b k =
-      ap (λ (x : ℕ). bit x b) (deal-cell h p m) ∙ bit-maskOf (beginning t s p) (nodesOf t) b k (beginning-le t s p b)
+      ap (λ (x : ℕ). bit x b) (deal-cell h p m) ∙ bit-maskOf (dealtBits t s p) (nodesOf t) b k (beginning-le t s p b)

@@ -14,7 +14,7 @@ use Rattle.incidence.proofs.TieLayouts.{within-of-valid, valid-of-within}
 use Rattle.dealing.specs.ModelSize.{Caps, Best}
 use Rattle.dealing.proofs.Size.{best-size}
 use Rattle.dealing.proofs.Exists.{dealt-le}
-use Rattle.sizing.specs.ModelSizing.{sizeBits, nodesOf, Fits32, sizeOf, beginning}
+use Rattle.sizing.specs.ModelSizing.{sizeBits, nodesOf, Fits32, sizeOf, dealtBits}
 
 -- A larger size leaves room for no more copies.
 copies-fall : (n s s′ : ℕ) → 1 ≤ s → s ≤ s′ → n / s′ ≤ n / s
@@ -35,8 +35,8 @@ unfolding capAt
 caps-none t s b h = omega (arith, div-eq-of-lt h)
 
 -- A dealt row has 0 or 1 at each node.
-pub beginning-le : (t : Topology) (s p b : ℕ) → beginning t s p b ≤ 1
-unfolding beginning
+pub beginning-le : (t : Topology) (s p b : ℕ) → dealtBits t s p b ≤ 1
+unfolding dealtBits
 beginning-le t s p b = dealt-le (partitions t) (nodesOf t) (t .replication) (zoneIndex t) (capAt t s) p b
 
 module _ (t : Topology) (a : Accepted t) where
@@ -49,13 +49,13 @@ module _ (t : Topology) (a : Accepted t) where
 
   -- At the size, and at every smaller one from 1 up, the beginning is within the caps.
   pub beginning-within : (s : ℕ) → 1 ≤ s → s ≤ sizeOf t
-      → Within (partitions t) (nodesOf t) (t .replication) (t .redundancy) (zoneIndex t) (capAt t s) (beginning t s)
-  unfolding beginning
+      → Within (partitions t) (nodesOf t) (t .replication) (t .redundancy) (zoneIndex t) (capAt t s) (dealtBits t s)
+  unfolding dealtBits
   beginning-within s l h = size-best .deals s l h
 
   -- It is a layout valid at that size.
-  pub beginning-valid : (s : ℕ) → 1 ≤ s → s ≤ sizeOf t → ValidAt t (layoutOf t (beginning t s)) s
-  beginning-valid s l h = valid-of-within t (a .ids) (beginning t s) s l (beginning-within s l h)
+  pub beginning-valid : (s : ℕ) → 1 ≤ s → s ≤ sizeOf t → ValidAt t (layoutOf t (dealtBits t s)) s
+  beginning-valid s l h = valid-of-within t (a .ids) (dealtBits t s) s l (beginning-within s l h)
 
   -- No layout is valid at a larger size.
   pub size-largest : Fits32 t → (L : Layout) (s : ℕ) → ValidAt t L s → s ≤ sizeOf t
@@ -66,7 +66,7 @@ module _ (t : Topology) (a : Accepted t) where
   -- Where it is not 0, it is the size of the cluster.
   pub size-is : Fits32 t → 1 ≤ sizeOf t → IsSize t (sizeOf t)
   size-is low l =
-      record { reached = (layoutOf t (beginning t (sizeOf t)), beginning-valid (sizeOf t) l (omega arith)); largest = size-largest low }
+      record { reached = (layoutOf t (dealtBits t (sizeOf t)), beginning-valid (sizeOf t) l (omega arith)); largest = size-largest low }
 
   -- Where it is 0, no layout is valid at size 1.
   pub size-none : sizeOf t ≡ 0 → (L : Layout) → ValidAt t L 1 → ⊥

@@ -59,8 +59,8 @@ unfoldable pub sizeOf : Topology → ℕ
 sizeOf t = bestSize sizeBits (partitions t) (nodesOf t) (t .replication) (t .redundancy) (zoneIndex t) (capAt t)
 
 -- The dealt layout at a size, as 0/1 rows.
-unfoldable pub beginning : Topology → ℕ → ℕ → ℕ → ℕ
-beginning t s p b = dealt (partitions t) (nodesOf t) (t .replication) (zoneIndex t) (capAt t s) p b
+unfoldable pub dealtBits : Topology → ℕ → ℕ → ℕ → ℕ
+dealtBits t s p b = dealt (partitions t) (nodesOf t) (t .replication) (zoneIndex t) (capAt t s) p b
 
 -- The size that is answered: 0 for a cluster with a fault.
 unfoldable pub sizeIn : Cluster → ℕ
@@ -68,7 +68,7 @@ sizeIn c = cond (eqb (faultOf c) 0) (sizeOf (topology c)) 0
 
 -- The rows of the dealt layout, as sets of nodes, in the first P cells.
 unfoldable pub dealtRows : Topology → ℕ → List ℕ → List ℕ
-dealtRows t s l = put 0 (λ p. maskOf (beginning t s p) (nodesOf t)) (partitions t) l
+dealtRows t s l = put 0 (λ p. maskOf (dealtBits t s p) (nodesOf t)) (partitions t) l
 
 -- What lent cells hold afterwards: the same cells where the cluster has a fault or they are too few.
 unfoldable pub dealtIn : Cluster → ℕ → List ℕ → List ℕ

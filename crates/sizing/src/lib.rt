@@ -5,7 +5,7 @@ ghost use Prim.Native.Nat.{_≤_};
 ghost use lib.ListN.{length};
 ghost use Rattle.cluster.specs.Terms.{topology, partitions, faultOf};
 ghost use Rattle.incidence.specs.ModelIncidence.{zoneIndex, capAt, zoneCells};
-ghost use Rattle.dealing.specs.ModelDeal.{fits};
+ghost use Rattle.dealing.specs.ModelDeal.{hasRoom};
 ghost use Rattle.sizing.specs.ModelSizing.{mateCells, capsIn, Fits32, sizeOf, sizeIn, dealtRows, dealtIn};
 use cluster::Cluster;
 use incidence::zones;
@@ -53,7 +53,7 @@ pub fn caps(c: Cluster, size: u32) -> [u32; Cluster::NODES]
 // Whether the caps of a size have room for a layout.
 fn passes(c: Cluster, zones: &[u32], size: u32) -> bool
     requires { ⌜ (faultOf c ≡ 0) × (now zones ≡ zoneCells (topology c)) ⌝ }
-    ensures { λ r. ⌜ r ≡ fits (partitions (topology c)) (length (topology c .nodes)) (c .replication) (c .redundancy) (zoneIndex (topology c))
+    ensures { λ r. ⌜ r ≡ hasRoom (partitions (topology c)) (length (topology c .nodes)) (c .replication) (c .redundancy) (zoneIndex (topology c))
         (capAt (topology c) size) ⌝ }
 {
     let n = zones::used(c);

@@ -4,7 +4,7 @@ ghost use Prim.Native.Nat.{_≤_, _<_, _*_, min};
 ghost use lib.ListN.{length};
 ghost use Rattle.sums.specs.TermsSums.{sumTo};
 ghost use Rattle.cluster.specs.Terms.{mostCopies, mostNodes, bufferRows};
-ghost use Rattle.dealing.specs.ModelDeal.{inZone, totals, fits};
+ghost use Rattle.dealing.specs.ModelDeal.{inZone, totals, hasRoom};
 ghost use Rattle.incidence.specs.ModelIncidence.{cell, column};
 ghost use Rattle.sizing.specs.ModelSizing.{AtMost, Below, mostInZone};
 use cluster::Cluster;
@@ -75,7 +75,7 @@ pub(crate) fn fit(
 ) -> bool
     requires { ⌜ (n ≤ mostNodes) × (length (now zones) ≡ mostNodes) × (length (now caps) ≡ mostNodes) × (partitions ≤ bufferRows) × (replication ≤ mostCopies) × (redundancy ≤ mostCopies)
         × Below mostNodes n (now zones) × AtMost partitions n (now caps) ⌝ }
-    ensures { λ r. ⌜ r ≡ fits partitions n replication redundancy (cell (now (zones .entry))) (cell (now (caps .entry))) ⌝ }
+    ensures { λ r. ⌜ r ≡ hasRoom partitions n replication redundancy (cell (now (zones .entry))) (cell (now (caps .entry))) ⌝ }
 {
     if total(caps, n, partitions) < replication * partitions {
         return false;

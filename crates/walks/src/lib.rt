@@ -6,7 +6,7 @@ ghost use Prim.Native.Nat.{_+_, _-_, _≤_, _<_, _^_};
 ghost use lib.ListN.{getD};
 ghost use Rattle.sets.specs.ModelBits.{bit, bitsAt};
 ghost use Rattle.exchange.specs.ModelCircuit.{cost};
-ghost use Rattle.exchange.specs.ModelUncross.{crosses, partner, first};
+ghost use Rattle.exchange.specs.ModelUncross.{crosses, partner, firstCrossed};
 ghost use Rattle.cycles.specs.ModelGraph.{weightOf};
 ghost use Rattle.walks.specs.ModelWalks.{okOf, suitsOf, witnessOf, walkIn, innerGains};
 use cluster::Cluster;
@@ -151,7 +151,7 @@ pub fn earlier(
     all: u32,
     z: u32,
 ) -> u32
-    ensures { λ r. ⌜ r ≡ first partitions (okOf (now (rows .entry)) (now (mates .entry)) all z) (walkIn m (now (y .entry)) (now (q .entry))) ⌝ }
+    ensures { λ r. ⌜ r ≡ firstCrossed partitions (okOf (now (rows .entry)) (now (mates .entry)) all z) (walkIn m (now (y .entry)) (now (q .entry))) ⌝ }
 {
     let mut i = 0;
     while i < m {

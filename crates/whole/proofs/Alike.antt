@@ -1,36 +1,18 @@
 -- Layouts at distance 0 are the same.
 -- Assumes nothing.
 use Prim.Native.Nat.{ℕ, _+_, _<_}
-use mathlib.Core.Path.{_≡_, refl, ap, _∙_}
-use mathlib.Core.Bool.{Bool, true, false, not}
-use mathlib.Core.List.{List, [], _∷_}
-use mathlib.Core.Logic.{⊎-elim}
+use mathlib.Core.Path.{_≡_}
+use mathlib.Core.Bool.{true}
+use mathlib.Core.List.{List, []}
 use native.Mathlib.Omega.{arith}
 use lib.ListN.{length}
 use lib.Seq.{ext-getD}
-use Rattle.sums.specs.TermsSums.{one-if}
 use Rattle.sums.proofs.Sum.{sum-zero, sum-term}
 use Rattle.cluster.specs.Terms.{Topology, partitions, Layout, row, mem, rising, onlyIn, distance}
-use Rattle.cluster.proofs.Lists.{same-test, mem-head, mem-tail, mem-none, mem-cases, rising-same}
+use Rattle.layouts.proofs.RowFaults.{only-none, none-only}
+use Rattle.cluster.proofs.Lists.{same-test, rising-same}
 
 -- ---- rows
-
--- Where all ids of a row stand in a second one, none stands only in the first.
-only-none : (l r : List ℕ) → ((i : ℕ) → mem i l ≡ true → mem i r ≡ true) → onlyIn l r ≡ 0
-unfolding onlyIn one-if
-only-none [] r h = refl
-only-none (x ∷ xs) r h =
-    omega (arith, ap (λ (b : Bool). one-if (not b)) (h x (mem-head x x xs refl)), only-none xs r (λ i m. h i (mem-tail i x xs m)))
-
--- Where none stands only in the first, all of them stand in the second.
-none-only : (l r : List ℕ) → onlyIn l r ≡ 0 → (i : ℕ) → mem i l ≡ true → mem i r ≡ true
-unfolding onlyIn one-if
-none-only [] r e i m = absurd (mem-none i m)
-none-only (x ∷ xs) r e i m = go (λ h. none-only xs r h i) (mem x r) refl e
-  where
-    go : (onlyIn xs r ≡ 0 → mem i xs ≡ true → mem i r ≡ true) → (b : Bool) → mem x r ≡ b → one-if (not b) + onlyIn xs r ≡ 0 → mem i r ≡ true
-    go rest true q h = ⊎-elim (λ s. ap (λ (k : ℕ). mem k r) s ∙ q) (rest (omega arith)) (mem-cases i x xs m)
-    go rest false q h = absurd (omega arith)
 
 -- Rows of rising ids with no id in one of them alone are the same.
 same-row : (r f : List ℕ) → rising r ≡ true → rising f ≡ true → onlyIn r f + onlyIn f r ≡ 0 → r ≡ f

@@ -19,7 +19,7 @@ use Rattle.cluster.specs.declared.Cluster.{Cluster}
 use Rattle.cluster.proofs.Lists.{index-mem}
 use Rattle.incidence.proofs.TieRows.{known-id}
 use Rattle.incidence.proofs.TieDistance.{former-few, distance-law}
-use Rattle.sizing.specs.ModelSizing.{Fits32, sizeOf, beginning}
+use Rattle.sizing.specs.ModelSizing.{Fits32, sizeOf, dealtBits}
 use Rattle.sizing.proofs.Sizes.{size-best, size-largest, beginning-valid}
 use Rattle.planner.specs.Demand.{Demand3, Rules}
 use Rattle.planner.specs.ModelPlan.{planOf}
@@ -116,7 +116,7 @@ module _ (t : Topology) (acc : Accepted t) where
 
 -- The rules of planning, of a cluster that has a size.
 pub plan-rules : (t : Topology) → Accepted t → Fits32 t → 1 ≤ sizeOf t → Demand3 t (planOf t)
-plan-rules t acc low l = demand3 t acc low (layoutOf t (beginning t 1)) (beginning-valid t acc 1 (omega arith) l)
+plan-rules t acc low l = demand3 t acc low (layoutOf t (dealtBits t 1)) (beginning-valid t acc 1 (omega arith) l)
 
 -- Improvements are never more than 2,048.
 pub few-improvements : (t : Topology) (B F : Layout) (a : ℕ) → Rules t B F (planOf t F) → planOf t F a .improvements ≤ 2048

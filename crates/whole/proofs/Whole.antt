@@ -16,7 +16,7 @@ use Rattle.cluster.proofs.Accepting.{accepted}
 use Rattle.sums.proofs.Tests.{one-if-le}
 use Rattle.cluster.proofs.CellLayouts.{length-cellsOf, rowsIn-written, holds-cellsOf, holds-append}
 use Rattle.masks.proofs.Laws.{holds-formed}
-use Rattle.layouts.specs.TermsCheck.{passed, checkOf}
+use Rattle.layouts.specs.TermsCheck.{fault, checkOf}
 use Rattle.layouts.proofs.CheckMeaning.{valid-fits, valid-passed}
 use Rattle.sizing.specs.ModelSizing.{Fits32, sizeOf}
 use Rattle.planner.specs.Demand.{Answer, Demand3, Rules}
@@ -104,14 +104,14 @@ module _ (c : Cluster) (former : List ℕ) (allowance : ℕ) (assignment scratch
     -- ---- check
 
     -- The layout passes check at its size, whatever cells stand after it.
-    laid-checks : (rest : List ℕ) → checkOf c (cellsOf L ++ rest) (r .size) ≡ passed
+    laid-checks : (rest : List ℕ) → checkOf c (cellsOf L ++ rest) (r .size) ≡ fault 0 0
     laid-checks rest =
         ap (λ (x : Planned). checkOf c (cellsOf L ++ rest) (x .size)) answer
         ∙ valid-passed c (cellsOf L ++ rest) (plan .size)
         (record { whole = whole rest; accepted-cluster = call .faultless; layout = L; valid = valid; written = front rest })
 
     -- What planning answers, stopped or finished, passes check at the size that it answers.
-    pub plan-checks : checkOf c cells (r .size) ≡ passed
+    pub plan-checks : checkOf c cells (r .size) ≡ fault 0 0
     plan-checks = ap (λ (l : List ℕ). checkOf c l (r .size)) laid ∙ laid-checks (drop layoutCells assignment)
 
     -- ---- records
@@ -192,7 +192,7 @@ module _ (c : Cluster) (former : List ℕ) (allowance : ℕ) (assignment scratch
           )
 
           -- And passes check as it is read.
-          pub returned-checks : checkOf c (assignmentRead bytes lent) (readLayoutOf bytes lent .numbers .size) ≡ passed
+          pub returned-checks : checkOf c (assignmentRead bytes lent) (readLayoutOf bytes lent .numbers .size) ≡ fault 0 0
           returned-checks =
               ap₂ (checkOf c) held (ap (λ (x : ReadLayout). x .numbers .size) (plan-returns .0)) ∙ laid-checks (drop layoutCells lent)
 

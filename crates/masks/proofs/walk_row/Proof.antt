@@ -7,11 +7,11 @@ use mathlib.Core.Path.{_≡_, ap, _∙_}
 use mathlib.Core.List.{List}
 use mathlib.Core.Logic.{inl, inr, ⊎-elim}
 use lib.ListN.{take, drop, getD}
+use Rattle.cluster.proofs.Slots.{node-slot}
 use Rattle.cluster.specs.Terms.{rowCells, topology, noNode, idsIn}
 use Rattle.cluster.specs.declared.Node.{Node}
 use Rattle.masks.specs.ModelMasks.{named}
 use Rattle.masks.proofs.Named.{left, left-all, left-end, left-past, left-zero, left-skip, left-node, node-done, walked}
-use Rattle.masks.proofs.Where.{slot-id}
 use Rattle.masks.proofs.walk_row.Statement.{statement}
 use Rattle.masks.proofs.walk_row.Tie as tie
 
@@ -83,7 +83,7 @@ loop-again c =
       k .loop .inv .4
           ∙ ap (λ (n : ℕ). k .loop .mask + 2 ^ (k .loop .b) * n)
           (left-skip (nodes s) (k .loop .b) (s .args .cells .now) (s .args .from + rowCells) (k .loop .i) (search needs) (search needs)
-          _ (omega arith) (slot-id (s .args .t1 .nodes) (s .args .t1 .count) (k .loop .b) (omega arith)) (c .before .if2 .left) (c .if3 .taken)),
+          _ (omega arith) (ap (λ (n : Node). n .id) (node-slot (s .args .t1) (k .loop .b) (omega arith))) (c .before .if2 .left) (c .if3 .taken)),
     )
 
 cast-with : tie.Need-cast-with Inv-loop μ-loop
@@ -103,7 +103,7 @@ loop-again-2 c =
     let k = c .before .before .before .before .before .before in
     let s = k .before .before .before in
     let e = left-node (nodes s) (k .loop .b) (s .args .cells .now) (s .args .from + rowCells) (k .loop .i) (search needs) (search needs)
-    (getD (s .args .t1 .nodes) (k .loop .b) noNode .id) (omega arith) (slot-id (s .args .t1 .nodes) (s .args .t1 .count) (k .loop .b) (omega arith)) (c .before .before .if2 .left) (c .before .if3 .left) in
+    (getD (s .args .t1 .nodes) (k .loop .b) noNode .id) (omega arith) (ap (λ (n : Node). n .id) (node-slot (s .args .t1) (k .loop .b) (omega arith))) (c .before .before .if2 .left) (c .before .if3 .left) in
     let w = node-done _ (k .loop .mask) (k .loop .b) _ _ _ (c .if4 .mask) (omega arith) (k .loop .inv .3)
     (k .loop .inv .4 ∙ ap (λ (n : ℕ). k .loop .mask + 2 ^ (k .loop .b) * n) e)
     (⊎-elim (λ u. inl (u .0 .taken, u .2 ∙ u .1 .ensures)) (λ u. inr (u .0 .left, u .1)) (c .if4 .came)) in

@@ -8,12 +8,14 @@ use mathlib.Core.Path.{_≡_, refl, sym, ap, ap₂, _∙_}
 use mathlib.Core.List.{List}
 use mathlib.Core.Logic.{⊎-elim}
 use lib.ListN.{length, drop, getD, set}
+use Rattle.cluster.specs.declared.Node.{Node}
+use Rattle.cluster.proofs.Slots.{node-slot}
 use Rattle.sets.specs.ModelBits.{bit, withoutOf}
 use Rattle.cells.specs.ModelCells.{put}
 use Rattle.cells.proofs.Cells.{put-none, put-more}
 use Rattle.cluster.specs.Terms.{mostNodes, rowCells, topology, noNode}
 use Rattle.incidence.specs.ModelIncidence.{idsWhere}
-use Rattle.masks.proofs.Where.{slot-id, past-id, where-next, where-others}
+use Rattle.masks.proofs.Where.{past-id, where-next, where-others}
 use Rattle.masks.proofs.write_row.Statement.{statement}
 use Rattle.masks.proofs.write_row.Tie as tie
 
@@ -70,7 +72,7 @@ loop-again c =
     let least = c .before .before .least in
     let few : length ns ≤ mostNodes = omega arith in
     let id : c .before .if1 .id ≡ getD ns (least .result) noNode .id =
-    ⊎-elim (λ w. w .1 ∙ sym (slot-id (a .t1 .nodes) (a .t1 .count) (least .result) (omega arith))) (λ w. w .1 ∙ sym (past-id ns (least .result) (omega arith)))
+    ⊎-elim (λ w. w .1 ∙ sym (ap (λ (n : Node). n .id) (node-slot (a .t1) (least .result) (omega arith)))) (λ w. w .1 ∙ sym (past-id ns (least .result) (omega arith)))
     (c .before .if1 .came) in (
       search needs,
       search needs,

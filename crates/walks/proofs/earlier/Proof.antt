@@ -3,7 +3,7 @@ use borrow.Author.Needs.{needs}
 use native.Mathlib.Omega.{arith}
 use Rattle.sums.proofs.First.{first-hit, first-miss, first-end}
 use Rattle.walks.specs.ModelWalks.{okOf, walkIn}
-use Rattle.exchange.specs.ModelUncross.{partner, first}
+use Rattle.exchange.specs.ModelUncross.{partner, firstCrossed}
 use Rattle.sums.specs.ModelSums.{firstFrom}
 use borrow.Author.Tests.{lt-ltb, le-ltb}
 use lib.Dec.{ltb}
@@ -16,14 +16,14 @@ use Rattle.walks.proofs.earlier.Tie as tie
 
 abbrev Inv-loop : tie.InvT-loop
 Inv-loop y q m rows partitions mates all z i₀ i = (i ≤ m)
-    × (first partitions (okOf rows mates all z) (walkIn m y q)
+    × (firstCrossed partitions (okOf rows mates all z) (walkIn m y q)
     ≡ firstFrom (λ k. ltb (partner partitions (okOf rows mates all z) (walkIn m y q) k) m) (m - i) i)
 
 abbrev μ-loop : tie.MeasureT-loop
 μ-loop y q m rows partitions mates all z i₀ i = m - i
 
 loop-holds : tie.Need-loop-holds Inv-loop μ-loop
-unfolding first
+unfolding firstCrossed
 loop-holds c = let a = c .before .before .before .before .args in
     let test : ℕ → Bool =
     λ n. ltb (partner (a .partitions) (okOf (a .rows .now) (a .mates .now) (a .all) (a .z)) (walkIn (a .m) (a .y .now) (a .q .now)) n) (a .m) in

@@ -17,7 +17,7 @@ use Rattle.cluster_record.proofs.faults.field_fault.Lts as lts
 use Rattle.cluster_record.proofs.faults.last_id.Reads as last-id-reads
 use Rattle.cluster_record.proofs.faults.node_fault.Reads as node-fault-reads
 use Rattle.cluster_record.proofs.faults.number_fault.Reads as number-fault-reads
-use Rattle.cluster_record.proofs.faults.row_fault.Reads as row-fault-reads
+use Rattle.cluster_record.proofs.row_faults.row_fault.Reads as row-fault-reads
 use Rattle.fields.proofs.byte_at.Reads as byte-at-reads
 use Rattle.fields.proofs.node_at.Reads as node-at-reads
 

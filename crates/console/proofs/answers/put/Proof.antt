@@ -2,35 +2,32 @@
 -- Assumes nothing.
 use borrow.Author.Needs.{needs}
 use native.Mathlib.Omega.{arith}
-use Prim.Native.Nat.{ℕ, _≤_, _-_}
-use mathlib.Core.Path.{_≡_, sym, ap, _∙_}
-use mathlib.Core.List.{List, _++_}
-use lib.ListN.{length, drop, getD, set}
-use Rattle.sums.specs.TermsSums.{tab}
-use Rattle.cells.proofs.Cells.{tab-none, tab-more, tab-getD}
-use Rattle.console.proofs.Answered.{answered-short, answered-long}
+use Prim.Native.Nat.{_+_, _≤_, _-_}
+use mathlib.Core.Path.{_≡_, ap, _∙_}
+use mathlib.Core.List.{_++_}
+use lib.ListN.{length, take, drop}
+use Rattle.console.proofs.Puts.{copied, copy-none, copy-next, copy-all}
 use Rattle.console.proofs.answers.put.Statement.{statement}
 use Rattle.console.proofs.answers.put.Tie as tie
 
 abbrev Inv-loop : tie.InvT-loop
-Inv-loop numbers cells₀ i₀ cells i = (i ≤ length numbers) × (length cells ≡ length cells₀) × (cells ≡ tab (λ k. getD numbers k 0) i ++ drop i cells₀)
+Inv-loop numbers at cells₀ i₀ cells i =
+    (i ≤ length numbers) × (length cells ≡ length cells₀) × (cells ≡ take at cells₀ ++ take i numbers ++ drop (at + i) cells₀)
 
 abbrev μ-loop : tie.MeasureT-loop
-μ-loop numbers cells₀ i₀ cells i = length numbers - i
-
-returns : tie.Need-returns Inv-loop μ-loop
-returns c =
-    let a = c .before .args in
-    sym (answered-short (length (a .numbers .now)) (a .numbers .now) (a .cells .now) (c .if1 .taken))
+μ-loop numbers at cells₀ i₀ cells i = length numbers - i
 
 loop-holds : tie.Need-loop-holds Inv-loop μ-loop
-loop-holds c = (search needs, search needs, tab-none _ _)
+loop-holds c = (search needs, search needs, copy-none (c .args .numbers .now) (c .args .cells .now) (c .args .at) (c .pre))
 
 mul-cells : tie.Need-mul-cells Inv-loop μ-loop
 mul-cells c = search needs
 
 shared-slice-read-cells : tie.Need-shared-slice-read-cells Inv-loop μ-loop
 shared-slice-read-cells c = search needs
+
+add-cells : tie.Need-add-cells Inv-loop μ-loop
+add-cells c = search needs
 
 mul-cells-2 : tie.Need-mul-cells-2 Inv-loop μ-loop
 mul-cells-2 c = search needs
@@ -47,21 +44,21 @@ loop-less c = search needs
 loop-again : tie.Need-loop-again Inv-loop μ-loop
 loop-again c =
     let k = c .before .before in
-    let a = k .before .before .args in
-    (search needs, search needs, ap (λ (l : List ℕ). set l (k .loop .i) (getD (a .numbers .now) (k .loop .i) 0)) (k .loop .inv .2) ∙ tab-more (λ k. getD (a .numbers .now) k 0) (k .loop .i) (a .cells .now) (omega arith))
+    let s = k .before in
+    let a = s .args in
+    (search needs, search needs, copy-next (a .numbers .now) (a .cells .now) (a .at) (s .pre) (k .loop .i) (k .loop .cells) (omega arith) (k .loop .inv .2))
 
 same-length : tie.Need-same-length Inv-loop μ-loop
 same-length c = search needs
 
-returns-2 : tie.Need-returns-2 Inv-loop μ-loop
-returns-2 c =
-    let a = c .before .before .before .args in
-    let n = length (a .numbers .now) in
-    let e : c .before .loop .i ≡ n = omega arith in
-    c .before .loop .inv .2
-    ∙ (ap (λ (m : ℕ). tab (λ k. getD (a .numbers .now) k 0) m ++ drop m (a .cells .now)) e
-    ∙ (ap (λ (l : List ℕ). l ++ drop n (a .cells .now)) (tab-getD (a .numbers .now) 0)
-    ∙ sym (answered-long n (a .numbers .now) (a .cells .now) (omega arith))))
+returns : tie.Need-returns Inv-loop μ-loop
+returns c =
+    let k = c .before in
+    let s = k .before in
+    let n = s .args .numbers .now in
+    let l = s .args .cells .now in
+    let e : k .loop .i ≡ length n = omega arith in
+    k .loop .inv .2 ∙ (ap (copied n l (s .args .at) (s .pre)) e ∙ copy-all n l (s .args .at) (s .pre))
 
 pub put-spec : {M : Type 1} → statement M
 put-spec =
@@ -69,14 +66,14 @@ put-spec =
     (tie.spec
     Inv-loop
     μ-loop
-    returns
     loop-holds
     mul-cells
     shared-slice-read-cells
+    add-cells
     mul-cells-2
     slice-write-cells
     add-i
     loop-less
     loop-again
     same-length
-    returns-2)
+    returns)

@@ -1,23 +1,21 @@
 -- `console::check::check_read` meets its contract.
 -- Assumes nothing.
 use borrow.Author.Needs.{needs}
-use mathlib.Core.Path.{_∙_}
-use Rattle.console.proofs.CheckAnswers.{checked-refused, checked-read}
+use Rattle.console.specs.TermsConsole.{checked}
+use Rattle.console.proofs.Answered.{refused, accepted}
 use Rattle.console.proofs.check.check_read.Statement.{statement}
 use Rattle.console.proofs.check.check_read.Tie as tie
 
 returns : tie.Need-returns
-returns c =
-    let a = c .before .before .before .args in
-    checked-refused (a .read) (a .assignment .now) (a .size) (c .if1 .taken)
+unfolding checked
+returns c = refused _ (c .before .before .before .args .read) (c .if1 .taken)
 
 check-requires : tie.Need-check-requires
 check-requires c κs = search needs
 
 returns-2 : tie.Need-returns-2
-returns-2 c =
-    let a = c .before .before .before .before .before .args in
-    c .check .ensures ∙ checked-read (a .read) (a .assignment .now) (a .size) (c .before .before .if1 .left)
+unfolding checked
+returns-2 c = accepted _ (c .before .before .before .before .before .args .read) (c .before .before .if1 .left) (c .check .ensures)
 
 pub check-read-spec : {M : Type 1} → statement M
 check-read-spec = tie.close (tie.spec returns check-requires returns-2)

@@ -1,15 +1,21 @@
 -- `console::check::dezghuri_check` meets its contract.
 -- Assumes nothing.
 use borrow.Author.Needs.{needs}
-use mathlib.Core.Path.{_∙_}
-use Rattle.console.proofs.CheckAnswers.{check-short, check-long}
+use mathlib.Core.Path.{_≡_, ap, _∙_}
+use mathlib.Core.List.{_++_}
+use lib.ListN.{drop}
+use Rattle.cluster_record.specs.declared.ReadCluster.{ReadCluster}
+use Rattle.layouts.specs.declared.check.Checked.{Checked}
+use Rattle.console.specs.TermsConsole.{reading, checked, checkNumbers}
+use Rattle.console.proofs.Answered.{short, long}
 use Rattle.console.proofs.check.dezghuri_check.Statement.{statement}
 use Rattle.console.proofs.check.dezghuri_check.Tie as tie
 
 returns : tie.Need-returns
 returns c =
-    let a = c .before .before .before .before .args in
-    check-short (a .bytes .now) (a .assignment .now) (a .size) (a .answer .now) (c .if1 .taken)
+    let lent = c .before .before .before .before .args .answer .now in
+    let h = c .if1 .taken in
+    (short _ 3 lent h, short _ 3 lent h)
 
 read-requires : tie.Need-read-requires
 read-requires c κs = search needs
@@ -17,32 +23,29 @@ read-requires c κs = search needs
 check-read-requires : tie.Need-check-read-requires
 check-read-requires c κs = search needs
 
-high-requires : tie.Need-high-requires
-high-requires c κs = search needs
+slice-aggregate-put-after : tie.Need-slice-aggregate-put-after
+slice-aggregate-put-after c = search needs
 
-low-requires : tie.Need-low-requires
-low-requires c κs = search needs
-
-slice-aggregate-put : tie.Need-slice-aggregate-put
-slice-aggregate-put c = search needs
-
-put-requires : tie.Need-put-requires
-put-requires c κs = search needs
+put-after-requires : tie.Need-put-after-requires
+put-after-requires c κs = search needs
 
 same-length : tie.Need-same-length
 same-length c = search needs
 
 returns-2 : tie.Need-returns-2
 returns-2 c =
-    let h = c .before .before .before .before .before .before in
-    let f = h .before in
+    let f = c .before .before .before .before .before in
     let r = f .before in
     let e = r .before in
     let a = e .before .before .before .before .args in
-    let w =
-    check-long (a .bytes .now) (a .assignment .now) (a .size) (a .answer .now) (r .read .result) (f .check-read .result) (h .high .result) (c .before .before .before .before .before .low .result)
-    (r .read .ensures) (f .check-read .ensures) (h .high .ensures) (c .before .before .before .before .before .low .ensures) (e .if1 .left) in
-    (w .0, c .before .before .put .ensures ∙ w .1)
+    let h = e .if1 .left in
+    let lent = a .answer .now in
+    let read = r .read .ensures in
+    let found : f .check-read .result ≡ checked (reading (a .bytes .now)) (a .assignment .now) (a .size) =
+    f .check-read .ensures ∙ ap (λ (x : ReadCluster). checked x (a .assignment .now) (a .size)) read in (
+      long _ 3 lent h (ap (λ (x : Checked). x .refusal) found),
+      long _ 3 lent h (c .before .before .put-after .ensures ∙ (λ i. checkNumbers (read i) (found i) ++ drop 3 lent)),
+    )
 
 pub dezghuri-check-spec : {M : Type 1} → statement M
 dezghuri-check-spec =
@@ -51,9 +54,7 @@ dezghuri-check-spec =
     returns
     read-requires
     check-read-requires
-    high-requires
-    low-requires
-    slice-aggregate-put
-    put-requires
+    slice-aggregate-put-after
+    put-after-requires
     same-length
     returns-2)

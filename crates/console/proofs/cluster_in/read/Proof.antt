@@ -1,7 +1,7 @@
--- `console::cluster_in::read` meets its contract: the cells that it lends are long enough.
+-- `console::cluster_in::read` meets its contract.
 -- Assumes nothing.
 use borrow.Author.Needs.{needs}
-use Rattle.console.proofs.ClusterAnswers.{read-whole}
+use Rattle.console.specs.TermsConsole.{reading}
 use Rattle.console.proofs.cluster_in.read.Statement.{statement}
 use Rattle.console.proofs.cluster_in.read.Tie as tie
 
@@ -12,7 +12,8 @@ read-cluster-requires : tie.Need-read-cluster-requires
 read-cluster-requires c κs = search needs
 
 returns : tie.Need-returns
-returns c = read-whole _ _ (c .before .read-cluster .result) (c .before .read-cluster .ensures .0) (search needs)
+unfolding reading
+returns c = c .before .read-cluster .ensures .0
 
 pub read-spec : {M : Type 1} → statement M
 read-spec = tie.close (tie.spec slice-aggregate-read-cluster read-cluster-requires returns)

@@ -1,15 +1,22 @@
 -- `console::figure::dezghuri_figures` meets its contract.
 -- Assumes nothing.
 use borrow.Author.Needs.{needs}
-use mathlib.Core.Path.{_∙_}
-use Rattle.console.proofs.CheckAnswers.{figures-short, figures-long}
+use mathlib.Core.Path.{_≡_, ap, _∙_}
+use Prim.Native.Nat.{_/_, _%_, _^_}
+use mathlib.Core.List.{[], _∷_, _++_}
+use lib.ListN.{drop}
+use Rattle.cluster_record.specs.declared.ReadCluster.{ReadCluster}
+use Rattle.layouts.specs.declared.figures.Figured.{Figured}
+use Rattle.console.specs.TermsConsole.{halves, reading, figured, figuresLeft}
+use Rattle.console.proofs.Answered.{short, long}
 use Rattle.console.proofs.figure.dezghuri_figures.Statement.{statement}
 use Rattle.console.proofs.figure.dezghuri_figures.Tie as tie
 
 returns : tie.Need-returns
 returns c =
-    let a = c .before .before .before .before .before .args in
-    figures-short (a .bytes .now) (a .assignment .now) (a .size) (a .figures .now) (a .answer .now) (c .if1 .taken)
+    let lent = c .before .before .before .before .before .args .answer .now in
+    let h = c .if1 .taken in
+    (short _ 5 lent h, short _ 5 lent h, short _ 5 lent h)
 
 read-requires : tie.Need-read-requires
 read-requires c κs = search needs
@@ -23,17 +30,11 @@ high-requires c κs = search needs
 low-requires : tie.Need-low-requires
 low-requires c κs = search needs
 
-high-requires-2 : tie.Need-high-requires-2
-high-requires-2 c κs = search needs
+slice-aggregate-put-after : tie.Need-slice-aggregate-put-after
+slice-aggregate-put-after c = search needs
 
-low-requires-2 : tie.Need-low-requires-2
-low-requires-2 c κs = search needs
-
-slice-aggregate-put : tie.Need-slice-aggregate-put
-slice-aggregate-put c = search needs
-
-put-requires : tie.Need-put-requires
-put-requires c κs = search needs
+put-after-requires : tie.Need-put-after-requires
+put-after-requires c κs = search needs
 
 same-length : tie.Need-same-length
 same-length c = search needs
@@ -43,17 +44,23 @@ same-length-2 c = search needs
 
 returns-2 : tie.Need-returns-2
 returns-2 c =
-    let h = c .before .before .before .before .before .before .before .before in
-    let f = h .before .before .before in
+    let l = c .before .before .before .before .before in
+    let g = l .before in
+    let f = g .before .before .before in
     let r = f .before .before in
     let e = r .before in
     let a = e .before .before .before .before .before .args in
-    let w =
-    figures-long (a .bytes .now) (a .assignment .now) (a .size) (a .figures .now) (a .answer .now) (r .read .result) (f .figures-read .result) (f .figures-read .last .1 .1 .1 .0)
-    (h .high .result) (c .before .before .before .before .before .before .before .low .result) (c .before .before .before .before .before .before .high2 .result) (c .before .before .before .before .before .low2 .result)
-    (r .read .ensures) (f .figures-read .ensures .0) (f .figures-read .ensures .1)
-    (h .high .ensures) (c .before .before .before .before .before .before .before .low .ensures) (c .before .before .before .before .before .before .high2 .ensures) (c .before .before .before .before .before .low2 .ensures) (e .if1 .left) in
-    (w .0, w .1, c .before .before .put .ensures ∙ w .2)
+    let h = e .if1 .left in
+    let lent = a .answer .now in
+    let read = r .read .ensures in
+    let found : f .figures-read .result ≡ figured (reading (a .bytes .now)) (a .assignment .now) (a .size) (a .figures .now) =
+    f .figures-read .ensures .0 ∙ ap (λ (x : ReadCluster). figured x (a .assignment .now) (a .size) (a .figures .now)) read in
+    let high = g .high .ensures ∙ ap (λ (x : Figured). x .hope / 2 ^ 32) found in
+    let low = l .low .ensures ∙ ap (λ (x : Figured). x .hope % 2 ^ 32) found in (
+      long _ 5 lent h (ap (λ (x : Figured). x .refusal) found),
+      long _ 5 lent h (f .figures-read .ensures .1 ∙ ap (λ (x : ReadCluster). figuresLeft x (a .assignment .now) (a .size) (a .figures .now)) read),
+      long _ 5 lent h (c .before .before .put-after .ensures ∙ (λ i. halves (read i .byte) ++ (found i .place ∷ high i ∷ low i ∷ []) ++ drop 5 lent)),
+    )
 
 pub dezghuri-figures-spec : {M : Type 1} → statement M
 dezghuri-figures-spec =
@@ -64,10 +71,8 @@ dezghuri-figures-spec =
     figures-read-requires
     high-requires
     low-requires
-    high-requires-2
-    low-requires-2
-    slice-aggregate-put
-    put-requires
+    slice-aggregate-put-after
+    put-after-requires
     same-length
     same-length-2
     returns-2)

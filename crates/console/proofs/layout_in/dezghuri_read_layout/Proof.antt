@@ -1,30 +1,29 @@
 -- `console::layout_in::dezghuri_read_layout` meets its contract.
 -- Assumes nothing.
 use borrow.Author.Needs.{needs}
-use mathlib.Core.Path.{_∙_}
-use Rattle.console.proofs.RecordAnswers.{read-layout-short, read-layout-long}
+use mathlib.Core.Path.{ap, _∙_}
+use mathlib.Core.List.{_++_}
+use lib.ListN.{drop}
+use Rattle.layout_record.specs.declared.ReadLayout.{ReadLayout}
+use Rattle.console.specs.TermsConsole.{layoutNumbers}
+use Rattle.console.proofs.Answered.{short, long}
 use Rattle.console.proofs.layout_in.dezghuri_read_layout.Statement.{statement}
 use Rattle.console.proofs.layout_in.dezghuri_read_layout.Tie as tie
 
 returns : tie.Need-returns
 returns c =
-    let a = c .before .before .before .before .args in
-    read-layout-short (a .bytes .now) (a .assignment .now) (a .answer .now) (c .if1 .taken)
+    let lent = c .before .before .before .before .args .answer .now in
+    let h = c .if1 .taken in
+    (short _ 8 lent h, short _ 8 lent h, short _ 8 lent h)
 
 read-layout-requires : tie.Need-read-layout-requires
 read-layout-requires c κs = search needs
 
-high-requires : tie.Need-high-requires
-high-requires c κs = search needs
+slice-aggregate-put-after : tie.Need-slice-aggregate-put-after
+slice-aggregate-put-after c = search needs
 
-low-requires : tie.Need-low-requires
-low-requires c κs = search needs
-
-slice-aggregate-put : tie.Need-slice-aggregate-put
-slice-aggregate-put c = search needs
-
-put-requires : tie.Need-put-requires
-put-requires c κs = search needs
+put-after-requires : tie.Need-put-after-requires
+put-after-requires c κs = search needs
 
 same-length : tie.Need-same-length
 same-length c = search needs
@@ -34,14 +33,15 @@ same-length-2 c = search needs
 
 returns-2 : tie.Need-returns-2
 returns-2 c =
-    let h = c .before .before .before .before .before .before in
-    let r = h .before .before .before .before in
+    let r = c .before .before .before .before .before .before .before .before in
     let e = r .before .before in
-    let a = e .before .before .before .before .args in
-    let w =
-    read-layout-long (a .bytes .now) (a .assignment .now) (a .answer .now) (r .read-layout .result) (r .read-layout .last .1 .0) (h .high .result) (c .before .before .before .before .before .low .result)
-    (r .read-layout .ensures .0) (r .read-layout .ensures .1) (h .high .ensures) (c .before .before .before .before .before .low .ensures) (e .if1 .left) in
-    (w .0, w .1, c .before .before .put .ensures ∙ w .2)
+    let lent = e .before .before .before .before .args .answer .now in
+    let h = e .if1 .left in
+    let read = r .read-layout .ensures .0 in (
+      long _ 8 lent h (ap (λ (x : ReadLayout). x .refusal) read),
+      long _ 8 lent h (r .read-layout .ensures .1),
+      long _ 8 lent h (c .before .before .put-after .ensures ∙ ap (λ (x : ReadLayout). layoutNumbers x ++ drop 8 lent) read),
+    )
 
 pub dezghuri-read-layout-spec : {M : Type 1} → statement M
 dezghuri-read-layout-spec =
@@ -49,10 +49,8 @@ dezghuri-read-layout-spec =
     (tie.spec
     returns
     read-layout-requires
-    high-requires
-    low-requires
-    slice-aggregate-put
-    put-requires
+    slice-aggregate-put-after
+    put-after-requires
     same-length
     same-length-2
     returns-2)

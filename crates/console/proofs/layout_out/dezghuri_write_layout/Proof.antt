@@ -1,17 +1,20 @@
 -- `console::layout_out::dezghuri_write_layout` meets its contract.
 -- Assumes nothing.
 use borrow.Author.Needs.{needs}
-use mathlib.Core.Path.{_∙_}
-use Rattle.layout_record.specs.RecordLayout.{numbersOf}
-use Rattle.console.proofs.RecordAnswers.{write-short, write-long}
+use mathlib.Core.Path.{ap, _∙_}
+use Prim.Native.Nat.{_/_, _%_, _^_}
+use mathlib.Core.List.{_∷_}
+use lib.ListN.{drop}
+use Rattle.layout_record.specs.declared.Written.{Written}
+use Rattle.console.proofs.Answered.{short, long}
 use Rattle.console.proofs.layout_out.dezghuri_write_layout.Statement.{statement}
 use Rattle.console.proofs.layout_out.dezghuri_write_layout.Tie as tie
 
 returns : tie.Need-returns
 returns c =
-    let a = c .before .before .before .before .args in
-    let n = numbersOf (a .bits) (a .replication) (a .size) (a .distance) (a .verdict) (a .improvements) in
-    write-short n (a .assignment .now) (a .out .now) (a .answer .now) (c .if1 .taken)
+    let lent = c .before .before .before .before .args .answer .now in
+    let h = c .if1 .taken in
+    (short _ 2 lent h, short _ 2 lent h, short _ 2 lent h)
 
 write-layout-requires : tie.Need-write-layout-requires
 write-layout-requires c κs = search needs
@@ -36,15 +39,19 @@ same-length-2 c = search needs
 
 returns-2 : tie.Need-returns-2
 returns-2 c =
-    let h = c .before .before .before .before .before .before in
-    let r = h .before .before .before in
+    let l = c .before .before .before .before .before in
+    let g = l .before in
+    let r = g .before .before .before in
     let e = r .before .before in
-    let a = e .before .before .before .before .args in
-    let n = numbersOf (a .bits) (a .replication) (a .size) (a .distance) (a .verdict) (a .improvements) in
-    let w =
-    write-long n (a .assignment .now) (a .out .now) (a .answer .now) (r .write-layout .result) (r .write-layout .last .1 .1 .0) (h .high .result) (c .before .before .before .before .before .low .result)
-    (r .write-layout .ensures .0) (r .write-layout .ensures .1) (h .high .ensures) (c .before .before .before .before .before .low .ensures) (e .if1 .left) in
-    (w .0, w .1, c .before .before .put .ensures ∙ w .2)
+    let lent = e .before .before .before .before .args .answer .now in
+    let h = e .if1 .left in
+    let written = r .write-layout .ensures .0 in
+    let high = g .high .ensures ∙ ap (λ (x : Written). x .length / 2 ^ 32) written in
+    let low = l .low .ensures ∙ ap (λ (x : Written). x .length % 2 ^ 32) written in (
+      long _ 2 lent h (ap (λ (x : Written). x .refusal) written),
+      long _ 2 lent h (r .write-layout .ensures .1),
+      long _ 2 lent h (c .before .before .put .ensures ∙ (λ i. high i ∷ low i ∷ drop 2 lent)),
+    )
 
 pub dezghuri-write-layout-spec : {M : Type 1} → statement M
 dezghuri-write-layout-spec =

@@ -29,21 +29,21 @@ abbrev μ-loop : tie.MeasureT-loop
 abbrev looped : tie.After-next-field Inv-loop μ-loop → tie.At-loop Inv-loop μ-loop
 looped n = n .before .before .before
 
-abbrev bytesOf : tie.At-loop Inv-loop μ-loop → List ℕ
-bytesOf k = k .before .before .args .bytes .now
+abbrev recordOf : tie.At-loop Inv-loop μ-loop → List ℕ
+recordOf k = k .before .before .args .bytes .now
 
 -- What is known of a field: its body ends in the record, and has one, two or four bytes.
 known : (c : tie.After-known-told Inv-loop μ-loop) → let g = c .before .f .given .0 in
-    (g .1 .0 + g .1 .1 .0 ≤ length (bytesOf (looped (c .before .before .before)))) × ((g .1 .1 .0 ≡ 1) ⊎ ((g .1 .1 .0 ≡ 2) ⊎ (g .1 .1 .0 ≡ 4)))
+    (g .1 .0 + g .1 .1 .0 ≤ length (recordOf (looped (c .before .before .before)))) × ((g .1 .1 .0 ≡ 1) ⊎ ((g .1 .1 .0 ≡ 2) ⊎ (g .1 .1 .0 ≡ 4)))
 known c =
     let n = c .before .before .before in
     let k = looped n in
     let e = n .before .at in
     let g = c .before .f .given .0 in
     let law = lawful-at (k .loop .i) (omega arith) (e .result) (e .ensures) in
-    let w : Whole (length (bytesOf k)) (k .loop .at) (e .result .tag ∷ []) 0 (g .0) (g .1 .0) (g .1 .1 .0) =
-    subst (Within (length (bytesOf k)) (k .loop .at) (e .result .tag ∷ []) 0) (c .before .f .given .1) (n .next-field .ensures .1) in
-    let same = entry-width (e .result) (length (bytesOf k)) (k .loop .at) (g .0) (g .1 .0) (g .1 .1 .0) law w .1 in
+    let w : Whole (length (recordOf k)) (k .loop .at) (e .result .tag ∷ []) 0 (g .0) (g .1 .0) (g .1 .1 .0) =
+    subst (Within (length (recordOf k)) (k .loop .at) (e .result .tag ∷ []) 0) (c .before .f .given .1) (n .next-field .ensures .1) in
+    let same = entry-width (e .result) (length (recordOf k)) (k .loop .at) (g .0) (g .1 .0) (g .1 .1 .0) law w .1 in
     (w .ends, subst (λ (x : ℕ). (x ≡ 1) ⊎ ((x ≡ 2) ⊎ (x ≡ 4))) (sym same) (law .narrow))
 
 loop-holds : tie.Need-loop-holds Inv-loop μ-loop
@@ -77,7 +77,7 @@ returns c =
     let told = c .before .before .enum-told .given .1 in
     ap₂ HeadRefused (c .before .refusal-of .ensures ∙ ap refusalOf told) (c .place-of .ensures ∙ ap placeOf told)
     ∙ sym (k .loop .inv .2
-    ∙ head-stop (k .loop .i) (omega arith) (e .result) (e .ensures) (bytesOf k) (k .loop .at) (take (k .loop .i) (k .loop .values)) (n .next-field .result) (n .next-field .ensures .0) _ _ told)
+    ∙ head-stop (k .loop .i) (omega arith) (e .result) (e .ensures) (recordOf k) (k .loop .at) (take (k .loop .i) (k .loop .values)) (n .next-field .result) (n .next-field .ensures .0) _ _ told)
 
 number-at-requires : tie.Need-number-at-requires Inv-loop μ-loop
 number-at-requires c κs = known c .1
@@ -93,7 +93,7 @@ returns-2 c =
     let k = looped n in
     let e = n .before .at in
     sym (k .loop .inv .2
-    ∙ head-out (k .loop .i) (omega arith) (e .result) (e .ensures) (bytesOf k) (k .loop .at) (take (k .loop .i) (k .loop .values)) (n .next-field .result) (n .next-field .ensures .0)
+    ∙ head-out (k .loop .i) (omega arith) (e .result) (e .ensures) (recordOf k) (k .loop .at) (take (k .loop .i) (k .loop .values)) (n .next-field .result) (n .next-field .ensures .0)
     _ _ _ _ (g .f .given .1) (h .before .number-at .ensures) (sym (h .holds .ensures) ∙ not-true (h .holds .result) (c .if1 .taken)))
 
 mul-values : tie.Need-mul-values Inv-loop μ-loop
@@ -123,9 +123,9 @@ loop-again c =
       search needs,
       search needs,
       k .loop .inv .2
-          ∙ (head-on i (omega arith) (e .result) (e .ensures) (bytesOf k) (k .loop .at) (take i (k .loop .values)) (n .next-field .result) (n .next-field .ensures .0)
+          ∙ (head-on i (omega arith) (e .result) (e .ensures) (recordOf k) (k .loop .at) (take i (k .loop .values)) (n .next-field .result) (n .next-field .ensures .0)
           _ _ _ v (g .f .given .1) (h .before .number-at .ensures) (sym (h .holds .ensures) ∙ not-false (h .holds .result) (c .if1 .left))
-          ∙ ap (headFrom (drop (i + 1) headTable) (bytesOf k) _)
+          ∙ ap (headFrom (drop (i + 1) headTable) (recordOf k) _)
           (sym (ap (λ (m : ℕ). take m (set (k .loop .values) i v)) (add-one i) ∙ take-suc-set (k .loop .values) i v (omega (arith, k .loop .inv .1))))),
     )
 
@@ -137,7 +137,7 @@ returns-3 c =
     let k = c .before .before in
     let i : k .loop .i ≡ 6 = omega arith in
     sym (k .loop .inv .2
-    ∙ (head-end (k .loop .i) i (bytesOf k) (k .loop .at) (take (k .loop .i) (k .loop .values))
+    ∙ (head-end (k .loop .i) i (recordOf k) (k .loop .at) (take (k .loop .i) (k .loop .values))
     ∙ ap (λ (n : Numbers). HeadEnds n (k .loop .at))
     (ap numbersFrom (take-all (k .loop .i) (k .loop .values) (omega (arith, k .loop .inv .1))) ∙ sym (c .numbers-from .ensures))))
 

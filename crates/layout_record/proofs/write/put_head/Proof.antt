@@ -6,7 +6,7 @@ use Prim.Native.Nat.{_+_, _-_}
 use mathlib.Core.Path.{refl, _∙_}
 use Rattle.fields.specs.RecordField.{bytesOf}
 use Rattle.fields.proofs.Numbers.{length-bytes}
-use Rattle.layout_record.proofs.Puts.{put-next}
+use Rattle.fields.proofs.Puts.{put-next}
 use Rattle.layout_record.proofs.write.put_head.Statement.{statement}
 use Rattle.layout_record.proofs.write.put_head.Tie as tie
 

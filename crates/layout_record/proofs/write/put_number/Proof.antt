@@ -5,7 +5,7 @@ use native.Mathlib.Omega.{arith}
 use Prim.Native.Nat.{_-_}
 use mathlib.Core.Path.{_≡_}
 use mathlib.Core.Logic.{⊎-elim}
-use Rattle.layout_record.proofs.Puts.{put-value}
+use Rattle.fields.proofs.Puts.{put-value}
 use Rattle.layout_record.proofs.write.put_number.Statement.{statement}
 use Rattle.layout_record.proofs.write.put_number.Tie as tie
 

@@ -9,7 +9,7 @@ use lib.ListN.{length, drop}
 use Rattle.fields.specs.RecordField.{written}
 use Rattle.layout_record.specs.RecordLayout.{headTable, numberFields}
 use Rattle.layout_record.proofs.NumberFields.{lawful-at, length-step, put-step, fields-end, length-head}
-use Rattle.layout_record.proofs.Puts.{written-none}
+use Rattle.fields.proofs.Written.{written-none}
 use Rattle.layout_record.proofs.write.put_numbers.Statement.{statement}
 use Rattle.layout_record.proofs.write.put_numbers.Tie as tie
 

@@ -14,7 +14,7 @@ use Rattle.cluster.specs.declared.Node.{Node}
 use Rattle.cluster.proofs.Slots.{node-slot}
 use Rattle.cluster.proofs.Accepting.{few-nodes, nodes-count}
 use Rattle.layouts.specs.declared.check.Checked.{Checked}
-use Rattle.layouts.specs.TermsCheck.{fault, firstFrom, nodeFault, nodesFault}
+use Rattle.layouts.specs.TermsCheck.{fault, firstFault, nodeFault, nodesFault}
 use Rattle.layouts.proofs.FaultScan.{scan-fault, scan-on, scan-end, node-reads}
 use Rattle.layouts.proofs.check.nodes_fault.Statement.{statement}
 use Rattle.layouts.proofs.check.nodes_fault.Tie as tie
@@ -24,7 +24,7 @@ at t cells size x = fault (nodeFault t (rowsIn (partitions t) cells) size x) (no
 
 abbrev Inv-loop : tie.InvT-loop
 Inv-loop cells size c n counts b₀ b = (b ≤ n) × (n ≤ mostNodes)
-    × (nodesFault (topology c) (rowsIn (partitions (topology c)) cells) size ≡ firstFrom (n - b) b (at (topology c) cells size))
+    × (nodesFault (topology c) (rowsIn (partitions (topology c)) cells) size ≡ firstFault (n - b) b (at (topology c) cells size))
 
 abbrev μ-loop : tie.MeasureT-loop
 μ-loop cells size c n counts b₀ b = n - b
@@ -50,7 +50,7 @@ unfolding nodesFault
 loop-holds c = let s = c .before .before in
     let a = s .args in
     let e : length (topology (a .t1) .nodes) ≡ a .t1 .count - 0 = omega (arith, nodes-count (a .t1) (long s) (few-nodes (a .t1) (s .pre .0))) in
-    (search needs, few-nodes (a .t1) (s .pre .0), ap (λ (n : ℕ). firstFrom n 0 (at (topology (a .t1)) (a .cells .now) (a .size))) e)
+    (search needs, few-nodes (a .t1) (s .pre .0), ap (λ (n : ℕ). firstFault n 0 (at (topology (a .t1)) (a .cells .now) (a .size))) e)
 
 mul-node : tie.Need-mul-node Inv-loop μ-loop
 mul-node c = search needs

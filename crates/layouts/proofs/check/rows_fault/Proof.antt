@@ -6,7 +6,7 @@ use mathlib.Core.Path.{_≡_, refl, sym, ap, _∙_}
 use mathlib.Core.List.{List}
 use Rattle.cluster.specs.Terms.{Topology, topology, bufferRows}
 use Rattle.layouts.specs.declared.check.Checked.{Checked}
-use Rattle.layouts.specs.TermsCheck.{fault, firstFrom, rowFault, rowsFault}
+use Rattle.layouts.specs.TermsCheck.{fault, firstFault, rowFault, rowsFault}
 use Rattle.layouts.proofs.FaultScan.{scan-fault, scan-on, scan-end}
 use Rattle.layouts.proofs.check.rows_fault.Statement.{statement}
 use Rattle.layouts.proofs.check.rows_fault.Tie as tie
@@ -16,7 +16,7 @@ abbrev at : Topology → List ℕ → ℕ → Checked
 at t cells q = fault (rowFault t cells q) q
 
 abbrev Inv-loop : tie.InvT-loop
-Inv-loop c cells zones p₀ p = (p ≤ bufferRows) × (rowsFault (topology c) cells ≡ firstFrom (bufferRows - p) p (at (topology c) cells))
+Inv-loop c cells zones p₀ p = (p ≤ bufferRows) × (rowsFault (topology c) cells ≡ firstFault (bufferRows - p) p (at (topology c) cells))
 
 abbrev μ-loop : tie.MeasureT-loop
 μ-loop c cells zones p₀ p = bufferRows - p

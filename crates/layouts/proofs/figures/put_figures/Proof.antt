@@ -48,7 +48,7 @@ returns c = let z = c .before .before in
     let t = topology (s .args .c) in
     z .put-zones .ensures
     ∙ (ap (put mostNodes (zoneSum t (k .copies .result)) mostNodes) (q .put-copies .ensures)
-    ∙ all-figures t (s .args .assignment .now) (partitions t) (accepted (s .args .c) (s .pre .0) .few) (k .copies .result) (s .args .cells .now) (k .copies .ensures))
+    ∙ all-figures t (s .args .assignment .now) (partitions t) (accepted (s .args .c) (s .pre .0) .few) (k .copies .result) (s .args .cells .now) (s .pre .3) (k .copies .ensures))
 
 pub put-figures-spec : {M : Type 1} → statement M
 put-figures-spec =
