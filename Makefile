@@ -7,7 +7,7 @@ COMMAND = console/target/release/dezghuri
 LIBRARY = build/libconsole.a
 PROGRAM = build/plan
 PREFIX = /usr/local
-CRATES = crates.txt $(shell find crates -name '*.rt' -o -name '*.antt')
+CRATES := crates.txt $(shell find crates -name '*.rt' -o -name '*.antt')
 
 # What a bare `make` does: the gate takes a quarter of an hour, and nobody should start it by chance.
 help:

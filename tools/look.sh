@@ -96,4 +96,5 @@ shown one 0 8000 2000 1600
 shown k0 0 1600 1000 1000
 shown lost 0 9500 2600 2200
 shown refused 1 1600 1000 1000
+rm -rf $look/profile $look/browser.log
 printf 'look: pictures are in %s/\n' $look

@@ -313,47 +313,40 @@ fn losses_come_first() {
     );
 }
 
+/// The sentence on the layout of these rows, with the former layout and without.
+fn leads(folder: &Folder, size: u32, rows: [&[u32]; 4]) -> [String; 2] {
+    folder.write("other", layout_record(2, size, &rows));
+    let with = page_of(folder, "small.txt other --former last");
+    [lead(&with), lead(&page_of(folder, "small.txt other"))]
+}
+
 /// What the layout's own record says was true of the layout that it was planned from.
 #[test]
 fn only_what_holds_from_the_former_layout_is_told() {
     let folder = small("report-best");
-    let of = |size: u32, rows: [&[u32]; 4]| {
-        folder.write("other", layout_record(2, size, &rows));
-        let with = lead(&page_of(&folder, "small.txt other --former last"));
-        (with, lead(&page_of(&folder, "small.txt other")))
+    let start = |size: u32| {
+        let all = size * 4;
+        format!(
+            "2 copies of everything, in at least 2 zones. Each partition may grow to {size} MB: \
+             {all} MB in all."
+        )
     };
     let best: [&[u32]; 4] = [&[1, 4], &[1, 3], &[1, 3], &[1, 4]];
+    let sent = "4 copies (up to 108 MB) have to be sent, none dropped.";
+    let fewest = format!("{} {sent} No layout of this size needs fewer.", start(27));
+    assert_eq!(leads(&folder, 27, best), [fewest, start(27)]);
+
     let swapped: [&[u32]; 4] = [&[1, 3], &[1, 3], &[1, 4], &[1, 4]];
-    let start = "2 copies of everything, in at least 2 zones. Each partition may grow to ";
-    let sent = |number: u32, size: u32, dropped: &str| {
-        format!(
-            "{number} copies (up to {} MB) have to be sent, {dropped} dropped.",
-            number * size
-        )
-    };
-    let (with, without) = of(27, best);
-    let fewest = format!(
-        "{start}27 MB: 108 MB in all. {} No layout of this size needs fewer.",
-        sent(4, 27, "none")
-    );
-    assert_eq!(with, fewest);
-    assert_eq!(without, format!("{start}27 MB: 108 MB in all."));
-    let (with, _) = of(27, swapped);
-    let more = format!(
-        "{start}27 MB: 108 MB in all. {} Another layout of this size needs 1 fewer.",
-        sent(5, 27, "1")
-    );
-    assert_eq!(with, more);
+    let sent = "5 copies (up to 135 MB) have to be sent, 1 dropped.";
+    let [with, _] = leads(&folder, 27, swapped);
+    let more = "Another layout of this size needs 1 fewer.";
+    assert_eq!(with, format!("{} {sent} {more}", start(27)));
+
+    let sent = "4 copies (up to 104 MB) have to be sent, none dropped.";
     let larger = "The disks allow 27 MB a partition: a new plan has more.";
-    let (with, without) = of(26, best);
-    assert_eq!(
-        with,
-        format!(
-            "{start}26 MB: 104 MB in all. {} {larger}",
-            sent(4, 26, "none")
-        )
-    );
-    assert_eq!(without, format!("{start}26 MB: 104 MB in all. {larger}"));
+    let with = format!("{} {sent} {larger}", start(26));
+    let without = format!("{} {larger}", start(26));
+    assert_eq!(leads(&folder, 26, best), [with, without]);
 }
 
 #[test]
