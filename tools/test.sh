@@ -1,6 +1,6 @@
 #!/bin/sh
 # The gate: proves every listed crate with `rt ci`, builds the static library of the console crate, runs the Rust tests, and runs the program
-# `plan` on the stored records. A part that is missing is a failure. The last line is rt's own 'N passed, 0 failed', and is printed only where
+# `plan` on the stored records, and installs all into a folder of its own. A part that is missing is a failure. The last line is rt's own 'N passed, 0 failed', and is printed only where
 # all passed.
 set -u
 cd "$(dirname "$0")/.." || exit 2
@@ -41,5 +41,7 @@ for manifest in console/reference/Cargo.toml console/Cargo.toml; do
 done
 cargo build --release --quiet --offline --manifest-path console/Cargo.toml || fail "the command was not built"
 sh tools/run-samples.sh || fail "the program plan, or the command, printed something else than is stored"
+sh tools/program.sh || fail "the program plan was not put into build/"
+sh tools/try-install.sh || fail "what is installed does not serve"
 
 printf '%s\n' "$last"

@@ -1,6 +1,7 @@
 #!/bin/sh
 # Shows that the gate can fail: runs it on a small stand-in for this repository, with a part of each kind, once as it is and once with each fault
-# that it must refuse. The gate's own scripts are those of this repository; only the run of the stored records is stood in for.
+# that it must refuse. The gate's own scripts are those of this repository; only the run of the stored records, the program `plan` and its
+# installation are stood in for.
 set -u
 cd "$(dirname "$0")/.." || exit 2
 copy=$(mktemp -d) || exit 2
@@ -9,7 +10,8 @@ cp -r Makefile tools .ci "$copy"
 cd "$copy" || exit 2
 bad=0
 
-printf 'exit 0\n' >tools/run-samples.sh
+last_parts='tools/run-samples.sh tools/program.sh tools/try-install.sh'
+for part in $last_parts; do printf 'exit 0\n' >"$part"; done
 mkdir -p crates/console/src console/src console/reference/src
 printf 'console:\n' >crates.txt
 printf '// One function for C, so that there is a library to build.\n#[no_mangle]\npub extern "C" fn one() -> u32 {\n    1\n}\n' >crates/console/src/lib.rt
@@ -41,8 +43,10 @@ printf -- '-- x\n' >crates/console/stray.antt; try 'a stray .antt file' fail; rm
 for package in console console/reference; do
     rust_test false >$package/src/lib.rs; try "a Rust test of $package that fails" fail; rust_test true >$package/src/lib.rs
 done
-printf 'exit 1\n' >tools/run-samples.sh; try 'a stored record that prints something else' fail; printf 'exit 0\n' >tools/run-samples.sh
-for part in crates/console console/Cargo.toml console/reference/Cargo.toml tools/run-samples.sh tools/library.sh; do
+for part in $last_parts; do
+    printf 'exit 1\n' >"$part"; try "$part that fails" fail; printf 'exit 0\n' >"$part"
+done
+for part in crates/console console/Cargo.toml console/reference/Cargo.toml tools/library.sh $last_parts; do
     without "$part"
 done
 

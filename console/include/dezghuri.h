@@ -1,5 +1,6 @@
 /* The planner's C functions: layouts of a cluster of storage boxes ("nodes"), proved.
- * Link libconsole.a, which `make library` puts into build/.
+ * Link libdezghuri.a, which `make install` installs (`pkg-config --libs dezghuri`), or libconsole.a, the same
+ * library, which `make library` puts into build/. C++ programs may include this header too.
  *
  * Every function answers a refusal number, DEZGHURI_OK where it refuses nothing. Its other numbers go into
  * the lent slice `answer`.
@@ -27,6 +28,14 @@
 #ifdef __cplusplus
 extern "C" {
 #endif
+
+/* The version of this header and its library; the number grows from each version to the next. */
+#define DEZGHURI_VERSION_MAJOR 0
+#define DEZGHURI_VERSION_MINOR 1
+#define DEZGHURI_VERSION_PATCH 0
+#define DEZGHURI_VERSION "0.1.0"
+#define DEZGHURI_VERSION_NUMBER \
+    (DEZGHURI_VERSION_MAJOR * 1000000 + DEZGHURI_VERSION_MINOR * 1000 + DEZGHURI_VERSION_PATCH)
 
 /* Limits of a cluster. */
 #define DEZGHURI_MOST_BITS 8          /* partition bits; there are 1 << bits partitions */

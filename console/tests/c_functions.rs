@@ -1,27 +1,50 @@
 //! The header as a C program uses it.
 
 use dezghuri::{ffi, Refusal, ENOUGH};
+use std::io::Write;
 use std::path::Path;
 use std::process::Command;
 
 const HERE: &str = env!("CARGO_MANIFEST_DIR");
 
-#[test]
-fn a_c_program_calls_each_function() {
-    let program = Path::new(env!("CARGO_TARGET_TMPDIR")).join("calls");
-    let compiled = Command::new("cc")
+/// Compiles the program that calls each function, and runs it.
+fn calls_each_function(compiler: &str, language: &[&str], program: &str) {
+    let program = Path::new(env!("CARGO_TARGET_TMPDIR")).join(program);
+    let compiled = Command::new(compiler)
         .current_dir(HERE)
-        .args(["-std=c99", "-Wall", "-Wextra", "-pedantic", "-Werror"])
-        .args(["-Iinclude", "tests/c/calls.c", "-o"])
+        .args(["-Wall", "-Wextra", "-pedantic", "-Werror", "-Iinclude"])
+        .args(language)
+        .args([
+            "tests/c/calls.c",
+            "-x",
+            "none",
+            "../build/libconsole.a",
+            "-o",
+        ])
         .arg(&program)
-        .arg("../build/libconsole.a")
         .output()
-        .expect("a C compiler, cc, is needed");
+        .unwrap_or_else(|_| panic!("a compiler, {compiler}, is needed"));
     let told = String::from_utf8_lossy(&compiled.stderr);
     assert!(compiled.status.success(), "{told}");
     let called = Command::new(&program).output().expect("it was compiled");
     let told = String::from_utf8_lossy(&called.stdout);
     assert!(called.status.success(), "{told}");
+}
+
+#[test]
+fn a_c_program_calls_each_function() {
+    calls_each_function("cc", &["-std=c99", "-x", "c"], "calls");
+}
+
+/// Where there is no C++ compiler this is said, past the test runner, which hides what tests print.
+#[test]
+fn a_cpp_program_calls_each_function() {
+    if Command::new("c++").arg("--version").output().is_err() {
+        let told = "c++ is missing: the header was NOT tried in C++ (in C it was)";
+        writeln!(std::io::stderr(), "\n{told}").expect("it can be told");
+        return;
+    }
+    calls_each_function("c++", &["-std=c++11", "-x", "c++"], "calls-cpp");
 }
 
 /// The number that the header gives a name.
@@ -73,4 +96,15 @@ fn the_header_has_the_numbers_of_the_library() {
     for (name, refusal) in refusals {
         assert_eq!(defined(&header, name), refusal.number(), "{name}");
     }
+}
+
+#[test]
+fn the_header_has_the_version_of_the_package() {
+    let header = std::fs::read_to_string(Path::new(HERE).join("include/dezghuri.h")).unwrap();
+    let parts =
+        ["MAJOR", "MINOR", "PATCH"].map(|part| defined(&header, &format!("VERSION_{part}")));
+    let version = parts.map(|part| part.to_string()).join(".");
+    assert_eq!(version, env!("CARGO_PKG_VERSION"));
+    let line = format!("#define DEZGHURI_VERSION \"{version}\"\n");
+    assert!(header.contains(&line), "{line}");
 }

@@ -3,11 +3,14 @@
 mod compared;
 mod folder;
 mod lost;
+mod manual;
 mod objects;
+mod page;
 mod printed;
 mod read_json;
 mod record_lines;
 mod replaced;
+mod report;
 mod shown;
 mod told;
 mod tried;

@@ -46,6 +46,12 @@ pub enum Command {
         former: Option<PathBuf>,
         changes: Vec<Change>,
     },
+    Report {
+        file: PathBuf,
+        layout: Option<PathBuf>,
+        former: Option<PathBuf>,
+        out: PathBuf,
+    },
     Record {
         file: PathBuf,
         former: Option<PathBuf>,
@@ -83,7 +89,7 @@ struct Grammar {
 }
 
 /// The commands that take words, each with what they may be.
-const GRAMMARS: [(&str, Grammar); 6] = [
+const GRAMMARS: [(&str, Grammar); 7] = [
     (
         "plan",
         Grammar {
@@ -110,15 +116,15 @@ const GRAMMARS: [(&str, Grammar); 6] = [
             flags: &[JSON],
         },
     ),
-    (
-        "record",
-        Grammar {
-            options: &["--former", "--out"],
-            repeated: &[],
-            flags: &[],
-        },
-    ),
+    ("report", TO_A_FILE),
+    ("record", TO_A_FILE),
 ];
+
+const TO_A_FILE: Grammar = Grammar {
+    options: &["--former", "--out"],
+    repeated: &[],
+    flags: &[],
+};
 
 const NO_OPTIONS: Grammar = Grammar {
     options: &[],
@@ -139,7 +145,9 @@ pub fn command_name(word: &OsString) -> Option<&'static str> {
 pub fn parse(words: impl IntoIterator<Item = OsString>) -> Result<Call, String> {
     let mut words = words.into_iter();
     let Some(first) = words.next() else {
-        return Err("say what to do: plan, check, show, diff, what-if, record or help".into());
+        return Err(
+            "say what to do: plan, check, show, diff, what-if, report, record or help".into(),
+        );
     };
     let words: Vec<OsString> = words.collect();
     let plain = |command| {
@@ -167,6 +175,7 @@ pub fn parse(words: impl IntoIterator<Item = OsString>) -> Result<Call, String> 
         "show" => show(words),
         "diff" => diff(words),
         "what-if" => what_if(words),
+        "report" => report(words),
         _ => record(words),
     };
     Ok(Call {
@@ -278,6 +287,23 @@ fn change(name: &'static str, word: &OsString) -> Result<Change, String> {
             None => Err(format!("{name} takes plain text")),
         },
     }
+}
+
+fn report(mut words: Words) -> Result<Command, String> {
+    let former = words.path("--former");
+    let out = words.path("--out");
+    let out = out.ok_or("a page is written to a file: --out PAGE")?;
+    let layout = match words.places.len() {
+        2 => words.places.pop().map(PathBuf::from),
+        _ => None,
+    };
+    let [file] = words.places("a FILE, and perhaps a LAYOUT,")?;
+    Ok(Command::Report {
+        file: file.into(),
+        layout,
+        former,
+        out,
+    })
 }
 
 fn record(mut words: Words) -> Result<Command, String> {
@@ -447,6 +473,7 @@ mod tests {
             "record home.txt --out --help",
             "diff -h",
             "what-if --help",
+            "report home.txt -h",
         ] {
             assert_eq!(called(line), Ok(Command::Help), "{line}");
         }
@@ -522,11 +549,29 @@ mod tests {
     }
 
     #[test]
+    fn a_page_needs_no_layout_but_a_place() {
+        let report = |layout: Option<&str>| {
+            Ok(Command::Report {
+                file: "home.txt".into(),
+                layout: layout.map(PathBuf::from),
+                former: None,
+                out: "page".into(),
+            })
+        };
+        assert_eq!(called("report home.txt --out page"), report(None));
+        let shown = called("report home.txt last --out page");
+        assert_eq!(shown, report(Some("last")));
+        assert!(called("report home.txt last next --out page").is_err());
+        let told = "a page is written to a file: --out PAGE";
+        assert_eq!(called("report home.txt last"), Err(told.into()));
+    }
+
+    #[test]
     fn faulty_calls_are_told() {
         let faults = [
             (
                 "",
-                "say what to do: plan, check, show, diff, what-if, record or help",
+                "say what to do: plan, check, show, diff, what-if, report, record or help",
             ),
             ("plam home.txt", "there is no command \"plam\""),
             ("plan", "a FILE is wanted, not 0 words"),

@@ -14,6 +14,7 @@ use crate::help::{HELP, VERSION};
 use crate::json::Json;
 use crate::losses;
 use crate::output::{Kind, Output};
+use crate::report;
 use crate::units::count;
 use dezghuri::{Cluster, Description, Plan, Refused};
 use std::collections::BTreeSet;
@@ -81,6 +82,20 @@ pub fn run(command: &Command, warnings: &mut Vec<String>) -> Result<Answer, Fail
             former,
             changes,
         } => what_if::run(file, former.as_deref(), changes, warnings),
+        Command::Report {
+            file,
+            layout,
+            former,
+            out,
+        } => report::run(
+            &report::Call {
+                file,
+                layout: layout.as_deref(),
+                former: former.as_deref(),
+                out,
+            },
+            warnings,
+        ),
         Command::Record { file, former, out } => {
             record::run(file, former.as_deref(), out.as_deref(), warnings)
         }

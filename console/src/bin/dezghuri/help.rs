@@ -24,6 +24,10 @@ Plans where the copies of a cluster of storage boxes lie.
       shows what changes of the boxes would bring, each alone and all together:
       size, gain and copies to send; nothing is written. A CHANGE is
       --add \"ZONE CAPACITY [NAME]\", --remove ID or --resize ID=CAPACITY
+  dezghuri report FILE [LAYOUT] [--former LAST] --out PAGE
+      writes a page that shows LAYOUT, and what moves from the layout LAST: bars,
+      a map and tables, for a browser or a printer; without LAYOUT it shows what
+      a plan of FILE comes to
   dezghuri record FILE [--former LAST] [--out RECORD]
       writes the cluster record that the program `plan` reads
   dezghuri plan --record RECORD
@@ -45,7 +49,8 @@ With --json, plan, check, show, diff and what-if print one JSON object.
 
 Nothing is written before the report is printed. A layout that is there already
 is replaced only where it is the --former of this plan, or with --replace; it is
-kept as NEXT.old. What is not a layout is never replaced.
+kept as NEXT.old. What is not a layout is never replaced. Pages and cluster
+records are kept likewise, and replaced by their like alone.
 
 Exit status: 0 done; 1 there is no such layout, or it is not valid; 2 the call
 or a file is at fault, or the report could not be printed.

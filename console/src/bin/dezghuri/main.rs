@@ -15,6 +15,7 @@ mod losses;
 mod output;
 mod overview;
 mod record_lines;
+mod report;
 mod table;
 mod why;
 

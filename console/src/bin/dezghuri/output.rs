@@ -1,6 +1,7 @@
 //! The file that a call writes: what may stand there, and how none of it is lost.
 
 use crate::failure::Failure;
+use crate::report;
 use dezghuri::{ffi, Cluster, Plan};
 use std::fs::{self, File, Metadata, OpenOptions};
 use std::io::{self, ErrorKind, Read, Write};
@@ -8,19 +9,21 @@ use std::os::unix::fs::{fchown, MetadataExt, OpenOptionsExt, PermissionsExt};
 use std::path::{Path, PathBuf};
 use std::time::SystemTime;
 
-/// The records that are written; only one of the same kind is ever replaced.
+/// The files that are written; only one of the same kind is ever replaced.
 #[derive(Clone, Copy, Debug, PartialEq, Eq)]
 pub enum Kind {
     Layout,
     Cluster,
+    Page,
 }
 
 impl Kind {
-    /// The words for a record of this kind.
+    /// The words for a file of this kind.
     pub fn name(self) -> &'static str {
         match self {
             Kind::Layout => "layout record",
             Kind::Cluster => "cluster record",
+            Kind::Page => "report page",
         }
     }
 
@@ -28,14 +31,20 @@ impl Kind {
         match self {
             Kind::Layout => Plan::from_record(bytes).is_ok(),
             Kind::Cluster => Cluster::from_record(bytes).is_ok(),
+            Kind::Page => report::is_page(bytes),
+        }
+    }
+
+    /// What is longer than this is no file of this kind.
+    fn longest(self) -> u64 {
+        match self {
+            Kind::Layout | Kind::Cluster => ffi::CLUSTER_RECORD_BYTES as u64,
+            Kind::Page => report::LONGEST_PAGE,
         }
     }
 }
 
-/// What is longer than this is no record.
-const LONGEST_RECORD: u64 = ffi::CLUSTER_RECORD_BYTES as u64;
-
-/// A record to be written, and what stands in its place.
+/// A record or page to be written, and what stands in its place.
 pub struct Output {
     /// As the owner calls it.
     path: PathBuf,
@@ -179,7 +188,7 @@ fn read_record(path: &Path, there: &Metadata, kind: Kind) -> io::Result<Vec<u8>>
     }
     let mut bytes = Vec::new();
     File::open(path)?
-        .take(LONGEST_RECORD + 1)
+        .take(kind.longest() + 1)
         .read_to_end(&mut bytes)?;
     match kind.is_of(&bytes) {
         true => Ok(bytes),

@@ -1,0 +1,303 @@
+//! The boxes: a bar for each disk, all on one scale.
+
+use super::facts::{Cell, Facts, Laid, Row};
+use super::html::{self, name, section};
+use crate::units::{count, percent, thousands, Unit};
+
+/// So many grid lines at most, beside that at 0.
+const MOST_TICKS: u64 = 5;
+
+/// The length of the longest bar, in megabytes.
+struct Scale {
+    whole: u64,
+    unit: Unit,
+}
+
+/// A bar: parts from the left, each with its class and its megabytes.
+struct Bar {
+    parts: Vec<(&'static str, u64)>,
+    title: String,
+}
+
+/// The bars of a cluster with a layout, those of boxes that are gone below.
+pub fn of_layout(facts: &Facts, laid: &Laid) -> String {
+    let held = |row: &Row| row.count(Cell::Dropped) * laid.former_size.unwrap_or(0);
+    let longest = laid.rows.gone.iter().map(held).max();
+    let scale = Scale::new(facts, longest.unwrap_or(0));
+    let mut body = zones(facts, |b| {
+        line(
+            facts,
+            b,
+            &disk(facts, laid, b),
+            &figures(facts, laid, b),
+            &scale,
+        )
+    });
+    body += &gone(laid, &scale);
+    body += &axis(&scale);
+    let caption = match facts.has_former() {
+        true => {
+            "Each bar is a disk: what it keeps, what it receives, what stays unused. \
+                 At its right: copies, share of the disk, + received, \u{2212} dropped."
+        }
+        false => {
+            "Each bar is a disk: what it holds, what stays unused. At its right: copies, \
+                  share of the disk."
+        }
+    };
+    figure(&legend(facts, laid), caption, &body)
+}
+
+/// The bars of a cluster that has no layout.
+pub fn of_disks(facts: &Facts) -> String {
+    let scale = Scale::new(facts, 0);
+    let body = zones(facts, |b| {
+        let capacity = capacity(facts, b);
+        let bar = Bar {
+            parts: vec![("unused", capacity)],
+            title: title(facts, b, &[("disk", capacity)]),
+        };
+        let figures = format!(
+            "<span>{} {}</span>",
+            scale.unit.of(capacity),
+            scale.unit.name
+        );
+        line(facts, b, &bar, &figures, &scale)
+    });
+    figure("", "Each bar is a disk.", &(body + &axis(&scale)))
+}
+
+fn figure(legend: &str, caption: &str, body: &str) -> String {
+    let body = format!(
+        "<figure>\n<figcaption>{caption}</figcaption>\n{legend}<div class=\"bars\">\n{body}</div>\n</figure>\n"
+    );
+    section("boxes", "The boxes", &body)
+}
+
+/// A band for each zone, with a line for each of its boxes.
+pub fn zones(facts: &Facts, line: impl Fn(usize) -> String) -> String {
+    let zones = facts.zones().into_iter();
+    let bands = zones.map(|(zone, boxes)| {
+        let lines: String = boxes.into_iter().map(&line).collect();
+        band(&html::isolated(zone), "", &lines)
+    });
+    bands.collect()
+}
+
+/// A band with its name at the left.
+pub fn band(name: &str, class: &str, lines: &str) -> String {
+    format!(
+        "<div class=\"zone{class}\"><div class=\"band\">{name}</div><div class=\"rows\">\n{lines}</div></div>\n"
+    )
+}
+
+/// Where a box is told by id and name; it leads to its line in the table.
+pub fn label(facts: &Facts, b: usize) -> String {
+    let (id, label) = (facts.cluster().nodes[b].id, &facts.described.labels[b]);
+    format!(
+        "<a class=\"label\" href=\"#box-{id}\"><span class=\"id\">{id}</span> {}</a>",
+        html::label(&label.name)
+    )
+}
+
+fn line(facts: &Facts, b: usize, bar: &Bar, figures: &str, scale: &Scale) -> String {
+    format!(
+        "<div class=\"row\">{}{}<span class=\"figures\">{figures}</span></div>\n",
+        label(facts, b),
+        bar.svg(scale)
+    )
+}
+
+/// The bar of a disk with its copies, each as large as a partition may grow.
+fn disk(facts: &Facts, laid: &Laid, b: usize) -> Bar {
+    let (row, capacity) = (&laid.rows.here[b], capacity(facts, b));
+    let kept = row.count(Cell::Kept) * laid.size;
+    let received = row.count(Cell::Received) * laid.size;
+    let unused = capacity - kept - received;
+    let told = match facts.has_former() {
+        true => vec![
+            ("disk", capacity),
+            ("kept", kept),
+            ("received", received),
+            ("unused", unused),
+        ],
+        false => vec![("disk", capacity), ("held", kept), ("unused", unused)],
+    };
+    Bar {
+        parts: vec![("kept", kept), ("received", received), ("unused", unused)],
+        title: title(facts, b, &told),
+    }
+}
+
+fn capacity(facts: &Facts, b: usize) -> u64 {
+    facts.cluster().nodes[b].capacity.into()
+}
+
+fn title(facts: &Facts, b: usize, told: &[(&str, u64)]) -> String {
+    let unit = facts.unit();
+    let told = told.iter();
+    let told =
+        told.map(|(what, megabytes)| format!("{what} {} {}", unit.of(*megabytes), unit.name));
+    let told: Vec<String> = told.collect();
+    let label = &facts.described.labels[b];
+    let called = match label.name.as_str() {
+        "" => String::new(),
+        called => format!(" ({})", name(called)),
+    };
+    format!(
+        "Box {}{called}: {}",
+        facts.cluster().nodes[b].id,
+        told.join(", ")
+    )
+}
+
+/// The small figures beside a bar; what is 0 is left out.
+fn figures(facts: &Facts, laid: &Laid, b: usize) -> String {
+    let row = &laid.rows.here[b];
+    let copies = row.copies();
+    let moved = |sign: char, number: u64| match number {
+        0 => "<span></span>".into(),
+        number => format!("<span>{sign}{}</span>", thousands(number)),
+    };
+    format!(
+        "<span>{}</span><span>{}</span>{}{}",
+        count(copies, "copy", "copies"),
+        percent(copies * laid.size, capacity(facts, b)),
+        moved('+', row.count(Cell::Received)),
+        moved('\u{2212}', row.count(Cell::Dropped)),
+    )
+}
+
+/// Boxes that are gone, as outlines as long as what they held took.
+fn gone(laid: &Laid, scale: &Scale) -> String {
+    let line = |row: &Row| {
+        let copies = row.count(Cell::Dropped);
+        let held = count(copies, "copy", "copies");
+        let bar = Bar {
+            parts: vec![("gone", copies * laid.former_size.unwrap_or(0))],
+            title: format!("Box {}, not there any more: it held {held}", row.id),
+        };
+        format!(
+            "<div class=\"row\"><span class=\"label\"><span class=\"id\">{}</span></span>{}\
+             <span class=\"figures\"><span>{held}</span></span></div>\n",
+            row.id,
+            bar.svg(scale)
+        )
+    };
+    let mut lines: String = laid.rows.gone.iter().map(line).collect();
+    if let (more @ 1.., copies) = laid.rows.more_gone {
+        lines += &format!(
+            "<div class=\"row\"><span class=\"label\">and {more} more</span><span></span>\
+             <span class=\"figures\"><span>{copies} copies</span></span></div>\n"
+        );
+    }
+    match lines.is_empty() {
+        true => lines,
+        false => band("gone", " away", &lines),
+    }
+}
+
+/// What the colours mean.
+fn legend(facts: &Facts, laid: &Laid) -> String {
+    let first = if facts.has_former() { "kept" } else { "held" };
+    let mut parts = vec![("kept", first)];
+    if facts.has_former() {
+        parts.push(("received", "received"));
+    }
+    parts.push(("unused", "unused"));
+    if !laid.rows.gone.is_empty() {
+        parts.push(("gone", "was on a box that is gone"));
+    }
+    let item = |(class, word): (&str, &str)| {
+        format!(
+            "<span><svg width=\"26\" height=\"14\" aria-hidden=\"true\"><rect class=\"{class}\" \
+             x=\"1\" y=\"1\" width=\"24\" height=\"12\"/></svg> {word}</span>"
+        )
+    };
+    let items: String = parts.into_iter().map(item).collect();
+    format!("<p class=\"legend\">{items}</p>\n")
+}
+
+/// The lines below the bars, and the grid that each of them shows.
+fn axis(scale: &Scale) -> String {
+    let mut lines = String::new();
+    let mut labels = String::new();
+    for (place, tick) in scale.ticks().into_iter().enumerate() {
+        let at = scale.percent(tick);
+        lines += &format!("<line x1=\"{at}%\" x2=\"{at}%\" y2=\"100%\"/>");
+        let side = match tick * 100 / scale.whole {
+            0..=5 => "start",
+            6..=94 => "middle",
+            _ => "end",
+        };
+        let class = if place % 2 == 1 { " class=\"odd\"" } else { "" };
+        labels += &format!(
+            "<text x=\"{at}%\" y=\"13\" text-anchor=\"{side}\"{class}>{}</text>",
+            scale.unit.of(tick)
+        );
+    }
+    format!(
+        "<div class=\"zone axis\"><div></div><div class=\"row\"><span class=\"label\">{}</span>\
+         <svg class=\"ticks\" width=\"100%\" height=\"18\"><title>The scale of the bars, in {0}</title>\
+         <defs><g id=\"grid\">{lines}</g></defs>{labels}</svg><span></span></div></div>\n",
+        scale.unit.name
+    )
+}
+
+impl Scale {
+    fn new(facts: &Facts, longest_gone: u64) -> Scale {
+        let nodes = facts.cluster().nodes.iter();
+        let longest = nodes.map(|node| u64::from(node.capacity)).max();
+        Scale {
+            whole: longest.unwrap_or(0).max(longest_gone).max(1),
+            unit: facts.unit(),
+        }
+    }
+
+    /// Grid lines at round numbers: 1, 2 or 5 and zeros.
+    fn ticks(&self) -> Vec<u64> {
+        let tens = (0..).map(|zeros| 10u64.pow(zeros));
+        let mut steps = tens.flat_map(|ten| [ten, 2 * ten, 5 * ten]);
+        let step = steps.find(|step| self.whole / step <= MOST_TICKS);
+        let step = step.expect("the last power of ten is larger than any disk");
+        (0..=self.whole / step).map(|tick| tick * step).collect()
+    }
+
+    /// So many megabytes in percent of the scale, to a thousandth.
+    fn percent(&self, megabytes: u64) -> String {
+        thousandths(self.edge(megabytes))
+    }
+
+    /// The same as a whole number of thousandths.
+    fn edge(&self, megabytes: u64) -> u64 {
+        megabytes * 100_000 / self.whole
+    }
+}
+
+fn thousandths(number: u64) -> String {
+    let text = format!("{}.{:03}", number / 1000, number % 1000);
+    text.trim_end_matches('0').trim_end_matches('.').into()
+}
+
+impl Bar {
+    fn svg(&self, scale: &Scale) -> String {
+        let mut parts = String::new();
+        let mut end = 0;
+        for (class, megabytes) in &self.parts {
+            let (from, to) = (scale.edge(end), scale.edge(end + megabytes));
+            end += megabytes;
+            if *megabytes > 0 {
+                parts += &format!(
+                    "<rect class=\"{class}\" x=\"{}%\" y=\"3\" width=\"{}%\" height=\"14\"/>",
+                    thousandths(from),
+                    thousandths(to - from)
+                );
+            }
+        }
+        format!(
+            "<svg class=\"bar\" role=\"img\" width=\"100%\" height=\"20\"><title>{}</title>\
+             <use href=\"#grid\" class=\"grid\"/>{parts}</svg>",
+            self.title
+        )
+    }
+}

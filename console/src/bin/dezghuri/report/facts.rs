@@ -1,0 +1,236 @@
+//! What the page tells, gathered before any of it is written.
+
+use crate::units::Unit;
+use crate::why;
+use dezghuri::{Cluster, Description, Layout, Plan, Refused, ENOUGH};
+use std::collections::BTreeSet;
+
+/// So many boxes that are gone are drawn; a cluster has no more, but a damaged record may name more.
+const MOST_GONE: usize = 32;
+
+/// All that the page is made of.
+pub struct Facts<'a> {
+    pub names: Names,
+    pub described: &'a Description,
+    /// Sentences on copies that are lost or at risk.
+    pub losses: Vec<String>,
+    /// The layout, or why there is none.
+    pub laid: Result<Laid, String>,
+}
+
+/// The files as their owner calls them.
+pub struct Names {
+    pub file: String,
+    pub layout: Option<String>,
+    pub former: Option<String>,
+}
+
+/// A valid layout, and what becomes of each former copy.
+pub struct Laid {
+    pub size: u64,
+    /// The size to hope for.
+    pub hope: u64,
+    pub rows: Rows,
+    /// What a partition was planned for before, where there was a plan.
+    pub former_size: Option<u64>,
+    pub best: Best,
+    /// Why the size is no larger, and which boxes are not used; nothing where a larger one is allowed.
+    pub why: Vec<String>,
+    /// The rows of the partitions before and after.
+    pub before: Layout,
+    pub after: Layout,
+}
+
+/// A row of cells for each box: those of the cluster by id, and those that are gone.
+pub struct Rows {
+    pub here: Vec<Row>,
+    pub gone: Vec<Row>,
+    /// Boxes that are gone and not drawn, and their copies.
+    pub more_gone: (usize, usize),
+}
+
+/// What one box has of each partition.
+pub struct Row {
+    pub id: u32,
+    pub cells: Vec<Cell>,
+}
+
+/// A partition at a box. The order is that in which partitions stand in the map.
+#[derive(Clone, Copy, Debug, PartialEq, Eq, PartialOrd, Ord)]
+pub enum Cell {
+    Kept,
+    Received,
+    /// Of a box that is gone: gone with it.
+    Dropped,
+    Empty,
+}
+
+/// How the layout stands beside the best one of these boxes.
+#[derive(Clone, Copy, Debug, PartialEq, Eq)]
+pub enum Best {
+    /// It has the largest size, and none of that size needs fewer transfers.
+    Fewest,
+    /// It has the largest size, and one of that size sends so many copies fewer.
+    FewerBy(u64),
+    /// The disks allow this size.
+    Larger(u64),
+}
+
+impl<'a> Facts<'a> {
+    pub fn cluster(&self) -> &'a Cluster {
+        &self.described.cluster
+    }
+
+    /// The unit of the command's tables, so that page and screen show the same numbers.
+    pub fn unit(&self) -> Unit {
+        let nodes = self.cluster().nodes.iter();
+        Unit::for_all(nodes.map(|node| u64::from(node.capacity)))
+    }
+
+    pub fn has_former(&self) -> bool {
+        self.names.former.is_some()
+    }
+
+    /// The zones, each with the places of its boxes: in the order of their first boxes.
+    pub fn zones(&self) -> Vec<(&'a str, Vec<usize>)> {
+        let mut zones: Vec<(&str, Vec<usize>)> = Vec::new();
+        for (b, label) in self.described.labels.iter().enumerate() {
+            match zones.iter_mut().find(|(name, _)| *name == label.zone) {
+                Some((_, places)) => places.push(b),
+                None => zones.push((&label.zone, vec![b])),
+            }
+        }
+        zones
+    }
+}
+
+impl Laid {
+    /// Refused where the plan is not valid for the cluster.
+    pub fn new(
+        described: &Description,
+        plan: &Plan,
+        former: Option<&Plan>,
+    ) -> Result<Laid, Refused> {
+        let cluster = &described.cluster;
+        let hope = cluster.figures(&plan.layout, plan.size)?.hope;
+        // Without a former layout each copy is drawn as one that stays.
+        let before = former.map_or(&plan.layout, |former| &former.layout);
+        let rows = Rows::new(cluster, before, &plan.layout);
+        let best = Best::of(cluster, plan, rows.distance())?;
+        Ok(Laid {
+            size: plan.size.into(),
+            hope,
+            why: match best {
+                Best::Larger(_) => Vec::new(),
+                _ => binding(described, plan),
+            },
+            best,
+            rows,
+            former_size: former.map(|former| former.size.into()),
+            before: before.clone(),
+            after: plan.layout.clone(),
+        })
+    }
+
+    pub fn sent(&self) -> u64 {
+        self.all(Cell::Received)
+    }
+
+    pub fn dropped(&self) -> u64 {
+        self.all(Cell::Dropped)
+    }
+
+    fn all(&self, cell: Cell) -> u64 {
+        self.rows.here.iter().map(|row| row.count(cell)).sum()
+    }
+
+    /// The partitions in the order of the map, those with the same cells together.
+    pub fn groups(&self) -> Vec<Vec<u8>> {
+        let rows = || self.rows.here.iter().chain(&self.rows.gone);
+        let cells = |partition: u8| -> Vec<Cell> {
+            let cell = |row: &Row| row.cells[usize::from(partition)];
+            rows().map(cell).collect()
+        };
+        let count = rows().next().map_or(0, |row| row.cells.len());
+        let mut order: Vec<u8> = (0..=u8::MAX).take(count).collect();
+        order.sort_by_cached_key(|partition| cells(*partition));
+        let alike = order.chunk_by(|a, b| cells(*a) == cells(*b));
+        alike.map(<[u8]>::to_vec).collect()
+    }
+}
+
+/// The sentences on what binds at the size of a plan that has the largest.
+fn binding(described: &Description, plan: &Plan) -> Vec<String> {
+    let mut why = why::sentences(described, plan.size);
+    why.extend(why::unused(described, plan).lines().map(String::from));
+    why
+}
+
+impl Best {
+    /// The proved planner says how good the layout is from this former one; the layout's own record
+    /// speaks of the former layout that it was planned from.
+    fn of(cluster: &Cluster, plan: &Plan, distance: u64) -> Result<Best, Refused> {
+        let best = cluster.plan(ENOUGH)?;
+        if best.size > plan.size {
+            return Ok(Best::Larger(best.size.into()));
+        }
+        // A copy more that is sent is one more that is dropped.
+        let more = distance.saturating_sub(best.distance.into()) / 2;
+        Ok(match more {
+            0 => Best::Fewest,
+            more => Best::FewerBy(more),
+        })
+    }
+}
+
+impl Rows {
+    fn new(cluster: &Cluster, before: &Layout, after: &Layout) -> Rows {
+        let partitions = 1 << cluster.bits;
+        let row = |id: u32| Row {
+            id,
+            cells: (0..=u8::MAX)
+                .take(partitions)
+                .map(|p| Cell::of(before.row(p).contains(&id), after.row(p).contains(&id)))
+                .collect(),
+        };
+        let is_here = |id: &u32| cluster.nodes.iter().any(|node| node.id == *id);
+        let ids: BTreeSet<u32> = before.rows().flat_map(|(_, ids)| ids.to_vec()).collect();
+        let mut gone: Vec<Row> = ids.into_iter().filter(|id| !is_here(id)).map(row).collect();
+        let more = gone.split_off(gone.len().min(MOST_GONE));
+        let copies = more.iter().map(|row| row.count(Cell::Dropped) as usize);
+        Rows {
+            here: cluster.nodes.iter().map(|node| row(node.id)).collect(),
+            gone,
+            more_gone: (more.len(), copies.sum()),
+        }
+    }
+
+    /// Copies that stand in one layout and not in the other.
+    fn distance(&self) -> u64 {
+        let moved = |row: &Row| row.count(Cell::Received) + row.count(Cell::Dropped);
+        let drawn: u64 = self.here.iter().chain(&self.gone).map(moved).sum();
+        drawn + self.more_gone.1 as u64
+    }
+}
+
+impl Row {
+    pub fn count(&self, cell: Cell) -> u64 {
+        self.cells.iter().filter(|other| **other == cell).count() as u64
+    }
+
+    /// Copies that it holds in the layout.
+    pub fn copies(&self) -> u64 {
+        self.count(Cell::Kept) + self.count(Cell::Received)
+    }
+}
+
+impl Cell {
+    fn of(before: bool, after: bool) -> Cell {
+        match (before, after) {
+            (true, true) => Cell::Kept,
+            (false, true) => Cell::Received,
+            (true, false) => Cell::Dropped,
+            (false, false) => Cell::Empty,
+        }
+    }
+}

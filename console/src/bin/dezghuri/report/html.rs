@@ -1,0 +1,188 @@
+//! The page as a whole, and the writing of text into it.
+
+use super::facts::{Facts, Laid};
+use super::{bars, map, tables, words};
+
+/// How each page begins; by this and its end a page is known, whatever its version.
+const BEGINNING: &str = "<!DOCTYPE html>\n<html lang=\"en\">\n<head>\n<meta charset=\"utf-8\"/>\n\
+                         <meta name=\"generator\" content=\"dezghuri report\"/>\n";
+const END: &str = "</main>\n</body>\n</html>\n";
+
+const STYLE: &str = include_str!("style.css");
+const PATTERNS: &str = include_str!("patterns.svg");
+
+/// Longer names are cut, so that one of them cannot take the page.
+const LONGEST_NAME: usize = 48;
+/// Longer sentences are cut: only names, of boxes and files, can make one so long.
+const LONGEST_SENTENCE: usize = 500;
+/// Longer names are cut where little room is: beside bars and in bands.
+const LONGEST_LABEL: usize = 22;
+
+/// Whether the bytes are a page that this command has written.
+pub fn is_page(bytes: &[u8]) -> bool {
+    bytes.starts_with(BEGINNING.as_bytes()) && bytes.ends_with(END.as_bytes())
+}
+
+/// The whole page, well-formed as XML too.
+pub fn page(facts: &Facts) -> String {
+    let title = name(last_part(&facts.names.file));
+    let figures = match &facts.laid {
+        Ok(laid) => of_layout(facts, laid),
+        Err(_) => [
+            bars::of_disks(facts),
+            section("tables", "", &tables::disks(facts)),
+        ]
+        .concat(),
+    };
+    [
+        BEGINNING,
+        "<meta name=\"viewport\" content=\"width=device-width, initial-scale=1\"/>\n",
+        &format!("<title>Layout of {title}</title>\n<style>\n{STYLE}</style>\n</head>\n<body>\n"),
+        PATTERNS,
+        &format!("<main>\n<h1>Layout of {title}</h1>\n"),
+        &first_words(facts),
+        &figures,
+        END,
+    ]
+    .concat()
+}
+
+/// The name of a file without its folders.
+fn last_part(path: &str) -> &str {
+    path.rsplit('/').next().unwrap_or(path)
+}
+
+/// What is lost comes first, then the sentence.
+fn first_words(facts: &Facts) -> String {
+    let mut text = String::new();
+    for line in facts.losses.iter().flat_map(|told| told.lines()) {
+        text += &paragraph("danger", line);
+    }
+    let class = if facts.laid.is_ok() {
+        "lead"
+    } else {
+        "lead refused"
+    };
+    text += &paragraph(class, &words::sentence(facts));
+    text += &paragraph("small", &words::source(facts));
+    text
+}
+
+/// The parts of a page with a layout, in the order in which an owner asks.
+fn of_layout(facts: &Facts, laid: &Laid) -> String {
+    let why = words::why_not_more(laid);
+    let why: String = why.iter().map(|line| paragraph("why", line)).collect();
+    let why = match why.is_empty() {
+        true => why,
+        false => section("why", "Why not more", &why),
+    };
+    [
+        bars::of_layout(facts, laid),
+        map::of_layout(facts, laid),
+        why,
+        section("tables", "", &tables::boxes_and_zones(facts, laid)),
+        tables::partitions(facts, laid),
+    ]
+    .concat()
+}
+
+fn paragraph(class: &str, text: &str) -> String {
+    let text = cut(text, LONGEST_SENTENCE);
+    format!("<p class=\"{class}\">{text}</p>\n")
+}
+
+/// A part of the page that can be linked to; one without a heading is told by its tables.
+pub fn section(id: &str, heading: &str, body: &str) -> String {
+    let heading = match heading {
+        "" => String::new(),
+        heading => format!("<h2>{heading}</h2>\n"),
+    };
+    format!("<section id=\"{id}\">\n{heading}{body}</section>\n")
+}
+
+/// Text that can stand between tags and in attributes. What no page may hold becomes a mark.
+pub fn escaped(text: &str) -> String {
+    let mut escaped = String::with_capacity(text.len());
+    for c in text.chars() {
+        match c {
+            '&' => escaped += "&amp;",
+            '<' => escaped += "&lt;",
+            '>' => escaped += "&gt;",
+            '"' => escaped += "&quot;",
+            '\'' => escaped += "&#39;",
+            c if c.is_control() || ('\u{fffe}'..='\u{ffff}').contains(&c) => {
+                escaped.push('\u{fffd}')
+            }
+            c => escaped.push(c),
+        }
+    }
+    escaped
+}
+
+/// A name that its owner gave, cut in the middle where it is very long, and escaped.
+pub fn name(text: &str) -> String {
+    cut(text, LONGEST_NAME)
+}
+
+fn cut(text: &str, longest: usize) -> String {
+    let letters: Vec<char> = text.chars().collect();
+    if letters.len() <= longest {
+        return escaped(text);
+    }
+    // Names that begin alike often differ at their ends, as in shelf-1 and shelf-2.
+    let tail = (longest - 1) / 2;
+    let head: String = letters[..longest - 1 - tail].iter().collect();
+    let tail: String = letters[letters.len() - tail..].iter().collect();
+    format!(
+        "{}\u{2026}{}",
+        escaped(head.trim_end()),
+        escaped(tail.trim_start())
+    )
+}
+
+/// A name in a table. One that is written from right to left leaves its neighbours in place.
+pub fn isolated(text: &str) -> String {
+    match text {
+        "" => String::new(),
+        text => format!("<bdi>{}</bdi>", name(text)),
+    }
+}
+
+/// A name where little room is; the tables have all of it.
+pub fn label(text: &str) -> String {
+    match text {
+        "" => String::new(),
+        text => format!("<bdi>{}</bdi>", cut(text, LONGEST_LABEL)),
+    }
+}
+
+#[cfg(test)]
+mod tests {
+    use super::*;
+
+    #[test]
+    fn text_is_escaped() {
+        assert_eq!(escaped("<b>&\"'"), "&lt;b&gt;&amp;&quot;&#39;");
+        assert_eq!(escaped("a\u{1}b\nc\u{ffff}"), "a\u{fffd}b\u{fffd}c\u{fffd}");
+        assert_eq!(escaped("B\u{fc}ro"), "B\u{fc}ro");
+    }
+
+    #[test]
+    fn long_names_are_cut_in_the_middle() {
+        assert_eq!(name(&"x".repeat(48)), "x".repeat(48));
+        let long = "\u{fc}".repeat(24) + &"&".repeat(25);
+        let cut = "\u{fc}".repeat(24) + "\u{2026}" + &"&amp;".repeat(23);
+        assert_eq!(name(&long), cut);
+        let label = label("a long name of a box, number 7");
+        assert_eq!(label, "<bdi>a long name\u{2026}, number 7</bdi>");
+    }
+
+    #[test]
+    fn a_page_is_known_by_its_beginning_and_its_end() {
+        let page = [BEGINNING, "anything", END].concat();
+        assert!(is_page(page.as_bytes()));
+        assert!(!is_page(&page.as_bytes()[1..]));
+        assert!(!is_page(&page.as_bytes()[..page.len() - 1]));
+        assert!(!is_page(b"<!DOCTYPE html>\n"));
+    }
+}

@@ -1,0 +1,235 @@
+//! The tables: all numbers of the page, to be read and linked to.
+
+use super::facts::{Cell, Facts, Laid};
+use super::html::{isolated, section};
+use crate::units::{percent, thousands};
+use dezghuri::Layout;
+
+/// Partitions of one table; several tables stand side by side.
+const LINES: usize = 32;
+
+/// A line of a table of boxes or zones.
+struct Held {
+    capacity: u64,
+    copies: u64,
+    received: u64,
+    dropped: u64,
+}
+
+impl Held {
+    /// What these boxes have together.
+    fn of(facts: &Facts, laid: &Laid, places: &[usize]) -> Held {
+        let rows = || places.iter().map(|b| &laid.rows.here[*b]);
+        let nodes = &facts.cluster().nodes;
+        Held {
+            capacity: places.iter().map(|b| u64::from(nodes[*b].capacity)).sum(),
+            copies: rows().map(|row| row.copies()).sum(),
+            received: rows().map(|row| row.count(Cell::Received)).sum(),
+            dropped: rows().map(|row| row.count(Cell::Dropped)).sum(),
+        }
+    }
+
+    fn cells(&self, facts: &Facts, laid: &Laid) -> String {
+        let (unit, used) = (facts.unit(), self.copies * laid.size);
+        let mut cells = vec![
+            unit.of(self.capacity),
+            thousands(self.copies),
+            unit.of(used),
+            percent(used, self.capacity),
+        ];
+        if facts.has_former() {
+            cells.extend([thousands(self.received), thousands(self.dropped)]);
+        }
+        let cells = cells
+            .iter()
+            .map(|cell| format!("<td class=\"n\">{cell}</td>"));
+        cells.collect()
+    }
+}
+
+/// The tables of a cluster with a layout.
+pub fn boxes_and_zones(facts: &Facts, laid: &Laid) -> String {
+    let all: Vec<usize> = (0..facts.cluster().nodes.len()).collect();
+    let mut lines = String::new();
+    for b in &all {
+        let cells = Held::of(facts, laid, &[*b]).cells(facts, laid);
+        lines += &format!("{}{cells}</tr>\n", box_head(facts, *b));
+    }
+    let sum = Held::of(facts, laid, &all).cells(facts, laid);
+    lines += &format!("<tr class=\"sum\"><th>all</th><td></td><td></td>{sum}</tr>\n");
+    let heads = numbers(facts);
+    let caption = format!(
+        "The boxes. Capacity and used are in {}; used is what the copies take once each partition \
+         has grown to its size.",
+        facts.unit().name
+    );
+    let boxes = table(
+        "cards of-boxes",
+        &caption,
+        &[&["box", "name", "zone"][..], &heads].concat(),
+        &lines,
+    );
+    [boxes, zone_table(facts, laid)].concat()
+}
+
+fn zone_table(facts: &Facts, laid: &Laid) -> String {
+    let line = |(zone, places): (&str, Vec<usize>)| {
+        let cells = Held::of(facts, laid, &places).cells(facts, laid);
+        format!(
+            "<tr><th>{}</th><td class=\"n\">{}</td>{cells}</tr>\n",
+            isolated(zone),
+            places.len()
+        )
+    };
+    let lines: String = facts.zones().into_iter().map(line).collect();
+    let caption = format!("The zones. Capacity and used are in {}.", facts.unit().name);
+    table(
+        "cards of-zones",
+        &caption,
+        &[&["zone", "boxes"][..], &numbers(facts)].concat(),
+        &lines,
+    )
+}
+
+/// The table of a cluster without a layout.
+pub fn disks(facts: &Facts) -> String {
+    let unit = facts.unit();
+    let line = |b: usize| {
+        let capacity = unit.of(facts.cluster().nodes[b].capacity.into());
+        format!(
+            "{}<td class=\"n\">{capacity}</td></tr>\n",
+            box_head(facts, b)
+        )
+    };
+    let lines: String = (0..facts.cluster().nodes.len()).map(line).collect();
+    let caption = format!("The boxes. Capacity is in {}.", unit.name);
+    table(
+        "cards of-boxes",
+        &caption,
+        &["box", "name", "zone", "capacity"],
+        &lines,
+    )
+}
+
+/// The beginning of a box's line, which can be linked to.
+fn box_head(facts: &Facts, b: usize) -> String {
+    let (id, label) = (facts.cluster().nodes[b].id, &facts.described.labels[b]);
+    format!(
+        "<tr id=\"box-{id}\"><th>{id}</th><td>{}</td><td>{}</td>",
+        isolated(&label.name),
+        isolated(&label.zone)
+    )
+}
+
+/// Heads of the columns with numbers.
+fn numbers(facts: &Facts) -> Vec<&'static str> {
+    let heads = [
+        "capacity",
+        "copies",
+        "used",
+        "share",
+        "to receive",
+        "to drop",
+    ];
+    let wanted = if facts.has_former() { 6 } else { 4 };
+    heads[..wanted].to_vec()
+}
+
+fn table(class: &str, caption: &str, heads: &[&str], lines: &str) -> String {
+    let left = ["name", "zone", "before", "after", "held by"];
+    let heads = heads.iter().map(|head| match left.contains(head) {
+        true => format!("<th class=\"l\">{head}</th>"),
+        false => format!("<th>{head}</th>"),
+    });
+    let heads: String = heads.collect();
+    let caption = match caption {
+        "" => String::new(),
+        caption => format!("<caption>{caption}</caption>\n"),
+    };
+    format!(
+        "<table class=\"{class}\">\n{caption}<thead><tr>{heads}</tr></thead>\n<tbody>\n{lines}</tbody>\n</table>\n"
+    )
+}
+
+/// Each partition with its row before and after.
+pub fn partitions(facts: &Facts, laid: &Laid) -> String {
+    let partitions: Vec<u8> = (0..=u8::MAX).take(1 << facts.cluster().bits).collect();
+    let heads: &[&str] = match facts.has_former() {
+        true => &["partition", "before", "after"],
+        false => &["partition", "held by"],
+    };
+    let tables = partitions.chunks(LINES).map(|some| {
+        let lines: String = some.iter().map(|p| partition(facts, laid, *p)).collect();
+        table("rows-of", "", heads, &lines)
+    });
+    let tables: String = tables.collect();
+    let words = match facts.has_former() {
+        true => {
+            "The ids of the boxes that held each partition, and of those that are to hold it: \
+                 \u{25b2} received, \u{25bd} dropped, \u{2715} gone with its box."
+        }
+        false => "The ids of the boxes that hold each partition.",
+    };
+    let body = format!(
+        "<p>{words}</p>\n<div class=\"many\" style=\"--least:{}em\">\n{tables}</div>\n",
+        width(facts, laid, heads.len())
+    );
+    section("partitions", "The partitions", &body)
+}
+
+/// Letters of the longest head over rows.
+const HEAD: usize = 8;
+
+/// How wide a table of partitions must be for its longest row, in letters' heights.
+fn width(facts: &Facts, laid: &Laid, columns: usize) -> usize {
+    let long = |layout: &Layout| {
+        let letters = |ids: &[u32]| ids.iter().map(|id| id.to_string().len() + 2).sum::<usize>();
+        layout
+            .rows()
+            .map(|(_, ids)| letters(ids))
+            .max()
+            .unwrap_or(0)
+    };
+    let letters = match columns {
+        2 => long(&laid.after).max(HEAD),
+        _ => long(&laid.before).max(HEAD) + long(&laid.after).max(HEAD),
+    };
+    let told = if facts.losses.is_empty() { 0 } else { 8 };
+    8 + letters * 11 / 20 + told
+}
+
+fn partition(facts: &Facts, laid: &Laid, partition: u8) -> String {
+    let (before, after) = (laid.before.row(partition), laid.after.row(partition));
+    let mut cells = String::new();
+    if facts.has_former() {
+        let id = |id: &u32| match (after.contains(id), facts.described.has(*id)) {
+            (true, _) => id.to_string(),
+            (false, true) => format!("<s>{id}</s>"),
+            (false, false) => format!("<del>{id}</del>"),
+        };
+        let ids: Vec<String> = before.iter().map(id).collect();
+        cells += &format!(
+            "<td>{}{}</td>",
+            ids.join(" "),
+            left(facts, partition, before)
+        );
+    }
+    let id = |id: &u32| match before.contains(id) {
+        true => id.to_string(),
+        false => format!("<b>{id}</b>"),
+    };
+    let ids: Vec<String> = after.iter().map(id).collect();
+    format!(
+        "<tr id=\"partition-{partition}\"><th>{partition}</th>{cells}<td>{}</td></tr>\n",
+        ids.join(" ")
+    )
+}
+
+/// A word where no former copy is left, or one only.
+fn left(facts: &Facts, partition: u8, before: &[u32]) -> &'static str {
+    match (before.len(), facts.cluster().survivors(partition).count()) {
+        (1.., 0) => " <em>none left</em>",
+        (2.., 1) => " <em>one left</em>",
+        _ => "",
+    }
+}

@@ -1,0 +1,113 @@
+//! The sentences with which the page begins.
+
+use super::facts::{Best, Facts, Laid};
+use crate::units::{count, thousands};
+
+/// What the command says of the page: the same sentences in plain text.
+pub fn plain(facts: &Facts) -> String {
+    let mut lines = facts.losses.clone();
+    lines.push(sentence(facts));
+    lines.join("\n") + "\n"
+}
+
+/// The layout in a few short sentences, or why there is none.
+pub fn sentence(facts: &Facts) -> String {
+    match &facts.laid {
+        Err(why) if why.starts_with("there is") => with_capital(why) + ".",
+        Err(why) => format!("{why}."),
+        Ok(laid) => of_layout(facts, laid),
+    }
+}
+
+fn of_layout(facts: &Facts, laid: &Laid) -> String {
+    let (cluster, unit) = (facts.cluster(), facts.unit());
+    let mut sentences = vec![
+        format!(
+            "{} of everything, in at least {}.",
+            count(cluster.replication.into(), "copy", "copies"),
+            count(cluster.redundancy.into(), "zone", "zones")
+        ),
+        format!(
+            "Each partition may grow to {} MB: {} {} in all.",
+            thousands(laid.size),
+            unit.of(laid.size << cluster.bits),
+            unit.name
+        ),
+    ];
+    if facts.has_former() {
+        sentences.push(moves(facts, laid));
+    }
+    sentences.extend(best(facts, laid));
+    sentences.join(" ")
+}
+
+fn moves(facts: &Facts, laid: &Laid) -> String {
+    let unit = facts.unit();
+    let dropped = match laid.dropped() {
+        0 => "none dropped".into(),
+        dropped => format!("{} dropped", thousands(dropped)),
+    };
+    match laid.sent() {
+        0 => format!("No copy has to be sent, {dropped}."),
+        sent => format!(
+            "{} (up to {} {}) {} to be sent, {dropped}.",
+            count(sent, "copy", "copies"),
+            unit.of(sent * laid.size),
+            unit.name,
+            if sent == 1 { "has" } else { "have" }
+        ),
+    }
+}
+
+fn best(facts: &Facts, laid: &Laid) -> Option<String> {
+    match laid.best {
+        Best::Larger(size) => Some(format!(
+            "The disks allow {} MB a partition: a new plan has more.",
+            thousands(size)
+        )),
+        _ if !facts.has_former() => None,
+        Best::Fewest => Some("No layout of this size needs fewer.".into()),
+        Best::FewerBy(more) => Some(format!(
+            "Another layout of this size needs {} fewer.",
+            thousands(more)
+        )),
+    }
+}
+
+/// What is shown: which files, and how they were taken.
+pub fn source(facts: &Facts) -> String {
+    let names = &facts.names;
+    let shown = match (&names.layout, &facts.laid) {
+        (_, Err(_)) => format!("The boxes of {}.", names.file),
+        (Some(layout), Ok(_)) => format!("The layout {layout} on the boxes of {}.", names.file),
+        (None, Ok(_)) => format!("The layout that a plan of {} comes to.", names.file),
+    };
+    match (&names.former, &facts.laid) {
+        (_, Err(_)) => shown,
+        (Some(former), Ok(_)) => {
+            format!("{shown} What moves is told from the former layout {former}.")
+        }
+        (None, Ok(_)) => format!(
+            "{shown} No former layout was given, so nothing is said of what has to be sent."
+        ),
+    }
+}
+
+/// What keeps the size from being larger, in sentences.
+pub fn why_not_more(laid: &Laid) -> Vec<String> {
+    let sentence = |why: &String| with_capital(&why.replace('\n', " "));
+    let mut sentences: Vec<String> = laid.why.iter().map(sentence).collect();
+    if laid.hope > laid.size {
+        sentences.push(format!(
+            "With nothing lost to rounding and zones it would be {} MB a partition.",
+            thousands(laid.hope)
+        ));
+    }
+    sentences
+}
+
+fn with_capital(text: &str) -> String {
+    let mut letters = text.chars();
+    let first = letters.next().into_iter().flat_map(char::to_uppercase);
+    first.chain(letters).collect()
+}

@@ -1,0 +1,482 @@
+//! The page that shows a layout.
+
+use crate::folder::{layout_record, Folder};
+use crate::page::{self, Element};
+use crate::{planned_home, THREE};
+use std::collections::{BTreeMap, BTreeSet};
+
+/// Box 1 has a name that would be a tag; boxes 2 and 9 are gone; box 4 is new.
+const SMALL: &str = "copies 2\nzones 2\nbits 2\nbox 1 shop 110 <b>&\"\nbox 3 home 60 study\n\
+                     box 4 home 60\nbox 4294967295 attic 0 the last one\n";
+
+/// Box 1 takes each partition, since all others stand in one zone; so at most 27 MB. At 27 MB the
+/// others take two copies each, and box 3 keeps the two that it has.
+fn small(name: &str) -> Folder {
+    let folder = Folder::new(name);
+    folder.write("small.txt", SMALL);
+    let before: [&[u32]; 4] = [&[1, 2], &[1, 3], &[2, 3], &[2, 9]];
+    folder.write("last", layout_record(2, 20, &before));
+    let after: [&[u32]; 4] = [&[1, 4], &[1, 3], &[1, 3], &[1, 4]];
+    folder.write("next", layout_record(2, 27, &after));
+    folder
+}
+
+/// The page that a call writes.
+fn page_of(folder: &Folder, call: &str) -> Element {
+    let done = folder.call(&format!("report {call} --out page.html"));
+    assert_eq!(done.err, "");
+    page::read(std::str::from_utf8(&folder.read("page.html")).expect("text"))
+}
+
+fn lead(page: &Element) -> String {
+    page.of_class("lead")[0].text()
+}
+
+#[test]
+fn the_page_of_a_small_cluster() {
+    let folder = small("report-small");
+    let done = folder.call("report small.txt next --former last --out page.html");
+    assert_eq!((done.status, done.err.as_str()), (0, ""));
+    assert_eq!(done.out, include_str!("report.txt"));
+    let page = String::from_utf8(folder.read("page.html")).expect("text");
+    assert!(
+        page == include_str!("report.html"),
+        "the page differs from report.html:\n{page}"
+    );
+    let names = ["last", "next", "page.html", "small.txt"];
+    assert_eq!(folder.names(), names);
+}
+
+#[test]
+fn names_are_shown_as_they_are_written() {
+    let page = page_of(&small("report-names"), "small.txt next --former last");
+    assert_eq!(page.with_id("box-1").named("td")[0].text(), "<b>&\"");
+    let labels: Vec<String> = page
+        .of_class("label")
+        .iter()
+        .map(|label| label.text())
+        .collect();
+    let shown = labels.iter().filter(|label| *label == "1 <b>&\"");
+    assert_eq!(shown.count(), 2, "at its bar and in the map: {labels:?}");
+}
+
+/// A page needs no other file and no program, and each link in it has its end.
+fn stands_alone(text: &str) {
+    for word in [
+        "<script", "http", "src=", "@import", "<link", "<img", "\u{fffd}",
+    ] {
+        assert!(!text.contains(word), "{word}");
+    }
+    let page = page::read(text);
+    let ids: Vec<&str> = page.all().iter().map(|element| element.get("id")).collect();
+    let ids: Vec<&str> = ids.into_iter().filter(|id| !id.is_empty()).collect();
+    let different: BTreeSet<&str> = ids.iter().copied().collect();
+    assert_eq!(ids.len(), different.len(), "an id comes twice");
+    let links = page.all().into_iter().map(|element| element.get("href"));
+    for link in links.filter(|link| !link.is_empty()) {
+        let id = link.strip_prefix('#').expect("a link into the page");
+        assert!(different.contains(id), "{link}");
+    }
+    for part in text.split("url(").skip(1) {
+        let (id, _) = part.split_once(')').expect("it ends");
+        assert!(different.contains(id.trim_start_matches('#')), "{id}");
+    }
+    for figure in page
+        .named("svg")
+        .iter()
+        .filter(|svg| svg.get("aria-hidden") != "true")
+    {
+        assert!(!figure.named("title").is_empty(), "{figure:?}");
+    }
+}
+
+/// A number of the page: digits, with commas, a sign or a unit.
+fn number(text: &str) -> u64 {
+    let digits: String = text.chars().filter(char::is_ascii_digit).collect();
+    digits.parse().unwrap_or(0)
+}
+
+/// Thousandths of a percent.
+fn thousandths(text: &str) -> u64 {
+    let (whole, rest) = text
+        .trim_end_matches('%')
+        .split_once('.')
+        .unwrap_or((text.trim_end_matches('%'), ""));
+    number(whole) * 1000 + number(&format!("{rest:0<3}"))
+}
+
+/// The parts of each bar come to its disk, which is as long as the table says.
+fn bars_add_up(page: &Element, capacities: &BTreeMap<u32, u64>, whole: u64) {
+    let mut seen = BTreeSet::new();
+    for line in page.with_id("boxes").of_class("row") {
+        let Some(bar) = line.of_class("bar").first().copied() else {
+            continue;
+        };
+        let id: u32 = line.of_class("id")[0].text().parse().expect("an id");
+        let Some(capacity) = capacities.get(&id) else {
+            assert_eq!(bar.of_class("gone").len(), 1, "box {id}");
+            continue;
+        };
+        let mut end = 0;
+        for part in bar.named("rect") {
+            assert_eq!(thousandths(part.get("x")), end, "box {id}");
+            end += thousandths(part.get("width"));
+        }
+        assert_eq!(end, capacity * 100_000 / whole, "box {id}");
+        seen.insert(id);
+    }
+    assert!(seen.iter().eq(capacities.keys()));
+}
+
+/// The ids of a table's cell, each with the tag that it stands in.
+fn ids(cell: &Element) -> BTreeMap<u32, String> {
+    let mut found = BTreeMap::new();
+    for part in &cell.parts {
+        match part {
+            page::Part::Text(text) => {
+                let words = text.split_whitespace();
+                found.extend(words.map(|id| (id.parse().expect("an id"), String::new())));
+            }
+            page::Part::Element(inner) if inner.name == "em" => (),
+            page::Part::Element(inner) => {
+                found.insert(inner.text().parse().expect("an id"), inner.name.clone());
+            }
+        }
+    }
+    found
+}
+
+/// The columns of a row of the map that are drawn in a class.
+fn columns(row: &Element, class: &str) -> BTreeSet<usize> {
+    let mut columns = BTreeSet::new();
+    for path in row.of_class(class) {
+        for run in path.get("d").split('M').skip(1) {
+            let (from, rest) = run.split_once(' ').expect("a place");
+            let long = rest.split(['h', 'v']).nth(1).expect("a length");
+            let (from, long): (usize, usize) = (from.parse().unwrap(), long.parse().unwrap());
+            columns.extend(from..from + long);
+        }
+    }
+    columns
+}
+
+/// The rows before and after of each partition, as the table has them.
+fn table(page: &Element) -> BTreeMap<u64, [BTreeMap<u32, String>; 2]> {
+    let rows = page.with_id("partitions").named("tr").into_iter();
+    let rows = rows.filter(|row| !row.get("id").is_empty());
+    let row = |row: &Element| {
+        let cells = row.named("td");
+        (number(row.get("id")), [ids(cells[0]), ids(cells[1])])
+    };
+    rows.map(row).collect()
+}
+
+/// The partitions in the order of the map's columns.
+fn order(map: &Element) -> Vec<u64> {
+    let strip = map.of_class("strip")[0].named("rect");
+    let groups = strip.iter().map(|group| group.named("title")[0].text());
+    let numbers = |group: String| -> Vec<u64> { group.split(',').map(number).collect() };
+    groups.flat_map(numbers).collect()
+}
+
+/// Each cell of the map is what the table of the partitions says.
+fn map_agrees_with_table(page: &Element) {
+    let (map, table) = (page.with_id("map"), table(page));
+    let order = order(map);
+    assert!(order
+        .iter()
+        .collect::<BTreeSet<_>>()
+        .into_iter()
+        .eq(table.keys()));
+    let rows = map.of_class("row").into_iter();
+    let rows: Vec<&Element> = rows.filter(|row| !row.of_class("id").is_empty()).collect();
+    assert!(!rows.is_empty());
+    for row in rows {
+        let id: u32 = row.of_class("id")[0].text().parse().expect("an id");
+        let drawn = ["kept", "orange", "hollow"].map(|class| columns(row, class));
+        for (column, partition) in order.iter().enumerate() {
+            let [before, after] = &table[partition];
+            let (was, will) = (before.get(&id), after.get(&id));
+            let cell = drawn.each_ref().map(|columns| columns.contains(&column));
+            let (had, has) = (was.is_some(), will.is_some());
+            let expected = [had && has, !had && has, had && !has];
+            assert_eq!(cell, expected, "box {id}, partition {partition}");
+            let struck = was.is_some_and(|tag| ["s", "del"].contains(&tag.as_str()));
+            let bold = will.is_some_and(|tag| tag == "b");
+            assert_eq!(
+                [bold, struck],
+                expected[1..],
+                "box {id}, partition {partition}"
+            );
+        }
+    }
+}
+
+#[test]
+fn bars_and_map_agree_with_the_tables() {
+    let page = page_of(&small("report-agree"), "small.txt next --former last");
+    let capacities = BTreeMap::from([(1, 110), (3, 60), (4, 60), (u32::MAX, 0)]);
+    bars_add_up(&page, &capacities, 110);
+    map_agrees_with_table(&page);
+
+    let folder = planned_home("report-home");
+    assert_eq!(
+        folder.call("plan next.txt --former last --out next").status,
+        0
+    );
+    let page = page_of(&folder, "next.txt next --former last");
+    let tb = |n: u64| n * 1_000_000;
+    let capacities = [(1, tb(4)), (2, tb(2)), (3, tb(4)), (4, tb(2)), (6, tb(4))];
+    bars_add_up(&page, &BTreeMap::from(capacities), tb(4));
+    map_agrees_with_table(&page);
+    let told = "3 copies of everything, in at least 2 zones. Each partition may grow to 20,833 MB: \
+                5,333 GB in all. 192 copies (up to 3,999 GB) have to be sent, 38 dropped. No layout \
+                of this size needs fewer.";
+    assert_eq!(lead(&page), told);
+}
+
+/// Eight of the 32 ids from this one on for each partition, in no order that makes groups.
+fn scattered(first: u32, seed: u32) -> Vec<u8> {
+    let mut state = seed;
+    let mut below = |most: usize| {
+        state = state.wrapping_mul(1_664_525).wrapping_add(1_013_904_223);
+        (state >> 8) as usize % most
+    };
+    let mut rows = Vec::new();
+    for _ in 0..256 {
+        let mut ids: Vec<u32> = (first..=first + 31).collect();
+        while ids.len() > 8 {
+            ids.remove(below(ids.len()));
+        }
+        rows.push(ids);
+    }
+    let rows: Vec<&[u32]> = rows.iter().map(Vec::as_slice).collect();
+    layout_record(8, 1, &rows)
+}
+
+/// The most boxes with the longest ids, names and zones, all but one new; eight copies each.
+#[test]
+fn the_largest_page_is_not_long() {
+    let folder = Folder::new("report-largest");
+    let boxes = (0..32u32).map(|b| {
+        let (quotes, zone) = ("\"".repeat(200), format!("{b}-{}", "\"".repeat(100)));
+        format!("box {} {zone} {}T {quotes}\n", 4_294_967_231 + b, 2 + b % 7)
+    });
+    let text = format!("copies 8\nzones 1\n{}", boxes.collect::<String>());
+    folder.write("home.txt", text);
+    folder.write("last", scattered(4_294_967_200, 1));
+    folder.write("next", scattered(4_294_967_231, 2));
+    let page = page_of(&folder, "home.txt next --former last");
+    map_agrees_with_table(&page);
+    let bytes = folder.read("page.html");
+    assert!(bytes.len() < 400_000, "{}", bytes.len());
+    stands_alone(std::str::from_utf8(&bytes).expect("text"));
+    let again = folder.call("report home.txt next --former last --out page.html");
+    assert_eq!(again.status, 0, "it is known as a page: {}", again.err);
+}
+
+#[test]
+fn a_page_stands_alone() {
+    let folder = small("report-alone");
+    for (call, status) in [
+        ("small.txt next --former last", 0),
+        ("small.txt next", 0),
+        ("small.txt last", 1),
+    ] {
+        let done = folder.call(&format!("report {call} --out page.html"));
+        assert_eq!((done.status, done.err.as_str()), (status, ""), "{call}");
+        stands_alone(std::str::from_utf8(&folder.read("page.html")).expect("text"));
+    }
+}
+
+/// What is lost or at risk stands above all else, as in the report of a plan.
+#[test]
+fn losses_come_first() {
+    let page = page_of(&small("report-lost"), "small.txt next --former last");
+    let told: Vec<String> = page.of_class("danger").iter().map(|p| p.text()).collect();
+    let expected = [
+        "Lost: 1 of 4 partitions has no surviving copy: 3.",
+        "No box can send them: bring back a box that held them, or restore them from elsewhere.",
+        "At risk: 2 of 4 partitions have one surviving copy only: 0, 2.",
+    ];
+    assert_eq!(told, expected);
+    let marked = |partition: u32| {
+        let row = page.with_id(&format!("partition-{partition}"));
+        row.named("em")
+            .iter()
+            .map(|em| em.text())
+            .collect::<String>()
+    };
+    assert_eq!(
+        [0, 1, 2, 3].map(marked),
+        ["one left", "", "one left", "none left"]
+    );
+}
+
+/// The sentence on the layout of these rows, with the former layout and without.
+fn leads(folder: &Folder, size: u32, rows: [&[u32]; 4]) -> [String; 2] {
+    folder.write("other", layout_record(2, size, &rows));
+    let with = page_of(folder, "small.txt other --former last");
+    [lead(&with), lead(&page_of(folder, "small.txt other"))]
+}
+
+/// What the layout's own record says was true of the layout that it was planned from.
+#[test]
+fn only_what_holds_from_the_former_layout_is_told() {
+    let folder = small("report-best");
+    let start = |size: u32| {
+        let all = size * 4;
+        format!(
+            "2 copies of everything, in at least 2 zones. Each partition may grow to {size} MB: \
+             {all} MB in all."
+        )
+    };
+    let best: [&[u32]; 4] = [&[1, 4], &[1, 3], &[1, 3], &[1, 4]];
+    let sent = "4 copies (up to 108 MB) have to be sent, none dropped.";
+    let fewest = format!("{} {sent} No layout of this size needs fewer.", start(27));
+    assert_eq!(leads(&folder, 27, best), [fewest, start(27)]);
+
+    let swapped: [&[u32]; 4] = [&[1, 3], &[1, 3], &[1, 4], &[1, 4]];
+    let sent = "5 copies (up to 135 MB) have to be sent, 1 dropped.";
+    let [with, _] = leads(&folder, 27, swapped);
+    let more = "Another layout of this size needs 1 fewer.";
+    assert_eq!(with, format!("{} {sent} {more}", start(27)));
+
+    let sent = "4 copies (up to 104 MB) have to be sent, none dropped.";
+    let larger = "The disks allow 27 MB a partition: a new plan has more.";
+    let with = format!("{} {sent} {larger}", start(26));
+    let without = format!("{} {larger}", start(26));
+    assert_eq!(leads(&folder, 26, best), [with, without]);
+}
+
+#[test]
+fn without_a_layout_the_plan_is_shown() {
+    let folder = planned_home("report-planned");
+    assert_eq!(
+        folder.call("plan next.txt --former last --out next").status,
+        0
+    );
+    let given = page_of(&folder, "next.txt next --former last");
+    let planned = page_of(&folder, "next.txt --former last");
+    assert_eq!(lead(&planned), lead(&given));
+    let rows = |page: &Element| page.with_id("partitions").text();
+    assert_eq!(rows(&planned), rows(&given));
+    let source = |page: &Element| page.of_class("small")[0].text();
+    assert_eq!(
+        source(&given),
+        "The layout next on the boxes of next.txt. What moves is told from the former layout last."
+    );
+    assert_eq!(
+        source(&planned),
+        "The layout that a plan of next.txt comes to. What moves is told from the former layout last."
+    );
+}
+
+#[test]
+fn without_a_former_layout_nothing_moves() {
+    let page = page_of(&small("report-still"), "small.txt next");
+    assert!(page.of_class("danger").is_empty());
+    for class in ["received", "orange", "hollow", "gone"] {
+        let drawn =
+            page.with_id("boxes").of_class(class).len() + page.with_id("map").of_class(class).len();
+        assert_eq!(drawn, 0, "{class}");
+    }
+    let row: Vec<String> = page
+        .with_id("partition-2")
+        .all()
+        .iter()
+        .skip(1)
+        .map(|cell| cell.text())
+        .collect();
+    assert_eq!(row, ["2", "1 3"]);
+}
+
+/// The page says why, and shows the boxes and nothing else.
+#[test]
+fn a_refusal_has_its_page_too() {
+    let folder = small("report-refused");
+    folder.write(
+        "four.txt",
+        SMALL
+            .replace("zones 2", "zones 4")
+            .replace("copies 2", "copies 4"),
+    );
+    let why =
+        "There is no layout: 4 copies need 4 boxes with disk space, and 3 have any (refused 9).";
+    let other =
+        "last is not valid for small.txt as it is now: partition 0 lies on box 2, which is \
+                 not there (refused 10).";
+    for (call, why) in [("four.txt", why), ("small.txt last", other)] {
+        let done = folder.call(&format!("report {call} --out page.html"));
+        let told = format!("{why}\nWritten to page.html.\n");
+        assert_eq!((done.status, done.err.as_str()), (1, ""), "{call}");
+        assert!(done.out.starts_with(&told), "{}", done.out);
+        let page = page::read(std::str::from_utf8(&folder.read("page.html")).expect("text"));
+        assert_eq!(lead(&page), why);
+        assert_eq!(page.of_class("bar").len(), 4);
+        assert!(page.all().iter().all(|element| element.get("id") != "map"));
+    }
+}
+
+#[test]
+fn only_a_page_is_replaced_by_a_page_and_it_is_kept() {
+    let folder = small("report-replaced");
+    let call = "report small.txt next --former last --out";
+    for file in ["next", "last", "notes.html", "empty"] {
+        folder.write("notes.html", "<!DOCTYPE html>\n<html lang=\"en\"></html>\n");
+        folder.write("empty", "");
+        let before = folder.read(file);
+        let done = folder.call(&format!("{call} {file}"));
+        let told = format!(
+            "{file}: not written: there is a file there that is not a report page, and nothing else \
+             is replaced\n"
+        );
+        assert_eq!((done.status, done.err, done.out.as_str()), (2, told, ""));
+        assert!(folder.read(file) == before);
+    }
+    let done = folder.call(&format!("{call} small.txt"));
+    assert!(
+        done.err.contains("would replace the description"),
+        "{}",
+        done.err
+    );
+    assert_eq!(
+        folder.call("report small.txt next --out page.html").status,
+        0
+    );
+    let first = folder.read("page.html");
+    let done = folder.call(&format!("{call} page.html"));
+    let told = "Written to page.html.\nThe report page before it is kept as page.html.old.\n";
+    assert!(done.out.ends_with(told), "{}", done.out);
+    assert!(folder.read("page.html.old") == first);
+    assert!(folder.read("page.html") != first);
+}
+
+#[test]
+fn faults_of_the_files_are_told_and_nothing_is_written() {
+    let folder = planned_home("report-faults");
+    folder.write("three.txt", THREE);
+    for (call, told) in [
+        (
+            "next.txt nowhere",
+            "nowhere: No such file or directory (os error 2)\n",
+        ),
+        (
+            "next.txt home.txt",
+            "home.txt: this is a text file, and not a layout record\n",
+        ),
+        (
+            "three.txt --former last",
+            "last was planned with bits 8, three.txt has bits 1: they cannot change\n",
+        ),
+    ] {
+        let done = folder.call(&format!("report {call} --out page.html"));
+        assert_eq!(
+            (done.status, done.err.as_str(), done.out.as_str()),
+            (2, told, ""),
+            "{call}"
+        );
+    }
+    let names = ["home.txt", "last", "next.txt", "three.txt"];
+    assert_eq!(folder.names(), names);
+}
