@@ -1,12 +1,12 @@
 -- What records and figures need beside the terms of planning and check: their limits, the cluster with no nodes, a cluster in its slots, and
 -- what holds of a cluster without fault.
 -- Assumes nothing.
-use Prim.Native.Nat.{ℕ, _-_, _*_, _≤_}
+use Prim.Native.Nat.{ℕ, _-_, _*_, _^_, _≤_, _<_}
 use mathlib.Core.Path.{_≡_}
 use mathlib.Core.Bool.{true}
 use mathlib.Core.List.{_++_}
 use lib.ListN.{length, replicate}
-use Rattle.cluster.specs.Terms.{Topology, noNode, idsOf, rising, mostBits, mostCopies, mostNodes}
+use Rattle.cluster.specs.Terms.{Topology, noNode, nodeAt, idsOf, rising, mostBits, mostCopies, mostNodes}
 use Rattle.cluster.specs.declared.Cluster.{Cluster}
 
 -- ---- the limits of figures and of a layout record
@@ -54,3 +54,7 @@ pub record Accepted (t : Topology) : Type 0 where
   pub redundancy : (1 ≤ t .redundancy) × (t .redundancy ≤ t .replication)
   pub few : length (t .nodes) ≤ mostNodes
   pub ids : rising (idsOf (t .nodes)) ≡ true
+
+-- "a capacity in megabytes (32 bits ..)": capacities as every cluster in hand has them.
+abbrev pub Fits32 : Topology → Type 0
+Fits32 t = (b : ℕ) → b < length (t .nodes) → nodeAt t b .capacity < 2 ^ 32

@@ -7,9 +7,9 @@ use mathlib.Core.List.{List}
 use native.Mathlib.Omega.{arith}
 use native.Mathlib.Nat.{le-antisymm}
 use Rattle.cluster.specs.Terms.{Topology, Layout, ValidAt, IsFormer, distance}
-use Rattle.cluster.specs.TermsReading.{Accepted}
+use Rattle.cluster.specs.TermsReading.{Accepted, Fits32}
 use Rattle.incidence.proofs.TieLayouts.{valid-of-within}
-use Rattle.sizing.specs.ModelSizing.{Fits32, sizeOf}
+use Rattle.sizing.specs.ModelSizing.{sizeOf}
 use Rattle.sizing.proofs.Sizes.{size-none, none-size, size-largest}
 use Rattle.planner.specs.Demand.{Rules, Demand3}
 use Rattle.planner.specs.ModelPlan.{planFrom, planOf, startRows, layoutRows, farRows, improvesAt, nextAt}

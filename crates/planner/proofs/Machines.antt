@@ -18,13 +18,13 @@ use Rattle.cells.proofs.Cells.{length-tab, getD-tab}
 use Rattle.exchange.specs.ModelRow.{weigh}
 use Rattle.exchange.proofs.Agreeing.{weigh-cong, within-cong}
 use Rattle.cluster.specs.Terms.{bufferRows, Topology, partitions, nodeAt, mem, Layout, row, ValidAt, IsFormer, distance}
-use Rattle.cluster.specs.TermsReading.{Accepted}
+use Rattle.cluster.specs.TermsReading.{Accepted, Fits32}
 use Rattle.incidence.specs.ModelIncidence.{zoneIndex, capAt, incidence, formerPairs, zoneCells}
 use Rattle.incidence.proofs.TieZones.{zone-below}
 use Rattle.incidence.proofs.TieDistance.{incidence-le, distance-law}
 use Rattle.incidence.proofs.TieLayouts.{distance-bits, within-of-valid, valid-of-within}
 use Rattle.incidence.proofs.Columns.{cell-column}
-use Rattle.sizing.specs.ModelSizing.{nodesOf, capCells, Fits32, sizeOf, dealtBits, dealtRows}
+use Rattle.sizing.specs.ModelSizing.{nodesOf, capCells, sizeOf, dealtBits, dealtRows}
 use Rattle.sizing.proofs.Sizes.{size-is, beginning-within}
 use Rattle.sizing.proofs.Reading.{mates-hold, deal-length, deal-cell, deal-bit}
 use Rattle.improve.specs.ModelImprove.{ranIn, agreementIn}

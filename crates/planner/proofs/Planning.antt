@@ -12,7 +12,8 @@ use borrow.Author.Tests.{eq-eqb, ne-eqb}
 use Rattle.cluster.specs.Terms.{topology, partitions, IsFormer, cellsOf, rowsIn, faultOf}
 use Rattle.cluster.specs.declared.Cluster.{Cluster}
 use Rattle.cluster.proofs.Accepting.{accepted}
-use Rattle.sizing.specs.ModelSizing.{Fits32, sizeOf, sizeIn}
+use Rattle.cluster.specs.TermsReading.{Fits32}
+use Rattle.sizing.specs.ModelSizing.{sizeOf, sizeIn}
 use Rattle.sizing.proofs.Reading.{size-in}
 use Rattle.planner.specs.TermsPlan.{unusable, planRefusal, planIn, refusedWith, answered, plannedOf, assignmentAfter, scratchAfter, Owed}
 use Rattle.planner.specs.declared.Planned.{Planned}

@@ -13,7 +13,7 @@ use Rattle.sets.specs.ModelBits.{maskOf}
 use Rattle.sets.proofs.Laws.{mask-cong}
 use Rattle.cells.proofs.Cells.{tab-cong}
 use Rattle.cluster.specs.Terms.{Topology, topology, partitions, Layout, IsFormer, rowsIn, cellsOf, rowAt, idsIn, faultOf}
-use Rattle.cluster.specs.TermsReading.{Accepted}
+use Rattle.cluster.specs.TermsReading.{Accepted, Fits32}
 use Rattle.incidence.specs.ModelIncidence.{bitsOf, incidence, formerPairs, zoneCells}
 use Rattle.cluster.specs.declared.Cluster.{Cluster}
 use Rattle.cluster.proofs.Accepting.{few-partitions, accepted}
@@ -21,7 +21,7 @@ use Rattle.cluster.proofs.CellLayouts.{row-rowsIn}
 use Rattle.incidence.proofs.TieDistance.{former-few}
 use Rattle.masks.specs.ModelMasks.{masksRead, rowMask, cellsWritten, idsTotal, rowsFormed}
 use Rattle.masks.proofs.Laws.{mask-bits, formed-each, formed-former, ids-pairs, written-layout}
-use Rattle.sizing.specs.ModelSizing.{nodesOf, mateCells, capCells, Fits32, sizeOf, dealtIn}
+use Rattle.sizing.specs.ModelSizing.{nodesOf, mateCells, capCells, sizeOf, dealtIn}
 use Rattle.sizing.proofs.Reading.{deal-in}
 use Rattle.improve.specs.ModelRun.{Ran}
 use Rattle.improve.specs.ModelImprove.{ranIn, agreementIn, sharedIn}

@@ -7,14 +7,14 @@ use native.Mathlib.Omega.{arith}
 use lib.Pow.{pow-pos}
 use Rattle.exchange.specs.ModelRow.{Within}
 use Rattle.cluster.specs.Terms.{Topology, partitions, nodeAt, Layout, ValidAt, IsSize}
-use Rattle.cluster.specs.TermsReading.{Accepted}
+use Rattle.cluster.specs.TermsReading.{Accepted, Fits32}
 use Rattle.incidence.specs.ModelIncidence.{zoneIndex, capAt, incidence, layoutOf}
 use Rattle.incidence.proofs.TieZones.{zone-below}
 use Rattle.incidence.proofs.TieLayouts.{within-of-valid, valid-of-within}
 use Rattle.dealing.specs.ModelSize.{Caps, Best}
 use Rattle.dealing.proofs.Size.{best-size}
 use Rattle.dealing.proofs.Exists.{dealt-le}
-use Rattle.sizing.specs.ModelSizing.{sizeBits, nodesOf, Fits32, sizeOf, dealtBits}
+use Rattle.sizing.specs.ModelSizing.{sizeBits, nodesOf, sizeOf, dealtBits}
 
 -- A larger size leaves room for no more copies.
 copies-fall : (n s s′ : ℕ) → 1 ≤ s → s ≤ s′ → n / s′ ≤ n / s

@@ -1,6 +1,6 @@
 -- What the functions of this crate answer, in the terms of a cluster's topology.
 -- Assumes nothing.
-use Prim.Native.Nat.{ℕ, _*_, _^_, _≤_, _<_, min}
+use Prim.Native.Nat.{ℕ, _*_, _≤_, _<_, min}
 use mathlib.Core.List.{List}
 use mathlib.Core.Bool.{_&&_, cond}
 use lib.Dec.{eqb, leb}
@@ -8,7 +8,7 @@ use lib.ListN.{length}
 use Rattle.sums.specs.ModelSums.{is}
 use Rattle.sets.specs.ModelBits.{maskOf}
 use Rattle.cells.specs.ModelCells.{put}
-use Rattle.cluster.specs.Terms.{mostBits, mostNodes, bufferRows, Topology, topology, partitions, nodeAt, faultOf}
+use Rattle.cluster.specs.Terms.{mostBits, mostNodes, bufferRows, Topology, topology, partitions, faultOf}
 use Rattle.incidence.specs.ModelIncidence.{zoneIndex, capAt, cell, column}
 use Rattle.cluster.specs.declared.Cluster.{Cluster}
 use Rattle.dealing.specs.ModelDeal.{dealt}
@@ -49,10 +49,6 @@ cutBits t = record { bits = min (t .bits) mostBits; replication = t .replication
 -- The caps that are answered, of a cluster of any bits.
 unfoldable pub capsIn : Cluster → ℕ → List ℕ
 capsIn c s = capCells (cutBits (topology c)) s
-
--- Capacities as a cluster in hand has them: numbers of 32 bits.
-abbrev pub Fits32 : Topology → Type 0
-Fits32 t = (b : ℕ) → b < nodesOf t → nodeAt t b .capacity < 2 ^ sizeBits
 
 -- The largest size of so many bits whose caps have room for a layout; 0 where none has.
 unfoldable pub sizeOf : Topology → ℕ

@@ -6,7 +6,8 @@ ghost use lib.ListN.{length};
 ghost use Rattle.cluster.specs.Terms.{topology, partitions, faultOf};
 ghost use Rattle.incidence.specs.ModelIncidence.{zoneIndex, capAt, zoneCells};
 ghost use Rattle.dealing.specs.ModelDeal.{hasRoom};
-ghost use Rattle.sizing.specs.ModelSizing.{mateCells, capsIn, Fits32, sizeOf, sizeIn, dealtRows, dealtIn};
+ghost use Rattle.sizing.specs.ModelSizing.{mateCells, capsIn, sizeOf, sizeIn, dealtRows, dealtIn};
+ghost use Rattle.cluster.specs.TermsReading.{Fits32};
 use cluster::Cluster;
 use incidence::zones;
 

@@ -14,13 +14,13 @@ use borrow.Author.Tests.{eq-eqb, ne-eqb, eqb-true}
 use Rattle.cluster.proofs.Accepting.{few-partitions}
 use Rattle.sums.proofs.Sum.{lt-or-ge}
 use Rattle.cluster.specs.Terms.{layoutCells, Topology, topology, partitions, nodeAt, Layout, row, ValidAt, IsSize, IsFormer, distance, cellsOf}
-use Rattle.cluster.specs.TermsReading.{Accepted}
+use Rattle.cluster.specs.TermsReading.{Accepted, Fits32}
 use Rattle.incidence.specs.ModelIncidence.{layoutOf}
 use Rattle.cluster.specs.declared.Cluster.{Cluster}
 use Rattle.cluster.proofs.Lists.{index-mem}
 use Rattle.incidence.proofs.TieRows.{known-id}
 use Rattle.incidence.proofs.TieDistance.{former-few, distance-law}
-use Rattle.sizing.specs.ModelSizing.{Fits32, sizeOf, dealtBits}
+use Rattle.sizing.specs.ModelSizing.{sizeOf, dealtBits}
 use Rattle.sizing.proofs.Sizes.{size-best, size-largest, beginning-valid}
 use Rattle.planner.specs.Demand.{Demand3, Rules}
 use Rattle.planner.specs.ModelPlan.{planOf}

@@ -9,7 +9,7 @@ use native.Mathlib.Omega.{arith}
 use lib.ListN.{length, take, drop, length-append}
 use lib.Seq.{take-at}
 use Rattle.cluster.specs.Terms.{mostBits, mostCopies, layoutCells, scratchCells, Topology, topology, partitions, nodeAt, Layout, ValidAt, IsFormer, distance, cellsOf, rowsIn}
-use Rattle.cluster.specs.TermsReading.{mostSize, mostDistance, mostVerdict, mostImprovements, Accepted}
+use Rattle.cluster.specs.TermsReading.{mostSize, mostDistance, mostVerdict, mostImprovements, Accepted, Fits32}
 use Rattle.cluster.specs.ModelRows.{FitsCells, HoldsRows}
 use Rattle.cluster.specs.declared.Cluster.{Cluster}
 use Rattle.cluster.proofs.Accepting.{accepted}
@@ -19,7 +19,7 @@ use Rattle.cluster.proofs.CellLayouts.{length-cellsOf, rowsIn-written, holds-ce
 use Rattle.masks.proofs.Laws.{holds-formed}
 use Rattle.layouts.specs.TermsCheck.{fault, checkOf}
 use Rattle.layouts.proofs.CheckMeaning.{valid-fits, valid-passed}
-use Rattle.sizing.specs.ModelSizing.{Fits32, sizeOf}
+use Rattle.sizing.specs.ModelSizing.{sizeOf}
 use Rattle.planner.specs.Demand.{Answer, Demand3, Rules}
 use Rattle.planner.specs.ModelPlan.{planOf}
 use Rattle.planner.specs.TermsPlan.{unusable, planRefusal, planIn, answered, plannedOf, assignmentAfter}
