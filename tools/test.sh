@@ -1,7 +1,7 @@
 #!/bin/sh
-# The gate: proves every listed crate with `rt ci`, builds the static library of the console crate, runs the Rust tests, and runs the program
-# `plan` on the stored records, and installs all into a folder of its own. A part that is missing is a failure. The last line is rt's own 'N passed, 0 failed', and is printed only where
-# all passed.
+# The gate: proves every listed crate with `rt ci`, builds the static library of the console crate, runs the Rust tests, runs the program `plan`
+# on the stored records, and installs all into a folder of its own. A part that is missing is a failure. The last line is rt's own
+# 'N passed, 0 failed', and is printed only where all passed.
 set -u
 cd "$(dirname "$0")/.." || exit 2
 

@@ -100,7 +100,7 @@ module _ {n at : ℕ} {allowed : List ℕ} {tag start len : ℕ} (w : Whole n at
 
 -- ---- what holds of a reading
 
--- The cluster so far is accepted, and so are the rows; what was not read yet is as in the nothingRead.
+-- The cluster so far is accepted, and so are the rows; what was not read yet is as before the first field.
 pub record Well (r : Reading) : Type 0 where
   pub accepted : Accepted (r .cluster)
   pub alone : r .last < 3 → r .cluster .redundancy ≡ 1

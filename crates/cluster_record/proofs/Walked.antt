@@ -34,7 +34,7 @@ pub record Walked (s rows : List ℕ) (c : Cluster) (last next at : ℕ) : Type 
   pub passed : next ≡ length (reading .former)
   pub cells : rows ≡ cellsOf (reading .former)
 
--- In the nothingRead.
+-- Before the first field.
 pub walked-start : (s rows : List ℕ) (c : Cluster) → c ≡ noNodes → rows ≡ replicate layoutCells 0 → Walked s rows c 0 0 0
 unfolding readCluster nothingRead slotsOf
 walked-start s rows c e z = record {

@@ -193,10 +193,6 @@ number-here s rest at w n e h =
     ∙ (ap numberOf (take-at (bytesOf w n) rest w (length-bytes w n)) ∙ number-bytes w n h)))
     (lt-or-ge (length s) (at + w))
 
--- The same behind any bytes.
-pub number-front : (p rest : List ℕ) (w n : ℕ) → n < 256 ^ w → numberAt (p ++ (bytesOf w n ++ rest)) (length p) w ≡ n
-number-front p rest w n h = number-here (p ++ (bytesOf w n ++ rest)) rest (length p) w n (drop-append-seam p (bytesOf w n ++ rest)) h
-
 -- After the w bytes of a number stands what stands after them.
 pub after-number : (s rest : List ℕ) (at w n : ℕ) → drop at s ≡ bytesOf w n ++ rest → drop (at + w) s ≡ rest
 after-number s rest at w n e =

@@ -21,7 +21,7 @@ use Rattle.fields.specs.RecordField.{bytesOf, Bytes, part, numberAt, hea
 use Rattle.fields.specs.declared.Rule.{Rule}
 use Rattle.fields.specs.declared.Field.{Field}
 use Rattle.fields.specs.declared.Field.the-variants.{Body, Refused}
-use Rattle.fields.proofs.Numbers.{length-bytes, has-true, has-false, number-byte, number-here, bytes-there, bytes-byte, bytes-join, length-part}
+use Rattle.fields.proofs.Numbers.{length-bytes, has-true, has-false, number-byte, number-here, bytes-there, length-part}
 
 -- Of two tests that both hold each holds.
 and-left : (a b : Bool) → a && b ≡ true → a ≡ true
@@ -93,14 +93,6 @@ legal-step tag len h =
 pub legal-true : (tag len : ℕ) → ruleOf tag .least ≤ len → len ≤ ruleOf tag .greatest → (len - ruleOf tag .least) % ruleOf tag .step ≡ 0 → legal tag len ≡ true
 unfolding legal
 legal-true tag len a b e = simp (le-leb _ _ a, le-leb _ _ b, eq-eqb _ _ e)
-
--- Tag 0, and a tag that the table does not have, have no legal length.
-pub legal-none : (tag len : ℕ) → ruleOf tag ≡ noLength → legal tag len ≡ false
-legal-none tag len e =
-    ⊎-elim
-    (λ t. absurd
-    (omega (arith, subst (λ (r : Rule). r .least ≤ len) e (legal-least tag len t), subst (λ (r : Rule). len ≤ r .greatest) e (legal-greatest tag len t))))
-    (λ f. f) (true-or-false (legal tag len))
 
 -- Legal where no one length is asked for.
 pub legal-any : (tag len : ℕ) → legalAs 0 tag len ≡ legal tag len
@@ -241,12 +233,6 @@ pub field-bytes : (tag : ℕ) (body : List ℕ) → tag < 256 → field tag body
 unfolding field bytesOf
 field-bytes tag body h = ap (λ (k : ℕ). k ∷ (bytesOf 2 (length body) ++ body)) (sym (ap (λ (k : ℕ). k % 256) (div-one tag) ∙ mod-eq-of-lt h))
 
--- A field is made of bytes.
-pub bytes-field : (tag : ℕ) (body : List ℕ) → tag < 256 → Bytes body → Bytes (field tag body)
-bytes-field tag body h b =
-    subst Bytes (sym (field-bytes tag body h))
-    (bytes-join (bytesOf 1 tag) (bytesOf 2 (length body) ++ body) (bytes-byte 1 tag) (bytes-join (bytesOf 2 (length body)) body (bytes-byte 2 (length body)) b))
-
 module _ (s rest body : List ℕ) (at tag : ℕ) (e : drop at s ≡ field tag body ++ rest) where
   -- After its tag a field has its length and its body.
   head-here : drop (at + 1) s ≡ bytesOf 2 (length body) ++ (body ++ rest)
@@ -276,9 +262,3 @@ module _ (s rest body : List ℕ) (at tag : ℕ) (e : drop at s ≡ field tag bo
       let n : numberAt s (at + 1) 2 ≡ length body = number-here s (body ++ rest) (at + 1) 2 (length body) head-here short in
       field-whole s at allowed exact (omega arith) (ap (λ (k : ℕ). mem k allowed) a ∙ t) (ap₂ (legalAs exact) a n ∙ l) (omega arith)
       ∙ ap₂ (λ (x y : ℕ). Body x (at + 3) y) a n
-
--- The same behind any bytes.
-pub field-front : (before body rest : List ℕ) (tag : ℕ) (allowed : List ℕ) (exact : ℕ) → mem tag allowed ≡ true → legalAs exact tag (length body) ≡ true
-    → fieldAt (before ++ (field tag body ++ rest)) (length before) allowed exact ≡ Body tag (length before + 3) (length body)
-field-front before body rest tag allowed exact t l =
-    field-here (before ++ (field tag body ++ rest)) rest body (length before) tag (drop-append-seam before (field tag body ++ rest)) allowed exact t l

@@ -1,7 +1,7 @@
 -- The laws of writing: bytes written one after the other, and a record that is written from front to back.
 -- Assumes nothing.
 use Prim.Native.Nat.{ℕ, _+_, _/_, _%_, _^_, _≤_, _<_}
-use mathlib.Core.Path.{_≡_, refl, sym, ap, ap₂, _∙_}
+use mathlib.Core.Path.{_≡_, sym, ap, ap₂, _∙_}
 use mathlib.Core.Bool.{Bool, cond}
 use mathlib.Core.List.{List, [], _∷_, _++_, append-assoc, append-nil}
 use mathlib.Core.Logic.{⊎-elim}
@@ -22,11 +22,6 @@ written-fits s at l h = ap (λ (t : Bool). cond t (take at s ++ l ++ drop (at + 
 pub written-not : (s : List ℕ) (at : ℕ) (l : List ℕ) → length s < at + length l → written s at l ≡ s
 unfolding written
 written-not s at l h = ap (λ (t : Bool). cond t (take at s ++ l ++ drop (at + length l) s) s) (has-false (length s) at (length l) h)
-
--- Of no record nothing is left in a buffer.
-pub over-none : (s : List ℕ) → over [] s ≡ s
-unfolding over
-over-none s = refl
 
 -- A record that fits leaves the buffer its length.
 pub length-over : (p s : List ℕ) → length p ≤ length s → length (over p s) ≡ length s

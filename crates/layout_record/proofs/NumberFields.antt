@@ -115,10 +115,6 @@ pub first-holds : (e : Entry) (es : List Entry) (v : ℕ) (vs : List ℕ) → al
 unfolding allHold
 first-holds e es v vs h = both (holds e v) (allHold es vs) h
 
-pub more-hold : (e : Entry) (es : List Entry) (v : ℕ) (vs : List ℕ) → e .least ≤ v → v ≤ e .most → allHold es vs ≡ true → allHold (e ∷ es) (v ∷ vs) ≡ true
-unfolding allHold
-more-hold e es v vs l m h = simp (le-leb (e .least) v l, le-leb v (e .most) m, h)
-
 -- The numbers on which the rows depend.
 pub few-bits : (n : Numbers) → inRange n ≡ true → n .bits ≤ mostBits
 few-bits n h = entry-range (entryAt 0) (n .bits) (first-holds _ _ _ _ h .0) .1

@@ -1,6 +1,7 @@
 // What the program prints, line by line.
 ghost use Prim.Native.Nat.{_≤_};
 ghost use lib.ListN.{length};
+ghost use Rattle.cluster.specs.Terms.{mostBits, layoutCells};
 use cluster::Cluster;
 use libc::STDOUT_FILENO;
 use planner::Planned;
@@ -51,7 +52,7 @@ fn row(partition: u32, cells: &[u32]) {
 
 // The lines of all partitions.
 pub(crate) fn rows(bits: u32, assignment: &[u32])
-    requires { ⌜ (bits ≤ 8) × (2048 ≤ length (now assignment)) ⌝ }
+    requires { ⌜ (bits ≤ mostBits) × (layoutCells ≤ length (now assignment)) ⌝ }
 {
     let partitions: u32 = 1 << bits;
     let mut p = 0;

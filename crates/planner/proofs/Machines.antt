@@ -18,7 +18,7 @@ use Rattle.cells.proofs.Cells.{length-tab, getD-tab}
 use Rattle.exchange.specs.ModelRow.{weigh}
 use Rattle.exchange.proofs.Agreeing.{weigh-cong, within-cong}
 use Rattle.cluster.specs.Terms.{bufferRows, Topology, partitions, nodeAt, mem, Layout, row, ValidAt, IsFormer, distance}
-use Rattle.cluster.specs.TermsReading.{Accepted, Fits32}
+use Rattle.cluster.specs.TermsReading.{mostImprovements, Accepted, Fits32}
 use Rattle.incidence.specs.ModelIncidence.{zoneIndex, capAt, incidence, formerPairs, zoneCells}
 use Rattle.incidence.proofs.TieZones.{zone-below}
 use Rattle.incidence.proofs.TieDistance.{incidence-le, distance-law}
@@ -159,6 +159,6 @@ module _ (t : Topology) (acc : Accepted t) where
             falls = falls;
             bounded = bounded;
             nearest = none-nearer;
-            enough = run-finishes ground start g 2048 (mul-le-mul (few-partitions (t .bits) (acc .bits)) (acc .replication .1));
+            enough = run-finishes ground start g mostImprovements (mul-le-mul (few-partitions (t .bits) (acc .bits)) (acc .replication .1));
             blank = blank start g;
           }

@@ -9,7 +9,7 @@ use lib.Dec.{ltb, eqb}
 use lib.ListN.{length, drop, replicate}
 use borrow.Author.Tests.{le-ltb}
 use Rattle.cells.proofs.Cells.{tab-cong}
-use Rattle.cluster.specs.Terms.{Topology, topology, partitions, idsOf, rising, rowAt, idsIn, formed, rowsIn, cellsOf, faultOf, outOfRange}
+use Rattle.cluster.specs.Terms.{layoutCells, scratchCells, mostNodes, Topology, topology, partitions, idsOf, rising, rowAt, idsIn, formed, rowsIn, cellsOf, faultOf, outOfRange}
 use Rattle.cluster.specs.declared.Cluster.{Cluster}
 use Rattle.sizing.specs.ModelSizing.{sizeOf}
 use Rattle.sums.specs.TermsSums.{everyTo}
@@ -17,8 +17,8 @@ use Rattle.planner.specs.ModelPlan.{planOf}
 use Rattle.planner.specs.TermsPlan.{unusable, planRefusal, refusedWith, answered, plannedOf, assignmentAfter, scratchAfter}
 use Rattle.planner.proofs.Refusals.{every-cong}
 
-module _ (c d : Cluster) (nodes : topology c ≡ topology d) (few : c .count ≤ 32) (few′ : d .count ≤ 32) (f g : List ℕ) (whole : 2048 ≤ length f)
-    (whole′ : 2048 ≤ length g) (rows : (p : ℕ) → p < partitions (topology c) → rowAt f p ≡ rowAt g p)
+module _ (c d : Cluster) (nodes : topology c ≡ topology d) (few : c .count ≤ mostNodes) (few′ : d .count ≤ mostNodes) (f g : List ℕ) (whole : layoutCells ≤ length f)
+    (whole′ : layoutCells ≤ length g) (rows : (p : ℕ) → p < partitions (topology c) → rowAt f p ≡ rowAt g p)
   where
     -- The fault of a cluster of no more than 32 nodes is that of its topology.
     fault-of : Topology → ℕ
@@ -27,8 +27,8 @@ module _ (c d : Cluster) (nodes : topology c ≡ topology d) (few : c .count ≤
     same-fault : faultOf c ≡ faultOf d
     unfolding faultOf fault-of
     same-fault =
-        ap (λ (b : Bool). cond b 6 (fault-of (topology c))) (le-ltb 32 (c .count) few)
-        ∙ (ap fault-of nodes ∙ sym (ap (λ (b : Bool). cond b 6 (fault-of (topology d))) (le-ltb 32 (d .count) few′)))
+        ap (λ (b : Bool). cond b 6 (fault-of (topology c))) (le-ltb mostNodes (c .count) few)
+        ∙ (ap fault-of nodes ∙ sym (ap (λ (b : Bool). cond b 6 (fault-of (topology d))) (le-ltb mostNodes (d .count) few′)))
 
     same-former : rowsIn (partitions (topology c)) f ≡ rowsIn (partitions (topology d)) g
     unfolding rowsIn
@@ -40,10 +40,10 @@ module _ (c d : Cluster) (nodes : topology c ≡ topology d) (few : c .count ≤
       same-unusable : unusable c f a s ≡ unusable d g a s
       unfolding unusable
       same-unusable =
-          ap₂ (λ (x y : Bool). cond (x || ltb a 2048 || ltb s 16384) 8 (cond (eqb (faultOf c) 0) (cond y 0 5) (faultOf c)))
-          (le-ltb (length f) 2048 whole ∙ sym (le-ltb (length g) 2048 whole′))
+          ap₂ (λ (x y : Bool). cond (x || ltb a layoutCells || ltb s scratchCells) 8 (cond (eqb (faultOf c) 0) (cond y 0 5) (faultOf c)))
+          (le-ltb (length f) layoutCells whole ∙ sym (le-ltb (length g) layoutCells whole′))
           (every-cong (partitions (topology c)) (λ p. formed (rowAt f p)) (λ p. formed (rowAt g p)) (λ p l. ap formed (rows p l)) ∙ ap (λ (t : Topology). everyTo (partitions t) (λ p. formed (rowAt g p))) nodes)
-          ∙ ap (λ (n : ℕ). cond (ltb (length g) 2048 || ltb a 2048 || ltb s 16384) 8 (cond (eqb n 0) (cond (everyTo (partitions (topology d)) (λ p. formed (rowAt g p))) 0 5) n)) same-fault
+          ∙ ap (λ (n : ℕ). cond (ltb (length g) layoutCells || ltb a layoutCells || ltb s scratchCells) 8 (cond (eqb n 0) (cond (everyTo (partitions (topology d)) (λ p. formed (rowAt g p))) 0 5) n)) same-fault
 
       same-refusal : planRefusal c f a s ≡ planRefusal d g a s
       unfolding planRefusal
@@ -59,8 +59,8 @@ module _ (c d : Cluster) (nodes : topology c ≡ topology d) (few : c .count ≤
     pub cells-only : (allowance : ℕ) (cells : List ℕ) (s : ℕ) → assignmentAfter c f allowance cells s ≡ assignmentAfter d g allowance cells s
     unfolding assignmentAfter
     cells-only allowance cells s =
-        λ i. cond (eqb (same-refusal (length cells) s i) 0) (cellsOf (planOf (nodes i) (same-former i) allowance .layout) ++ drop 2048 cells) cells
+        λ i. cond (eqb (same-refusal (length cells) s i) 0) (cellsOf (planOf (nodes i) (same-former i) allowance .layout) ++ drop layoutCells cells) cells
 
     pub scratch-only : (a : ℕ) (cells : List ℕ) → scratchAfter c f a cells ≡ scratchAfter d g a cells
     unfolding scratchAfter
-    scratch-only a cells = λ i. cond (eqb (same-unusable a (length cells) i) 0) (replicate 16384 0 ++ drop 16384 cells) cells
+    scratch-only a cells = λ i. cond (eqb (same-unusable a (length cells) i) 0) (replicate scratchCells 0 ++ drop scratchCells cells) cells

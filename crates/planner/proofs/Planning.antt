@@ -9,7 +9,7 @@ use native.Mathlib.Omega.{arith}
 use lib.Dec.{eqb}
 use lib.ListN.{length, drop, replicate}
 use borrow.Author.Tests.{eq-eqb, ne-eqb}
-use Rattle.cluster.specs.Terms.{topology, partitions, IsFormer, cellsOf, rowsIn, faultOf}
+use Rattle.cluster.specs.Terms.{layoutCells, scratchCells, topology, partitions, IsFormer, cellsOf, rowsIn, faultOf}
 use Rattle.cluster.specs.declared.Cluster.{Cluster}
 use Rattle.cluster.proofs.Accepting.{accepted}
 use Rattle.cluster.specs.TermsReading.{Fits32}
@@ -38,7 +38,7 @@ module _ (c : Cluster) (former : List ℕ) (allowance : ℕ) (assignment scratch
   unfolding plannedOf assignmentAfter
   with-refusal n e some = (
     sym (ap (λ (b : Bool). cond b (answered (planIn c former allowance)) (refusedWith (planRefusal c former a s))) test ∙ ap refusedWith e),
-    sym (ap (λ (b : Bool). cond b (cellsOf (planIn c former allowance .layout) ++ drop 2048 assignment) assignment) test),
+    sym (ap (λ (b : Bool). cond b (cellsOf (planIn c former allowance .layout) ++ drop layoutCells assignment) assignment) test),
   )
     where
       test : eqb (planRefusal c former a s) 0 ≡ false
@@ -50,7 +50,7 @@ module _ (c : Cluster) (former : List ℕ) (allowance : ℕ) (assignment scratch
   refused-ends u e some r q = (
     q ∙ (ap refusedWith e ∙ w .0),
     w .1,
-    sym (ap (λ (b : Bool). cond b (replicate 16384 0 ++ drop 16384 scratch) scratch) test),
+    sym (ap (λ (b : Bool). cond b (replicate scratchCells 0 ++ drop scratchCells scratch) scratch) test),
     λ z. absurd (not-zero z),
   )
     where
@@ -76,12 +76,12 @@ module _ (c : Cluster) (former : List ℕ) (allowance : ℕ) (assignment scratch
     unfolding planRefusal
     none-or-nine = ap (λ (b : Bool). cond b (cond (eqb (sizeOf (topology c)) 0) 9 0) (unusable c former a s)) (eq-eqb (unusable c former a s) 0 u)
 
-    cleared : (rest : List ℕ) → rest ≡ replicate 16384 0 ++ drop 16384 scratch → rest ≡ scratchAfter c former a scratch
+    cleared : (rest : List ℕ) → rest ≡ replicate scratchCells 0 ++ drop scratchCells scratch → rest ≡ scratchAfter c former a scratch
     unfolding scratchAfter
-    cleared rest e = e ∙ sym (ap (λ (b : Bool). cond b (replicate 16384 0 ++ drop 16384 scratch) scratch) (eq-eqb (unusable c former a s) 0 u))
+    cleared rest e = e ∙ sym (ap (λ (b : Bool). cond b (replicate scratchCells 0 ++ drop scratchCells scratch) scratch) (eq-eqb (unusable c former a s) 0 u))
 
     -- No layout is valid at size 1.
-    pub none-ends : (size : ℕ) → size ≡ sizeIn c → size ≡ 0 → (rest : List ℕ) → rest ≡ replicate 16384 0 ++ drop 16384 scratch
+    pub none-ends : (size : ℕ) → size ≡ sizeIn c → size ≡ 0 → (rest : List ℕ) → rest ≡ replicate scratchCells 0 ++ drop scratchCells scratch
         → (r : Planned) → r ≡ refusedWith 9 → Ends r assignment rest
     none-ends size e z rest er r q =
         let none : sizeOf (topology c) ≡ 0 = sym (size-in c faultless) ∙ (sym e ∙ z) in
@@ -95,9 +95,9 @@ module _ (c : Cluster) (former : List ℕ) (allowance : ℕ) (assignment scratch
         )
 
     -- The plan is made.
-    pub planned-ends : (size : ℕ) → size ≡ sizeIn c → (size ≡ 0 → ⊥) → (rest : List ℕ) → rest ≡ replicate 16384 0 ++ drop 16384 scratch
+    pub planned-ends : (size : ℕ) → size ≡ sizeIn c → (size ≡ 0 → ⊥) → (rest : List ℕ) → rest ≡ replicate scratchCells 0 ++ drop scratchCells scratch
         → (r : Planned) → r ≡ answered (planIn c former allowance) → (cells : List ℕ)
-        → cells ≡ cellsOf (planIn c former allowance .layout) ++ drop 2048 assignment → Fits32 (topology c) → Ends r cells rest
+        → cells ≡ cellsOf (planIn c former allowance .layout) ++ drop layoutCells assignment → Fits32 (topology c) → Ends r cells rest
     unfolding plannedOf assignmentAfter
     planned-ends size e some rest er r q cells ec low =
         let large : sizeOf (topology c) ≡ 0 → ⊥ = λ z. some (e ∙ (size-in c faultless ∙ z)) in
@@ -105,7 +105,7 @@ module _ (c : Cluster) (former : List ℕ) (allowance : ℕ) (assignment scratch
         let test = eq-eqb (planRefusal c former a s) 0 no-refusal in
         let zero : r .refusal ≡ 0 = ap (λ (p : Planned). p .refusal) q in (
           q ∙ sym (ap (λ (b : Bool). cond b (answered (planIn c former allowance)) (refusedWith (planRefusal c former a s))) test),
-          ec ∙ sym (ap (λ (b : Bool). cond b (cellsOf (planIn c former allowance .layout) ++ drop 2048 assignment) assignment) test),
+          ec ∙ sym (ap (λ (b : Bool). cond b (cellsOf (planIn c former allowance .layout) ++ drop layoutCells assignment) assignment) test),
           cleared rest er,
           λ v. record {
             nine = λ x. absurd (omega (arith, zero, x));

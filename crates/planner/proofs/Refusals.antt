@@ -8,7 +8,7 @@ use native.Mathlib.Omega.{arith}
 use lib.Dec.{ltb, eqb}
 use lib.ListN.{length}
 use borrow.Author.Tests.{le-leb, lt-ltb, le-ltb, eq-eqb, ne-eqb, eqb-true, ltb-false}
-use Rattle.cluster.specs.Terms.{topology, partitions, Layout, IsFormer, cellsOf, rowAt, idsIn, formed, rowsIn, faultOf}
+use Rattle.cluster.specs.Terms.{bufferRows, layoutCells, scratchCells, rowCells, topology, partitions, Layout, IsFormer, cellsOf, rowAt, idsIn, formed, rowsIn, faultOf}
 use Rattle.cluster.specs.ModelRows.{illFormed, idCount, rowIds, FitsCells, HoldsRows}
 use Rattle.cluster.specs.declared.Cluster.{Cluster}
 use Rattle.cluster.proofs.Accepting.{few-partitions, accepted}
@@ -27,90 +27,90 @@ every-cong zero f g h = refl
 every-cong (suc n) f g h = ap₂ _&&_ (every-cong n f g (λ i l. h i (omega arith))) (h n (omega arith))
 
 -- The test of the former rows that code makes is the one of the definition.
-module _ (cells : List ℕ) (whole : 2048 ≤ length cells) where
-  test : (b : Bool) (n : ℕ) → n ≤ 8 → ltb (cond b n illFormed) illFormed ≡ b
+module _ (cells : List ℕ) (whole : layoutCells ≤ length cells) where
+  test : (b : Bool) (n : ℕ) → n ≤ rowCells → ltb (cond b n illFormed) illFormed ≡ b
   test true n l = lt-ltb n illFormed (omega arith)
   test false n l = refl
 
-  one-row : (p : ℕ) → p < 256 → ltb (rowIds cells p) illFormed ≡ formed (rowAt cells p)
+  one-row : (p : ℕ) → p < bufferRows → ltb (rowIds cells p) illFormed ≡ formed (rowAt cells p)
   unfolding rowIds idCount
   one-row p l =
       ap (λ (b : Bool). ltb (cond b (idCount (rowAt cells p)) illFormed) illFormed) (row-of-buffer cells p whole l)
       ∙ test (formed (rowAt cells p)) (length (idsIn (rowAt cells p))) (few-ids cells p)
 
-  rows-same : (n : ℕ) → n ≤ 256 → everyTo n (λ p. formed (rowAt cells p)) ≡ rowsFormed cells n
+  rows-same : (n : ℕ) → n ≤ bufferRows → everyTo n (λ p. formed (rowAt cells p)) ≡ rowsFormed cells n
   unfolding rowsFormed
-  rows-same n l = sym (ap (λ (b : Bool). b && everyTo n (λ p. ltb (rowIds cells p) illFormed)) (le-leb n 256 l) ∙ every-cong n (λ p. ltb (rowIds cells p) illFormed) (λ p. formed (rowAt cells p)) (λ p h. one-row p (omega arith)))
+  rows-same n l = sym (ap (λ (b : Bool). b && everyTo n (λ p. ltb (rowIds cells p) illFormed)) (le-leb n bufferRows l) ∙ every-cong n (λ p. ltb (rowIds cells p) illFormed) (λ p. formed (rowAt cells p)) (λ p h. one-row p (omega arith)))
 
 -- The same of the former rows of a cluster without fault.
-former-same : (c : Cluster) (former : List ℕ) → 2048 ≤ length former → faultOf c ≡ 0
+former-same : (c : Cluster) (former : List ℕ) → layoutCells ≤ length former → faultOf c ≡ 0
     → everyTo (partitions (topology c)) (λ p. formed (rowAt former p)) ≡ rowsFormed former (partitions (topology c))
 former-same c former whole e = rows-same former whole (partitions (topology c)) (few-partitions (c .bits) (accepted c e .bits))
 
 module _ (c : Cluster) (former : List ℕ) (a s : ℕ) where
-  pub short-former : length former < 2048 → 8 ≡ unusable c former a s
+  pub short-former : length former < layoutCells → 8 ≡ unusable c former a s
   unfolding unusable
-  short-former h = simp (lt-ltb (length former) 2048 h)
+  short-former h = simp (lt-ltb (length former) layoutCells h)
 
-  pub short-assignment : 2048 ≤ length former → a < 2048 → 8 ≡ unusable c former a s
+  pub short-assignment : layoutCells ≤ length former → a < layoutCells → 8 ≡ unusable c former a s
   unfolding unusable
-  short-assignment f h = simp (le-ltb (length former) 2048 f, lt-ltb a 2048 h)
+  short-assignment f h = simp (le-ltb (length former) layoutCells f, lt-ltb a layoutCells h)
 
-  module _ (f : 2048 ≤ length former) (g : 2048 ≤ a) where
-    pub short-scratch : s < 16384 → 8 ≡ unusable c former a s
+  module _ (f : layoutCells ≤ length former) (g : layoutCells ≤ a) where
+    pub short-scratch : s < scratchCells → 8 ≡ unusable c former a s
     unfolding unusable
-    short-scratch h = simp (le-ltb (length former) 2048 f, le-ltb a 2048 g, lt-ltb s 16384 h)
+    short-scratch h = simp (le-ltb (length former) layoutCells f, le-ltb a layoutCells g, lt-ltb s scratchCells h)
 
-    module _ (h : 16384 ≤ s) where
+    module _ (h : scratchCells ≤ s) where
       pub faulty : (faultOf c ≡ 0 → ⊥) → faultOf c ≡ unusable c former a s
       unfolding unusable
-      faulty n = simp (le-ltb (length former) 2048 f, le-ltb a 2048 g, le-ltb s 16384 h, ne-eqb (faultOf c) 0 n)
+      faulty n = simp (le-ltb (length former) layoutCells f, le-ltb a layoutCells g, le-ltb s scratchCells h, ne-eqb (faultOf c) 0 n)
 
       pub usable : faultOf c ≡ 0 → rowsFormed former (partitions (topology c)) ≡ true → 0 ≡ unusable c former a s
       unfolding unusable
-      usable e r = simp (le-ltb (length former) 2048 f, le-ltb a 2048 g, le-ltb s 16384 h, eq-eqb (faultOf c) 0 e, former-same c former f e, r)
+      usable e r = simp (le-ltb (length former) layoutCells f, le-ltb a layoutCells g, le-ltb s scratchCells h, eq-eqb (faultOf c) 0 e, former-same c former f e, r)
 
       pub ill-formed : faultOf c ≡ 0 → rowsFormed former (partitions (topology c)) ≡ false → 5 ≡ unusable c former a s
       unfolding unusable
-      ill-formed e r = simp (le-ltb (length former) 2048 f, le-ltb a 2048 g, le-ltb s 16384 h, eq-eqb (faultOf c) 0 e, former-same c former f e, r)
+      ill-formed e r = simp (le-ltb (length former) layoutCells f, le-ltb a layoutCells g, le-ltb s scratchCells h, eq-eqb (faultOf c) 0 e, former-same c former f e, r)
 
 -- What is there where nothing is refused.
 pub record Usable (c : Cluster) (former : List ℕ) (a s : ℕ) : Type 0 where
-  pub former-long : 2048 ≤ length former
-  pub assignment-long : 2048 ≤ a
-  pub scratch-long : 16384 ≤ s
+  pub former-long : layoutCells ≤ length former
+  pub assignment-long : layoutCells ≤ a
+  pub scratch-long : scratchCells ≤ s
   pub faultless : faultOf c ≡ 0
   pub rows-formed : rowsFormed former (partitions (topology c)) ≡ true
 
 pub usable-has : (c : Cluster) (former : List ℕ) (a s : ℕ) → unusable c former a s ≡ 0 → Usable c former a s
 unfolding unusable
-usable-has c former a s e = go (ltb (length former) 2048) refl (ltb a 2048) refl (ltb s 16384) refl e
+usable-has c former a s e = go (ltb (length former) layoutCells) refl (ltb a layoutCells) refl (ltb s scratchCells) refl e
   where
-    rows : 2048 ≤ length former → 2048 ≤ a → 16384 ≤ s → faultOf c ≡ 0 → (r : Bool) → everyTo (partitions (topology c)) (λ p. formed (rowAt former p)) ≡ r
+    rows : layoutCells ≤ length former → layoutCells ≤ a → scratchCells ≤ s → faultOf c ≡ 0 → (r : Bool) → everyTo (partitions (topology c)) (λ p. formed (rowAt former p)) ≡ r
         → _≡_ {A = ℕ} (cond r 0 5) 0 → Usable c former a s
     rows f g h z true q k = record { former-long = f; assignment-long = g; scratch-long = h; faultless = z; rows-formed = sym (former-same c former f z) ∙ q }
     rows f g h z false q k = absurd (omega arith)
 
-    fault : 2048 ≤ length former → 2048 ≤ a → 16384 ≤ s → (t : Bool) → eqb (faultOf c) 0 ≡ t
+    fault : layoutCells ≤ length former → layoutCells ≤ a → scratchCells ≤ s → (t : Bool) → eqb (faultOf c) 0 ≡ t
         → _≡_ {A = ℕ} (cond t (cond (everyTo (partitions (topology c)) (λ p. formed (rowAt former p))) 0 5) (faultOf c)) 0 → Usable c former a s
     fault f g h true q k = rows f g h (eqb-true (faultOf c) 0 q) (everyTo (partitions (topology c)) (λ p. formed (rowAt former p))) refl k
     fault f g h false q k = absurd (not-both (eqb (faultOf c) 0) (eq-eqb (faultOf c) 0 k) q)
 
-    go : (x : Bool) → ltb (length former) 2048 ≡ x → (y : Bool) → ltb a 2048 ≡ y → (z : Bool) → ltb s 16384 ≡ z
+    go : (x : Bool) → ltb (length former) layoutCells ≡ x → (y : Bool) → ltb a layoutCells ≡ y → (z : Bool) → ltb s scratchCells ≡ z
         → _≡_ {A = ℕ} (cond (x || y || z) 8 (cond (eqb (faultOf c) 0) (cond (everyTo (partitions (topology c)) (λ p. formed (rowAt former p))) 0 5) (faultOf c))) 0
         → Usable c former a s
     go true p y q z r k = absurd (omega arith)
     go false p true q z r k = absurd (omega arith)
     go false p false q true r k = absurd (omega arith)
     go false p false q false r k =
-        fault (ltb-false (length former) 2048 p) (ltb-false a 2048 q) (ltb-false s 16384 r) (eqb (faultOf c) 0) refl k
+        fault (ltb-false (length former) layoutCells p) (ltb-false a layoutCells q) (ltb-false s scratchCells r) (eqb (faultOf c) 0) refl k
 
 -- The former layout that a usable call is lent.
 pub lent-former : (c : Cluster) (former : List ℕ) (a s : ℕ) → Usable c former a s → IsFormer (topology c) (rowsIn (partitions (topology c)) former)
 lent-former c former a s u = formed-former (topology c) former (u .rows-formed)
 
 -- A cluster without fault and the cells of a former layout of it leave nothing to refuse but the lack of a layout, where the buffers are long enough.
-pub cells-usable : (c : Cluster) (F : Layout) (rest : List ℕ) (a s : ℕ) → faultOf c ≡ 0 → IsFormer (topology c) F → 2048 ≤ a → 16384 ≤ s
+pub cells-usable : (c : Cluster) (F : Layout) (rest : List ℕ) (a s : ℕ) → faultOf c ≡ 0 → IsFormer (topology c) F → layoutCells ≤ a → scratchCells ≤ s
     → unusable c (cellsOf F ++ rest) a s ≡ 0
 cells-usable c F rest a s e f long ample =
     let P = partitions (topology c) in

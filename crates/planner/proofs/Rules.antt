@@ -10,6 +10,7 @@ use lib.ListN.{length}
 use Rattle.sums.proofs.Sum.{lt-or-ge}
 use Rattle.cluster.specs.Terms.{Topology, partitions, Layout, row, ValidAt, IsSize, distance}
 use Rattle.improve.specs.ModelRun.{Ran, run}
+use Rattle.cluster.specs.TermsReading.{mostImprovements}
 use Rattle.planner.specs.Demand.{Answer, Rules}
 use Rattle.planner.specs.ModelPlan.{reached, answerAt}
 use Rattle.sums.proofs.Tests.{true-or-false}
@@ -26,7 +27,7 @@ module _ (t : Topology) (F : Layout) (s : ℕ) {A : Type 0} (improves : A → Bo
     pub falls : (x : A) → Good x → improves x ≡ true → far (next x) + 2 ≤ far x
     pub bounded : (x : A) → Good x → improves x ≡ true → far x ≤ far (next x) + 2 * length (t .nodes)
     pub nearest : (x : A) → Good x → improves x ≡ false → (L : Layout) → ValidAt t L s → far x ≤ distance t L F
-    pub enough : run improves next 2048 start .finished ≡ true
+    pub enough : run improves next mostImprovements start .finished ≡ true
     pub blank : ((p : ℕ) → p < partitions t → row F p ≡ []) → (improves start ≡ false) × (far start ≡ t .replication * partitions t)
 
   abbrev plan : ℕ → Answer
@@ -86,16 +87,16 @@ module _ (t : Topology) (F : Layout) (s : ℕ) {A : Type 0} (improves : A → Bo
 
     -- ---- the rules
 
-    counted : (a : ℕ) → plan a .improvements ≡ min a (plan 2048 .improvements)
+    counted : (a : ℕ) → plan a .improvements ≡ min a (plan mostImprovements .improvements)
     counted a =
         ⊎-elim
         (λ e.
-        let l = smallest a e 2048 (machine .enough) in
-        omega (arith, steps-few a, ap (λ (x : Answer). x .improvements) (same a e 2048 l)))
+        let l = smallest a e mostImprovements (machine .enough) in
+        omega (arith, steps-few a, ap (λ (x : Answer). x .improvements) (same a e mostImprovements l)))
         (λ e.
         ⊎-elim (λ l. omega (arith, spent a e))
-        (λ g. absurd (not-both (plan a .finished) (ap (λ (x : Answer). x .finished) (same 2048 (machine .enough) a g) ∙ machine .enough) e))
-        (lt-or-ge a (plan 2048 .improvements)))
+        (λ g. absurd (not-both (plan a .finished) (ap (λ (x : Answer). x .finished) (same mostImprovements (machine .enough) a g) ∙ machine .enough) e))
+        (lt-or-ge a (plan mostImprovements .improvements)))
         (true-or-false (plan a .finished))
 
     exactly : (a : ℕ) → ((L : Layout) → ValidAt t L s → plan a .distance ≤ distance t L F) → plan a .finished ≡ true

@@ -12,7 +12,7 @@ use borrow.Author.Tests.{le-ltb, le-leb}
 use Rattle.sets.specs.ModelBits.{maskOf}
 use Rattle.sets.proofs.Laws.{mask-cong}
 use Rattle.cells.proofs.Cells.{tab-cong}
-use Rattle.cluster.specs.Terms.{Topology, topology, partitions, Layout, IsFormer, rowsIn, cellsOf, rowAt, idsIn, faultOf}
+use Rattle.cluster.specs.Terms.{bufferRows, layoutCells, mostCopies, Topology, topology, partitions, Layout, IsFormer, rowsIn, cellsOf, rowAt, idsIn, faultOf}
 use Rattle.cluster.specs.TermsReading.{Accepted, Fits32}
 use Rattle.incidence.specs.ModelIncidence.{bitsOf, incidence, formerPairs, zoneCells}
 use Rattle.cluster.specs.declared.Cluster.{Cluster}
@@ -34,26 +34,26 @@ use Rattle.planner.proofs.Machines.{GoodRows, start-good, fm-long, grou
 -- ---- the numbers of a cluster without fault
 
 -- Copies of all partitions.
-pub copies-few : (r p : ℕ) → r ≤ 8 → p ≤ 256 → r * p ≤ 2048
+pub copies-few : (r p : ℕ) → r ≤ mostCopies → p ≤ bufferRows → r * p ≤ layoutCells
 copies-few r p a b = omega (arith, mul-le-mul a b)
 
 -- The pairs that code counts are those of the definition.
-pub shared-is : (rows before : List ℕ) (P x : ℕ) → P ≤ 256 → P ≤ length rows → P ≤ length before → x ≡ sharedIn rows before P → x ≡ agreementIn rows before P
+pub shared-is : (rows before : List ℕ) (P x : ℕ) → P ≤ bufferRows → P ≤ length rows → P ≤ length before → x ≡ sharedIn rows before P → x ≡ agreementIn rows before P
 unfolding sharedIn
-shared-is rows before P x a b c e = e ∙ simp (le-ltb 256 P a, le-ltb (length rows) P b, le-ltb (length before) P c)
+shared-is rows before P x a b c e = e ∙ simp (le-ltb bufferRows P a, le-ltb (length rows) P b, le-ltb (length before) P c)
 
 -- ---- the run
 
 -- The run from the dealt rows, with the numbers and cells that code makes of the cluster.
 module _ (c : Cluster) (size P n : ℕ) (before rows zones mates caps dealt : List ℕ) (a : ℕ) (e : faultOf c ≡ 0) (eP : P ≡ partitions (topology c))
-    (en : n ≡ nodesOf (topology c)) (e-rows : rows ≡ replicate 256 0) (e-dealt : dealt ≡ dealtIn c size rows) (e-zones : zones ≡ zoneCells (topology c))
+    (en : n ≡ nodesOf (topology c)) (e-rows : rows ≡ replicate bufferRows 0) (e-dealt : dealt ≡ dealtIn c size rows) (e-zones : zones ≡ zoneCells (topology c))
     (e-mates : mates ≡ mateCells zones n) (e-caps : caps ≡ capCells (topology c) size)
   where
     the-dealt : dealt ≡ dealtAt (topology c) size
     the-dealt =
         e-dealt
         ∙ (ap (dealtIn c size) e-rows
-        ∙ deal-in c size (replicate 256 0) e (omega (arith, few-partitions (c .bits) (accepted c e .bits), length-replicate {A = ℕ} 256 0)))
+        ∙ deal-in c size (replicate bufferRows 0) e (omega (arith, few-partitions (c .bits) (accepted c e .bits), length-replicate {A = ℕ} bufferRows 0)))
 
     pub run-is : ranIn before P mates caps n (c .redundancy) a dealt ≡ ranFrom (topology c) size before (dealtAt (topology c) size) a
     unfolding ranFrom
@@ -66,7 +66,7 @@ module _ (c : Cluster) (size P n : ℕ) (before rows zones mates caps dealt : Li
 
 module _ (c : Cluster) (former : List ℕ) (a size P : ℕ) (before rows : List ℕ) (e : faultOf c ≡ 0)
     (formed : rowsFormed former (partitions (topology c)) ≡ true) (es : size ≡ sizeOf (topology c)) (large : 1 ≤ size)
-    (eP : P ≡ partitions (topology c)) (eb : before ≡ masksRead (topology c .nodes) former P (replicate 256 0))
+    (eP : P ≡ partitions (topology c)) (eb : before ≡ masksRead (topology c .nodes) former P (replicate bufferRows 0))
     (er : rows ≡ ranFrom (topology c) size before (dealtAt (topology c) size) a .state) (low : Fits32 (topology c))
   where
     abbrev t : Topology
@@ -97,9 +97,9 @@ module _ (c : Cluster) (former : List ℕ) (a size P : ℕ) (before rows : List 
     unfolding masksRead formerMasks
     before-is =
         eb
-        ∙ (ap (λ (n : ℕ). masksRead (t .nodes) former n (replicate 256 0)) eP
-        ∙ (simp (le-leb (partitions t) 256 (few-partitions (t .bits) (acc .bits)), length-replicate {A = ℕ} 256 0)
-        (ap (λ (l : List ℕ). l ++ drop (partitions t) (replicate 256 0))
+        ∙ (ap (λ (n : ℕ). masksRead (t .nodes) former n (replicate bufferRows 0)) eP
+        ∙ (simp (le-leb (partitions t) bufferRows (few-partitions (t .bits) (acc .bits)), length-replicate {A = ℕ} bufferRows 0)
+        (ap (λ (l : List ℕ). l ++ drop (partitions t) (replicate bufferRows 0))
         (tab-cong (λ p. rowMask (t .nodes) former p) (λ p. maskOf (incidence t F p) (nodesOf t)) (partitions t) mask-is))))
 
     abbrev ran : Ran (List ℕ)
@@ -123,7 +123,7 @@ module _ (c : Cluster) (former : List ℕ) (a size P : ℕ) (before rows : List 
     agreement-is = λ i. agreementIn rows (before-is i) (eP i)
 
     -- What measuring asks for is there.
-    pub measurable : (c .replication ≤ 8) × (P ≤ 256) × (P ≤ length before) × (P ≤ length rows) × (idsTotal former P ≤ 2048)
+    pub measurable : (c .replication ≤ mostCopies) × (P ≤ bufferRows) × (P ≤ length before) × (P ≤ length rows) × (idsTotal former P ≤ layoutCells)
         × (2 * agreementIn rows before P ≤ c .replication * P + idsTotal former P)
     measurable = (
       acc .replication .1,
@@ -149,11 +149,11 @@ module _ (c : Cluster) (former : List ℕ) (a size P : ℕ) (before rows : List 
             ∙ ap (λ (l : List ℕ). c .replication * partitions t + formerPairs t F - 2 * agreementIn l (formerMasks t F) (partitions t)) rows-are)
 
     -- The cells written are those of its layout.
-    pub cells-are : (cells : List ℕ) → 2048 ≤ length cells
-        → cellsWritten (t .nodes) rows P cells ≡ cellsOf (planIn c former a .layout) ++ drop 2048 cells
+    pub cells-are : (cells : List ℕ) → layoutCells ≤ length cells
+        → cellsWritten (t .nodes) rows P cells ≡ cellsOf (planIn c former a .layout) ++ drop layoutCells cells
     unfolding planOf planFrom layoutRows ranFrom ranIn
     cells-are cells whole =
         ap (λ (n : ℕ). cellsWritten (t .nodes) rows n cells) eP
         ∙ (written-layout t rows cells (few-partitions (t .bits) (acc .bits)) (good .long) whole
         (λ p l. omega (arith, good .within .rows p l .size, acc .replication .1))
-        ∙ ap (λ (l : List ℕ). cellsOf (layoutRows t l) ++ drop 2048 cells) rows-are)
+        ∙ ap (λ (l : List ℕ). cellsOf (layoutRows t l) ++ drop layoutCells cells) rows-are)

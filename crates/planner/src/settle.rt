@@ -4,7 +4,7 @@ ghost use mathlib.Core.Bool.{true};
 ghost use mathlib.Core.List.{_++_};
 ghost use Prim.Native.Nat.{_+_, _-_, _*_, _≤_};
 ghost use lib.ListN.{length, drop, replicate};
-ghost use Rattle.cluster.specs.Terms.{topology, partitions, cellsOf, faultOf};
+ghost use Rattle.cluster.specs.Terms.{bufferRows, layoutCells, mostCopies, topology, partitions, cellsOf, faultOf};
 ghost use Rattle.masks.specs.ModelMasks.{rowsFormed, idsTotal};
 ghost use Rattle.cluster.specs.TermsReading.{Fits32};
 ghost use Rattle.sizing.specs.ModelSizing.{sizeOf};
@@ -24,7 +24,7 @@ pub(crate) fn improved(
     allowance: u32,
     rows: &mut [u32],
 ) -> Ended
-    requires { ⌜ (faultOf c ≡ 0) × (now rows ≡ replicate 256 0) ⌝ }
+    requires { ⌜ (faultOf c ≡ 0) × (now rows ≡ replicate bufferRows 0) ⌝ }
     ensures { λ r. ⌜ (now (rows .exit) ≡ ranFrom (topology c) size (now (before .entry)) (dealtAt (topology c) size) allowance .state)
         × (r .finished ≡ ranFrom (topology c) size (now (before .entry)) (dealtAt (topology c) size) allowance .finished)
         × (r .improvements ≡ ranFrom (topology c) size (now (before .entry)) (dealtAt (topology c) size) allowance .steps)
@@ -56,8 +56,8 @@ pub(crate) fn measured(
     rows: &[u32],
     partitions: usize,
 ) -> u32
-    requires { ⌜ (replication ≤ 8) × (partitions ≤ 256) × (partitions ≤ length (now before)) × (partitions ≤ length (now rows))
-        × (idsTotal (now former) partitions ≤ 2048)
+    requires { ⌜ (replication ≤ mostCopies) × (partitions ≤ bufferRows) × (partitions ≤ length (now before)) × (partitions ≤ length (now rows))
+        × (idsTotal (now former) partitions ≤ layoutCells)
         × (2 * agreementIn (now rows) (now before) partitions ≤ replication * partitions + idsTotal (now former) partitions) ⌝ }
     ensures { λ r. ⌜ r ≡ replication * partitions + idsTotal (now (former .entry)) partitions
         - 2 * agreementIn (now (rows .entry)) (now (before .entry)) partitions ⌝ }
@@ -75,16 +75,16 @@ pub(crate) fn settle(
     size: u32,
     assignment: &mut [u32],
 ) -> Planned
-    requires { ⌜ (faultOf c ≡ 0) × (2048 ≤ length (now assignment)) × (rowsFormed (now former) (partitions (topology c)) ≡ true)
+    requires { ⌜ (faultOf c ≡ 0) × (layoutCells ≤ length (now assignment)) × (rowsFormed (now former) (partitions (topology c)) ≡ true)
         × (size ≡ sizeOf (topology c)) × (1 ≤ size) ⌝ }
     ensures { λ r. ⌜ (r ≡ answered (planIn c (now (former .entry)) allowance))
-        × (now (assignment .exit) ≡ cellsOf (planIn c (now (former .entry)) allowance .layout) ++ drop 2048 (now (assignment .entry)))
+        × (now (assignment .exit) ≡ cellsOf (planIn c (now (former .entry)) allowance .layout) ++ drop layoutCells (now (assignment .entry)))
         × Fits32 (topology c) ⌝ }
 {
     let partitions = cluster::partitions(c.bits);
-    let mut before = [0u32; 256];
+    let mut before = [0u32; Cluster::PARTITIONS];
     masks::read_masks(c, former, partitions, &mut before);
-    let mut rows = [0u32; 256];
+    let mut rows = [0u32; Cluster::PARTITIONS];
     let ended = improved(c, size, &before, allowance, &mut rows);
     masks::write_cells(c, &rows, partitions, assignment);
     let distance = measured(c.replication, former, &before, &rows, partitions);

@@ -15,7 +15,7 @@ use Rattle.sums.specs.TermsSums.{sumTo, one-if}
 use Rattle.sums.specs.ModelSums.{is}
 use Rattle.sums.proofs.Sum.{lt-or-ge, is-eq, is-ne, is-le, is-cases, sum-cong, sum-is, sum-le, sum-const, sum-cut, sum-term}
 use Rattle.sets.specs.ModelBits.{maskBits, bit, maskOf, firstTo, memberOf, withOf, withoutOf, unionOf, meetOf, differenceOf, belowOf, countOf, leastOf}
-use Rattle.sets.proofs.Bits.{first-le, first-at, first-before}
+use Rattle.sets.proofs.Bits.{first-at, first-before}
 pub use Rattle.sets.proofs.Bits.{bit-le, bit-zero, bit-shr, bit-high, bit-ext, bit-none, bit-lt, mask-lt, bit-mask, bit-maskOf, bit-mask-high, mask-unique, mask-bit, mask-cong, mask-next, mask-same}
 
 -- ---- members
@@ -263,11 +263,6 @@ count-difference s t =
     )
 
 -- ---- the least member
-
--- The least member is at most the width.
-pub least-le : (s : ℕ) → leastOf s ≤ maskBits
-unfolding leastOf
-least-le s = first-le maskBits (λ j. bit s j)
 
 -- No number before it is a member.
 pub least-before : (s j : ℕ) → j < leastOf s → bit s j ≡ 0

@@ -5,16 +5,17 @@ use mathlib.Core.Path.{_≡_, ap, _∙_}
 use mathlib.Core.List.{List, _++_}
 use lib.ListN.{length, drop, set, replicate}
 use borrow.Author.Fill.{fill-none, fill-more}
+use Rattle.cluster.specs.Terms.{scratchCells}
 use Rattle.planner.proofs.prepare.clear.Statement.{statement}
 use Rattle.planner.proofs.prepare.clear.Tie as tie
 use Rattle.planner.proofs.prepare.clear.Reads as reads
 use Rattle.planner.proofs.prepare.clear.Lts as lts
 
 abbrev Inv-loop : tie.InvT-loop
-Inv-loop scratch₀ i₀ scratch i = (i ≤ 16384) × (length scratch ≡ length scratch₀) × (scratch ≡ replicate i 0 ++ drop i scratch₀)
+Inv-loop scratch₀ i₀ scratch i = (i ≤ scratchCells) × (length scratch ≡ length scratch₀) × (scratch ≡ replicate i 0 ++ drop i scratch₀)
 
 abbrev μ-loop : tie.MeasureT-loop
-μ-loop scratch₀ i₀ scratch i = 16384 - i
+μ-loop scratch₀ i₀ scratch i = scratchCells - i
 
 loop-holds : tie.Need-loop-holds Inv-loop μ-loop
 loop-holds c = (search needs, search needs, fill-none _ 0)
@@ -40,7 +41,7 @@ same-length : tie.Need-same-length Inv-loop μ-loop
 same-length c = search needs
 
 returns : tie.Need-returns Inv-loop μ-loop
-returns c = let e : c .before .loop .i ≡ 16384 = omega arith in rw e at (c .before .loop .inv .2)
+returns c = let e : c .before .loop .i ≡ scratchCells = omega arith in rw e at (c .before .loop .inv .2)
 
 pub clear-spec : {M : Type 1} → statement M
 clear-spec =

@@ -6,7 +6,7 @@ use Prim.Native.Nat.{ℕ}
 use lib.ListN.{length}
 use Rattle.sizing.proofs.Reading.{caps-in}
 use Rattle.cells.proofs.Cells.{length-of-map}
-use Rattle.cluster.specs.Terms.{partitions, topology}
+use Rattle.cluster.specs.Terms.{mostNodes, partitions, topology}
 use Rattle.cluster.proofs.Accepting.{partitions-in-range, accepted, few-nodes, nodes-count}
 use Rattle.sizing.specs.ModelSizing.{nodesOf}
 use Rattle.improve.specs.ModelRun.{Ran}
@@ -21,7 +21,7 @@ use Rattle.sizing.proofs.deal.Reads as deal-reads
 use Rattle.sizing.proofs.mates.Reads as mates-reads
 use Rattle.incidence.proofs.zones.zones.Reads as zones-reads
 
-long : (c : tie.Start) → length (c .args .c .nodes) ≡ 32
+long : (c : tie.Start) → length (c .args .c .nodes) ≡ mostNodes
 long c = search length-of-map
 
 -- The count is the number of nodes in use.
