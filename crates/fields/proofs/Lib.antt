@@ -6,3 +6,6 @@ pub mod IdBytes
 pub mod Nodes
 pub mod Cut
 pub mod Puts
+pub mod Pieces
+pub mod Asks
+pub mod Again

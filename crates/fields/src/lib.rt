@@ -8,7 +8,7 @@ use cluster::Node;
 use reader::Reader;
 
 pub mod ids;
-mod reader;
+pub mod reader;
 
 // The bytes of a node: id 4, zone 2, capacity 4.
 const NODE: usize = 10;
@@ -213,7 +213,7 @@ fn is_legal(exact: usize, tag: usize, len: usize) -> bool
 
 // The field at byte `at`, where the tags of the set `allowed` are allowed next; where `exact` is not 0, no other length is legal.
 // It looks in this order: three bytes of tag and length, the tag, the length, the body.
-fn field_in(s: &[u8], at: usize, allowed: u32, exact: usize) -> Field
+pub fn field_in(s: &[u8], at: usize, allowed: u32, exact: usize) -> Field
     ensures { λ r. ⌜ (r ≡ fieldAt (now (s .entry)) at (tagsOf allowed) exact) × Within (length (now (s .entry))) at (tagsOf allowed) exact r ⌝ }
 {
     if !reaches(s.len(), at, 3) {
