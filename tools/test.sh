@@ -1,5 +1,5 @@
 #!/bin/sh
-# The gate: proves every listed crate with `rt ci`, builds the static library of the console crate, runs the Rust tests, runs the program `plan`
+# The gate: proves every listed crate with `rt ci`, builds the static library of the C functions, runs the Rust tests, runs the program `plan`
 # on the stored records, and installs all into a folder of its own. A part that is missing is a failure. The last line is rt's own
 # 'N passed, 0 failed', and is printed only where all passed.
 set -u
@@ -7,7 +7,7 @@ cd "$(dirname "$0")/.." || exit 2
 
 fail() { printf 'test: %s\n' "$*" >&2; exit 1; }
 
-for tool in rt cargo rustc cc; do
+for tool in rt cargo rustc cc ar; do
     command -v "$tool" >/dev/null 2>&1 || fail "$tool is missing"
 done
 
@@ -35,7 +35,7 @@ last=$(cat "$work/last") || exit 2
 [ "$status" -eq 0 ] || fail "rt ci ended with status $status"
 [ -n "$last" ] || fail "rt ci's last line is not 'N passed, 0 failed'"
 
-sh tools/library.sh || fail "the static library of the console crate was not built"
+sh tools/library.sh || fail "the static library of the C functions was not built"
 for manifest in console/reference/Cargo.toml console/Cargo.toml; do
     cargo test --release --offline --manifest-path "$manifest" || fail "a Rust test failed"
 done

@@ -12,9 +12,9 @@ bad=0
 
 last_parts='tools/run-samples.sh tools/program.sh tools/try-install.sh'
 for part in $last_parts; do printf 'exit 0\n' >"$part"; done
-mkdir -p crates/console/src console/src console/reference/src
-printf 'console:\n' >crates.txt
-printf '// One function for C, so that there is a library to build.\n#[no_mangle]\npub extern "C" fn one() -> u32 {\n    1\n}\n' >crates/console/src/lib.rt
+mkdir -p crates/console_one/src console/src console/reference/src
+printf 'console_one:\n' >crates.txt
+printf '// One function for C, so that there is a library to build.\n#[no_mangle]\npub extern "C" fn one() -> u32 {\n    1\n}\n' >crates/console_one/src/lib.rt
 package() { printf '[package]\nname = "%s"\nversion = "0.1.0"\nedition = "2021"\n' "$1"; }
 rust_test() { printf '#[test]\nfn holds() { assert!(%s); }\n' "$1"; }
 package small >console/Cargo.toml; rust_test true >console/src/lib.rs
@@ -37,16 +37,16 @@ without() { mv "$1" away; try "without $1" fail; mv away "$1"; }
 mkdir -p build; : >build/home.layout
 try 'the copy as it is' pass
 if [ -f build/home.layout ] && [ -f build/libconsole.a ]; then ok 'build/ is kept'; else wrong 'build/ is not kept'; fi
-cp -r crates/console crates/other; try 'an unlisted crate' fail; rm -r crates/other
+cp -r crates/console_one crates/other; try 'an unlisted crate' fail; rm -r crates/other
 printf 'fn f() {}\n' >stray.rt; try 'a stray .rt file' fail; rm stray.rt
-printf -- '-- x\n' >crates/console/stray.antt; try 'a stray .antt file' fail; rm crates/console/stray.antt
+printf -- '-- x\n' >crates/console_one/stray.antt; try 'a stray .antt file' fail; rm crates/console_one/stray.antt
 for package in console console/reference; do
     rust_test false >$package/src/lib.rs; try "a Rust test of $package that fails" fail; rust_test true >$package/src/lib.rs
 done
 for part in $last_parts; do
     printf 'exit 1\n' >"$part"; try "$part that fails" fail; printf 'exit 0\n' >"$part"
 done
-for part in crates/console console/Cargo.toml console/reference/Cargo.toml tools/library.sh $last_parts; do
+for part in crates/console_one console/Cargo.toml console/reference/Cargo.toml tools/library.sh $last_parts; do
     without "$part"
 done
 
@@ -54,7 +54,7 @@ done
 mkdir bin
 cat >bin/rt <<'END'
 #!/bin/sh
-[ "$1" = ci ] || { mkdir -p target/staticlib; : >target/staticlib/libconsole.a; exit; }
+[ "$1" = ci ] || { mkdir -p target/staticlib; : >"$2.o"; ar rc "target/staticlib/lib$2.a" "$2.o"; exit; }
 : >called
 printf 'rt: a line\n'
 while [ -n "${WAIT-}" ] && [ ! -e go ]; do sleep 1; done

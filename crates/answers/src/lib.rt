@@ -1,0 +1,44 @@
+// What the C functions share: numbers in lent cells, and a cluster that enters as its record.
+ghost use mathlib.Core.Path.{_≡_};
+ghost use mathlib.Core.List.{_++_};
+ghost use Prim.Native.Nat.{_+_, _/_, _%_, _^_, _≤_};
+ghost use lib.ListN.{length, take, drop};
+ghost use Rattle.answers.specs.TermsAnswers.{halves};
+
+pub mod entering;
+
+// The high half of a number of 64 bits.
+pub fn high(x: u64) -> u32
+    ensures { λ r. ⌜ r ≡ x / 2 ^ 32 ⌝ }
+{
+    (x / 4294967296) as u32
+}
+
+// The low half of a number of 64 bits.
+pub fn low(x: u64) -> u32
+    ensures { λ r. ⌜ r ≡ x % 2 ^ 32 ⌝ }
+{
+    (x % 4294967296) as u32
+}
+
+// Numbers go into the cells from `at` on.
+pub fn put(numbers: &[u32], at: usize, cells: &mut [u32])
+    requires { ⌜ at + length (now numbers) ≤ length (now cells) ⌝ }
+    ensures { λ _. ⌜ now (cells .exit) ≡ take at (now (cells .entry)) ++ now (numbers .entry) ++ drop (at + length (now (numbers .entry))) (now (cells .entry)) ⌝ }
+{
+    let mut i = 0;
+    while i < numbers.len() {
+        cells[at + i] = numbers[i];
+        i += 1;
+    }
+}
+
+// A number of 64 bits goes into the first two cells, numbers into those after them.
+pub fn put_after(x: u64, numbers: &[u32], cells: &mut [u32])
+    requires { ⌜ 2 + length (now numbers) ≤ length (now cells) ⌝ }
+    ensures { λ _. ⌜ now (cells .exit) ≡ halves x ++ now (numbers .entry) ++ drop (2 + length (now (numbers .entry))) (now (cells .entry)) ⌝ }
+{
+    put(numbers, 2, cells);
+    let first = [high(x), low(x)];
+    put(&first, 0, cells);
+}

@@ -1,0 +1,2 @@
+pub mod ClusterAnswers
+pub mod NodePuts
