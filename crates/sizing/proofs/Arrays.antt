@@ -13,13 +13,10 @@ use Rattle.cluster.specs.TermsReading.{Accepted}
 use Rattle.incidence.specs.ModelIncidence.{zoneIndex, capAt, cell, column, zoneCells}
 use Rattle.incidence.proofs.TieZones.{zone-below}
 use Rattle.dealing.specs.ModelDeal.{hasRoom}
-use Rattle.sizing.specs.ModelSizing.{Below, AtMost, nodesOf, capCells}
-use Rattle.incidence.proofs.Columns.{cell-column, length-column}
-use Rattle.sizing.proofs.Agree.{SameBelow, fits-agree}
-
--- The cells of an array that is a column.
-pub cells-agree : (f : ℕ → ℕ) (n : ℕ) (l : List ℕ) → n ≤ mostNodes → l ≡ column f n → SameBelow n (cell l) f
-cells-agree f n l h e b m = ap (λ (k : List ℕ). cell k b) e ∙ cell-column f n b h m
+use Rattle.tallies.specs.ModelTallies.{Below, AtMost}
+use Rattle.sizing.specs.ModelSizing.{nodesOf, capCells}
+use Rattle.incidence.proofs.Columns.{length-column}
+use Rattle.shares.proofs.Agree.{SameBelow, fits-agree, cells-agree}
 
 -- An array that is a column has a cell for each node that there can be.
 pub cells-long : (f : ℕ → ℕ) (n : ℕ) (l : List ℕ) → l ≡ column f n → length l ≡ mostNodes

@@ -10,7 +10,8 @@ use Rattle.incidence.specs.ModelIncidence.{zoneIndex, capAt}
 use Rattle.dealing.specs.ModelDeal.{hasRoom}
 use Rattle.dealing.specs.ModelBisect.{bisect, bisectFrom}
 use Rattle.dealing.specs.ModelSize.{bestSize}
-use Rattle.sizing.specs.ModelSizing.{sizeBits, nodesOf, sizeOf}
+use Rattle.tallies.specs.ModelTallies.{sizeBits}
+use Rattle.sizing.specs.ModelSizing.{nodesOf, sizeOf}
 
 -- The test of a size.
 abbrev pub passing : Topology → ℕ → Bool

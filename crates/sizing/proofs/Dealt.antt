@@ -14,10 +14,11 @@ use Rattle.cluster.specs.Terms.{mostNodes, Topology, partitions}
 use Rattle.incidence.specs.ModelIncidence.{zoneIndex, capAt, cell, column, zoneCells}
 use Rattle.dealing.specs.ModelDeal.{given, start, among, dealt}
 use Rattle.dealing.proofs.Given.{given-le}
-use Rattle.sizing.specs.ModelSizing.{Below, AtMost, nodesOf, capCells, dealtBits, dealtRows}
+use Rattle.tallies.specs.ModelTallies.{Below, AtMost}
+use Rattle.sizing.specs.ModelSizing.{nodesOf, capCells, dealtBits, dealtRows}
 use Rattle.cells.proofs.Cells.{put-cong}
-use Rattle.sizing.proofs.Agree.{SameBelow, start-agree, dealt-agree}
-use Rattle.sizing.proofs.Arrays.{cells-agree, zones-hold, caps-hold}
+use Rattle.shares.proofs.Agree.{SameBelow, start-agree, dealt-agree, cells-agree}
+use Rattle.sizing.proofs.Arrays.{zones-hold, caps-hold}
 
 -- What is given is at most the caps.
 pub copies-most : (P n R : ℕ) (zone cap : ℕ → ℕ) (copies : List ℕ) → n ≤ mostNodes → copies ≡ column (given P n R zone cap) n

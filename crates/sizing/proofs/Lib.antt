@@ -1,12 +1,5 @@
-pub mod Adding
-pub mod Fitting
-pub mod Agree
-pub mod Masks
 pub mod Arrays
 pub mod Bisecting
-pub mod Pouring
-pub mod Lining
-pub mod Giving
 pub mod Dealt
 pub mod Sizes
 pub mod Reading

@@ -17,8 +17,8 @@ use Rattle.cluster.specs.Terms.{mostBits, mostNodes, Topology, topology, partit
 use Rattle.incidence.specs.ModelIncidence.{zoneIndex, cell, column, zoneCells}
 use Rattle.cluster.specs.declared.Cluster.{Cluster}
 use Rattle.sizing.specs.ModelSizing.{capCells, capsIn, nodesOf, mateCells, sizeOf, sizeIn, dealtBits, dealtRows, dealtIn}
-use Rattle.sizing.proofs.Agree.{SameBelow}
-use Rattle.sizing.proofs.Arrays.{cells-agree, zones-hold}
+use Rattle.shares.proofs.Agree.{SameBelow, cells-agree}
+use Rattle.sizing.proofs.Arrays.{zones-hold}
 use Rattle.sizing.proofs.Sizes.{beginning-le}
 
 -- Without fault the size is answered.

@@ -14,7 +14,8 @@ use Rattle.incidence.proofs.TieLayouts.{within-of-valid, valid-of-within}
 use Rattle.dealing.specs.ModelSize.{Caps, Best}
 use Rattle.dealing.proofs.Size.{best-size}
 use Rattle.dealing.proofs.Exists.{dealt-le}
-use Rattle.sizing.specs.ModelSizing.{sizeBits, nodesOf, sizeOf, dealtBits}
+use Rattle.tallies.specs.ModelTallies.{sizeBits}
+use Rattle.sizing.specs.ModelSizing.{nodesOf, sizeOf, dealtBits}
 
 -- A larger size leaves room for no more copies.
 copies-fall : (n s s′ : ℕ) → 1 ≤ s → s ≤ s′ → n / s′ ≤ n / s

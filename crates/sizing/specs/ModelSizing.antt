@@ -1,6 +1,6 @@
 -- What the functions of this crate answer, in the terms of a cluster's topology.
 -- Assumes nothing.
-use Prim.Native.Nat.{ℕ, _*_, _≤_, _<_, min}
+use Prim.Native.Nat.{ℕ, min}
 use mathlib.Core.List.{List}
 use mathlib.Core.Bool.{_&&_, cond}
 use lib.Dec.{eqb, leb}
@@ -8,27 +8,12 @@ use lib.ListN.{length}
 use Rattle.sums.specs.ModelSums.{is}
 use Rattle.sets.specs.ModelBits.{maskOf}
 use Rattle.cells.specs.ModelCells.{put}
-use Rattle.cluster.specs.Terms.{mostBits, mostNodes, bufferRows, Topology, topology, partitions, faultOf}
+use Rattle.cluster.specs.Terms.{mostBits, mostNodes, Topology, topology, partitions, faultOf}
 use Rattle.incidence.specs.ModelIncidence.{zoneIndex, capAt, cell, column}
 use Rattle.cluster.specs.declared.Cluster.{Cluster}
 use Rattle.dealing.specs.ModelDeal.{dealt}
+use Rattle.tallies.specs.ModelTallies.{sizeBits}
 use Rattle.dealing.specs.ModelSize.{bestSize}
-
--- The first n cells are at most m.
-abbrev pub AtMost : ℕ → ℕ → List ℕ → Type 0
-AtMost m n l = (b : ℕ) → b < n → cell l b ≤ m
-
--- The first n cells are below m.
-abbrev pub Below : ℕ → ℕ → List ℕ → Type 0
-Below m n l = (b : ℕ) → b < n → cell l b < m
-
--- The most copies that a zone can have: one of each partition on each node.
-abbrev pub mostInZone : ℕ
-mostInZone = mostNodes * bufferRows
-
--- The bits of a size: as many as a capacity has, in the code a u32, since no size is above all capacities.
-abbrev pub sizeBits : ℕ
-sizeBits = 32
 
 -- How many nodes a topology has.
 abbrev pub nodesOf : Topology → ℕ

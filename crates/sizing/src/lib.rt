@@ -10,11 +10,9 @@ ghost use Rattle.sizing.specs.ModelSizing.{mateCells, capsIn, sizeOf, si
 ghost use Rattle.cluster.specs.TermsReading.{Fits32};
 use cluster::Cluster;
 use incidence::zones;
-
-mod copies;
-mod line;
-mod nodes;
-mod totals;
+use shares::line;
+use tallies::nodes;
+use tallies::totals;
 
 // The bits of a size: it is at most a capacity, which is a u32.
 const SIZE_BITS: u32 = 32;
@@ -103,7 +101,7 @@ fn begin(c: Cluster, size: u32, rows: &mut [u32])
     let most = cluster::partitions(c.bits) as u32;
     let zones = zones::zones(c);
     let caps = caps(c, size);
-    let copies = copies::given(&zones, &caps, n, most, c.replication);
+    let copies = shares::given(&zones, &caps, n, most, c.replication);
     let starts = line::starts(&zones, &copies, n, most);
     line::deal(rows, &starts, &copies, n, most);
 }

@@ -9,7 +9,8 @@ use lib.Pow.{pow-pos}
 use Rattle.sets.proofs.Words.{word-one}
 use Rattle.cluster.specs.Terms.{topology}
 use Rattle.dealing.specs.ModelBisect.{bisectFrom}
-use Rattle.sizing.specs.ModelSizing.{sizeBits, sizeOf}
+use Rattle.tallies.specs.ModelTallies.{sizeBits}
+use Rattle.sizing.specs.ModelSizing.{sizeOf}
 use Rattle.sizing.proofs.Bisecting.{passing, size-begins, power-half, next-bit}
 use Rattle.sizing.proofs.bisected.Statement.{statement}
 use Rattle.sizing.proofs.bisected.Tie as tie

@@ -10,7 +10,8 @@ use Rattle.cluster.specs.declared.Node.{Node}
 use Rattle.cluster.proofs.Slots.{node-slot}
 use Rattle.incidence.specs.ModelIncidence.{capAt, column}
 use Rattle.incidence.proofs.Columns.{column-none, column-next, column-end}
-use Rattle.sizing.specs.ModelSizing.{sizeBits, cutBits, capCells, capsIn}
+use Rattle.tallies.specs.ModelTallies.{sizeBits}
+use Rattle.sizing.specs.ModelSizing.{cutBits, capCells, capsIn}
 use Rattle.sizing.proofs.caps.Statement.{statement}
 use Rattle.sizing.proofs.caps.Tie as tie
 

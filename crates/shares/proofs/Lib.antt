@@ -1,0 +1,4 @@
+pub mod Agree
+pub mod Pouring
+pub mod Lining
+pub mod Giving
