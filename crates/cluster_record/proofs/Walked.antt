@@ -2,10 +2,11 @@
 -- Assumes nothing.
 use Prim.Native.Nat.{ℕ, _+_, _-_, _/_, _≤_, _<_}
 use mathlib.Core.Path.{_≡_, refl, sym, ap, ap₂, _∙_, subst}
+use mathlib.Core.Bool.{Bool, true, false}
 use mathlib.Core.List.{List}
 use native.Mathlib.Omega.{arith}
 use lib.ListN.{length, replicate}
-use borrow.Author.Tests.{lt-ltb, le-ltb}
+use lib.Dec.{ltb}
 use Rattle.cluster.specs.Terms.{mostBits, mostCopies, mostNodes, bufferRows, layoutCells, Topology, topology, partitions, Layout, cellsOf}
 use Rattle.cluster.specs.declared.Cluster.{Cluster}
 use Rattle.cluster.specs.TermsReading.{noNodes, slotsOf}
@@ -14,6 +15,7 @@ use Rattle.fields.specs.RecordField.{numberAt, rowWidth, fieldAt, Whole, nodeAt
 use Rattle.fields.specs.declared.Field.the-variants.{Body, Refused}
 use Rattle.fields.proofs.RecordField.{whole, refused-some}
 use Rattle.cluster_record.specs.RecordClusterFaults.{itemIn, Reading, ClusterRead, nothingRead, allowedAfter, withItem, formerWith, readingWith, faultIn, clusterRefused, ended, walk, readCluster}
+use Rattle.cluster_record.specs.declared.ReadCluster.{ReadCluster}
 use Rattle.cluster_record.specs.RecordClusterAnswer.{clusterAnswer}
 use Rattle.cluster_record.proofs.Items.{item-node, item-five, sound-node, sound-row}
 use Rattle.cluster.proofs.Accepting.{few-partitions}
@@ -50,6 +52,15 @@ walked-start s rows c e z = record {
   cells = z ∙ sym cells-none;
 }
 
+-- What the walk says in the end: the answer and, unless it is a refusal, the rows.
+abbrev pub Says : List ℕ → ReadCluster → List ℕ → Type 0
+Says s answer rows = (answer ≡ clusterAnswer (readCluster s)) × (answer .refusal ≡ 0 → rows ≡ cellsOf (readCluster s .former))
+
+pub says-refused : (s rows : List ℕ) (answer : ReadCluster) (refusal byte : ℕ) → answer ≡ clusterAnswer (clusterRefused refusal byte) → (refusal ≡ 0 → ⊥)
+    → readCluster s ≡ clusterRefused refusal byte → Says s answer rows
+unfolding clusterAnswer
+says-refused s rows answer refusal byte e real r = (e ∙ ap clusterAnswer (sym r), λ z. absurd (real (sym (ap (λ (k : ReadCluster). k .refusal) e) ∙ z)))
+
 module _ {s rows : List ℕ} {c : Cluster} {last next at : ℕ} (w : Walked s rows c last next at) where
   -- The nodes in use are those read so far.
   pub walked-topology : topology c ≡ w .reading .cluster
@@ -66,27 +77,29 @@ module _ {s rows : List ℕ} {c : Cluster} {last next at : ℕ} (w : Walked s ro
   pub walked-length : length rows ≡ layoutCells
   walked-length = ap length (w .cells) ∙ length-cellsOf (w .reading .former)
 
-  -- At the end before field 3: refused.
-  pub walked-missing : length s ≤ at → last < 3 → readCluster s ≡ clusterRefused 7 (length s)
+  -- At the end the rows are what was asked for, unless a field is missing.
+  walked-end : length s ≤ at → readCluster s ≡ ended s (w .reading)
+  walked-end h = w .here ∙ walk-ends s at (w .fuel) (w .reading) h
+
+  walked-cells : length s ≤ at → readCluster s .refusal ≡ 0 → rows ≡ cellsOf (readCluster s .former)
   unfolding ended
-  walked-missing h l = w .here ∙ (walk-ends s at (w .fuel) (w .reading) h ∙ simp (lt-ltb (w .reading .last) 3 (omega (arith, w .tag-read))))
+  walked-cells h none = by-test (ltb (w .reading .last) 3) refl
+    where
+      by-test : (t : Bool) → ltb (w .reading .last) 3 ≡ t → rows ≡ cellsOf (readCluster s .former)
+      by-test true e =
+          let seven : ended s (w .reading) .refusal ≡ 7 = simp e in
+          absurd (omega (arith, sym none ∙ (ap (λ (o : ClusterRead). o .refusal) (walked-end h) ∙ seven)))
+      by-test false e =
+          w .cells
+          ∙ (sym (cells-upTo (partitions (w .reading .cluster)) (w .reading .former))
+          ∙ sym (ap (λ (o : ClusterRead). cellsOf (o .former)) (walked-end h) ∙ simp e))
 
-  -- At the end after field 3: the cluster and the rows are what was asked for.
-  walked-end : length s ≤ at → 3 ≤ last → readCluster s ≡ ended s (w .reading)
-  walked-end h l = w .here ∙ walk-ends s at (w .fuel) (w .reading) h
-
-  pub walked-cluster : length s ≤ at → 3 ≤ last → record { refusal = 0; byte = 0; cluster = c } ≡ clusterAnswer (readCluster s)
-  unfolding ended clusterAnswer
-  walked-cluster h l =
-      ap (λ (k : Cluster). record { refusal = 0; byte = 0; cluster = k }) (w .slots)
-      ∙ sym (ap clusterAnswer (walked-end h l) ∙ simp (le-ltb (w .reading .last) 3 (omega (arith, w .tag-read))))
-
-  pub walked-cells : length s ≤ at → 3 ≤ last → rows ≡ cellsOf (readCluster s .former)
-  unfolding ended
-  walked-cells h l =
-      w .cells
-      ∙ (sym (cells-upTo (partitions (w .reading .cluster)) (w .reading .former))
-      ∙ sym (ap (λ (o : ClusterRead). cellsOf (o .former)) (walked-end h l) ∙ simp (le-ltb (w .reading .last) 3 (omega (arith, w .tag-read)))))
+  pub says-ended : length s ≤ at → (answer : ReadCluster) → ((k : Reading) → last ≡ k .last → c ≡ slotsOf (k .cluster) → answer ≡ clusterAnswer (ended s k))
+      → Says s answer rows
+  unfolding clusterAnswer
+  says-ended h answer e =
+      let is : answer ≡ clusterAnswer (readCluster s) = e (w .reading) (w .tag-read) (w .slots) ∙ ap clusterAnswer (sym (walked-end h)) in
+      (is, λ z. walked-cells h (sym (ap (λ (k : ReadCluster). k .refusal) is) ∙ z))
 
   -- A field that cannot be taken whole.
   pub walked-refused : at < length s → {refusal byte : ℕ} → fieldAt s at (allowedAfter last) 0 ≡ Refused refusal byte

@@ -2,12 +2,15 @@
 ghost use mathlib.Core.Path.{_≡_};
 ghost use lib.ListN.{replicate};
 ghost use Rattle.cluster.specs.Terms.{layoutCells, cellsOf};
+ghost use Rattle.cluster.specs.TermsReading.{slotsOf};
 ghost use Rattle.fields.specs.ModelTags.{tagsOf};
-ghost use Rattle.cluster_record.specs.RecordClusterFaults.{allowedAfter, clusterRefused, readCluster};
+ghost use Rattle.cluster_record.specs.RecordClusterFaults.{Reading, allowedAfter, clusterRefused, ended as endedOf, readCluster};
 ghost use Rattle.cluster_record.specs.RecordClusterAnswer.{clusterAnswer, readClusterOf, formerRead};
 use cluster::Cluster;
 use cluster::refusal;
 use fields::Field;
+use fields::reader;
+use fields::reader::Reader;
 
 mod faults;
 mod row_faults;
@@ -44,30 +47,10 @@ fn allowed_after(last: u32) -> u32
     sets::with(0, 5)
 }
 
-// Walks the fields, and gathers the former rows in cells that are zero.
-fn walk(bytes: &[u8], rows: &mut [u32]) -> ReadCluster
-    requires { ⌜ now rows ≡ replicate layoutCells 0 ⌝ }
-    ensures { λ r. ⌜ (r ≡ clusterAnswer (readCluster (now (bytes .entry))))
-        × (r .refusal ≡ 0 → now (rows .exit) ≡ cellsOf (readCluster (now (bytes .entry)) .former)) ⌝ }
+// What is said at the end of the bytes: a field is missing, or the cluster stands.
+fn ended(bytes: &[u8], last: u32, c: Cluster) -> ReadCluster
+    ensures { λ r. ⌜ ((k : Reading) → last ≡ k .last → c ≡ slotsOf (k .cluster) → r ≡ clusterAnswer (endedOf (now (bytes .entry)) k)) ⌝ }
 {
-    let mut c = Cluster::none();
-    let mut last = 0u32;
-    let mut next = 0;
-    let mut at = 0;
-    while at < bytes.len() {
-        let f = fields::field_at(bytes, at, allowed_after(last), 0);
-        let Field::Body { tag, start, len } = f else {
-            return refused(fields::refusal_of(f), fields::place_of(f));
-        };
-        let fault = faults::field_fault(bytes, c, next, tag, start, len);
-        if fault != 0 {
-            return refused(fault, at);
-        }
-        c = taking::cluster_with(bytes, c, tag, start);
-        next = taking::take_row(rows, bytes, next, tag, start, len);
-        last = tag as u32;
-        at = start + len;
-    }
     if last < 3 {
         return refused(refusal::MISSING, bytes.len());
     }
@@ -78,7 +61,34 @@ fn walk(bytes: &[u8], rows: &mut [u32]) -> ReadCluster
     }
 }
 
-// ReadsCluster a cluster record. The former layout goes into the first 2,048 lent cells, all of them or, where the reading is
+// Walks the fields by one reader, and gathers the former rows in cells that are zero.
+fn walk(bytes: &[u8], rows: &mut [u32]) -> ReadCluster
+    requires { ⌜ now rows ≡ replicate layoutCells 0 ⌝ }
+    ensures { λ r. ⌜ (r ≡ clusterAnswer (readCluster (now (bytes .entry))))
+        × (r .refusal ≡ 0 → now (rows .exit) ≡ cellsOf (readCluster (now (bytes .entry)) .former)) ⌝ }
+{
+    let mut r = Reader { src: bytes, at: 0 };
+    let mut c = Cluster::none();
+    let mut last = 0u32;
+    let mut next = 0;
+    while r.at < r.src.len() {
+        let f = reader::next(r, allowed_after(last), 0);
+        let Field::Body { tag, start, len } = f else {
+            return refused(fields::refusal_of(f), fields::place_of(f));
+        };
+        let fault = faults::field_fault(r.src, c, next, tag, start, len);
+        if fault != 0 {
+            return refused(fault, r.at);
+        }
+        c = taking::cluster_with(r.src, c, tag, start);
+        next = taking::take_row(rows, r.src, next, tag, start, len);
+        last = tag as u32;
+        r.at = start + len;
+    }
+    ended(r.src, last, c)
+}
+
+// Reads a cluster record. The former layout goes into the first 2,048 lent cells, all of them or, where the reading is
 // refused, none.
 pub fn read_cluster(bytes: &[u8], former: &mut [u32]) -> ReadCluster
     ensures { λ r. ⌜ (r ≡ readClusterOf (now (bytes .entry)) (now (former .entry)))

@@ -2,6 +2,7 @@
 --     LentAgain        what the holder keeps while the slice is lent again under the name γ₁: the lender's part at κ′, and its own borrow at κ, open, with both halves of its ghost variable
 --     lends-again      own (the `&κ mut [T]` ((b, o), γ, ys)) ∗ [κ]_q  ⊢ ⇛ ∃ γ₁. own (the `&κ′ mut [T]` ((b, o), γ₁, ys)) ∗ LentAgain γ₁
 --     comes-back       given `Room` and that zs is as long as ys:  [†κ′] ∗ LentAgain γ₁ ∗ finally γ₁ zs  ⊢ ⇛ (own (the `&κ mut [T]` ((b, o), γ, zs)) ∗ [κ]_q)
+--     lends-as, comes-back-as      the same of a slice whose machine value has the length m, as every list that it holds
 -- Assumes `Given`.
 use mathlib.Core.Path.{_≡_, sym, ap, subst}
 use Prim.Native.Nat.{ℕ}
@@ -53,3 +54,19 @@ module _ (R : RattleType) (κ κ′ : Lft) (q : Share) (γ : GName) (b o : ℕ) 
         use3 W (later (‵ (Arr (mem R) (length ys) .lies zs b o))) (slice-back 𝓤 H A W R κ′ γ₁ zs (length ys) b o) $ await ! tt $ fsplit ! $ drop ! $ use1 W (‵ (row R fullShare zs b o)) (whole-out 𝓤 H A W R zs b o) $
         move ! (1 ∷ []) $ fsplit ! $ move ! (1 ∷ []) $ fsplit ! $ move ! (3 ∷ 2 ∷ 0 ∷ 1 ∷ []) $ closes-slice ! tt R ys zs e b o $ at-once ! $
         fjoin ! $ pureI ! (at-slice R (at-list γ zs) vals) (tt, (tt, tt)) (ap (λ (m : ℕ). sliceVal (b, o) m ∷ []) (sym e), subst (Room R) (sym e) room) $ fjoin ! $ done !
+
+  module _ {M : Type 1} (𝓤 : URA M) (H : Heap 𝓤) (A : Atoms 𝓤) (W : Given 𝓤 H A) (ℓ ℓ′ : Lifetime) (ys : List (R .Denot)) {m : ℕ} (long : length ys ≡ m) where
+    -- what a slice owns whose machine value has the length k
+    abbrev Has : Lifetime → Lft → GName → List (R .Denot) → ℕ → Fml
+    Has ℓ₁ κ₁ δ zs k = MutSlice ℓ₁ κ₁ R .own (at-list δ zs) (sliceVal (b, o) k ∷ [])
+
+    pub lends-as : ent 𝓤 (sep 𝓤 (sem 𝓤 H A (Has ℓ κ γ ys m)) (A .lft κ q)) (H .⇛ (ex 𝓤 (λ (γ₁ : GName). sep 𝓤 (sem 𝓤 H A (Has ℓ′ κ′ γ₁ ys m)) (sem 𝓤 H A (LentAgain γ₁ ys)))))
+    lends-as =
+        subst (λ (k : ℕ). ent 𝓤 (sep 𝓤 (sem 𝓤 H A (Has ℓ κ γ ys k)) (A .lft κ q)) (H .⇛ (ex 𝓤 (λ (γ₁ : GName). sep 𝓤 (sem 𝓤 H A (Has ℓ′ κ′ γ₁ ys k)) (sem 𝓤 H A (LentAgain γ₁ ys))))))
+        long (lends-again 𝓤 H A W ℓ ℓ′ ys)
+
+    pub comes-back-as : (γ₁ : GName) (zs : List (R .Denot)) → Room R m → length zs ≡ length ys
+        → ent 𝓤 (sep 𝓤 (A .dead κ′) (sep 𝓤 (sem 𝓤 H A (LentAgain γ₁ ys)) (sem 𝓤 H A (finally R γ₁ zs)))) (H .⇛ (sep 𝓤 (sem 𝓤 H A (Has ℓ κ γ zs m)) (A .lft κ q)))
+    comes-back-as γ₁ zs room e =
+        subst (λ (k : ℕ). ent 𝓤 (sep 𝓤 (A .dead κ′) (sep 𝓤 (sem 𝓤 H A (LentAgain γ₁ ys)) (sem 𝓤 H A (finally R γ₁ zs)))) (H .⇛ (sep 𝓤 (sem 𝓤 H A (Has ℓ κ γ zs k)) (A .lft κ q))))
+        long (comes-back 𝓤 H A W ℓ ℓ′ ys γ₁ zs (subst (Room R) (sym long) room) e)

@@ -7,5 +7,6 @@ pub mod Nodes
 pub mod Cut
 pub mod Puts
 pub mod Pieces
+pub mod Tests
 pub mod Asks
 pub mod Again

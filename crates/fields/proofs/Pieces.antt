@@ -1,7 +1,7 @@
 -- The parts of a body of MIR, by which a walk of it is proved piece by piece.
 -- Assumes nothing.
 use Prim.Native.Nat.{ℕ, zero, suc}
-use mir.Syntax.{Body as Code, seq, call, return, assign, skip, switch, block, loop, cond, exit}
+use mir.Syntax.{Body as Code, Arms, seq, call, return, assign, skip, switch, arm, default, noDefault, block, loop, cond, exit}
 
 -- A sequence's first part, and the rest.
 abbrev pub head-of : Code → Code
@@ -32,3 +32,24 @@ rest-of (call f xs d) = skip
 abbrev pub tail : ℕ → Code → Code
 tail zero b = b
 tail (suc k) b = tail k (rest-of b)
+
+-- The k-th arm of a `switch`.
+abbrev arm-in : ℕ → Arms → Code
+arm-in zero (arm keys b arms) = b
+arm-in zero (default b) = b
+arm-in zero noDefault = skip
+arm-in (suc k) (arm keys b arms) = arm-in k arms
+arm-in (suc k) (default b) = skip
+arm-in (suc k) noDefault = skip
+
+abbrev pub arm-of : ℕ → Code → Code
+arm-of k skip = skip
+arm-of k (seq a b) = skip
+arm-of k (assign p r) = skip
+arm-of k (block b) = skip
+arm-of k (loop b) = skip
+arm-of k (cond c a b) = skip
+arm-of k (switch c arms) = arm-in k arms
+arm-of k (exit n) = skip
+arm-of k return = skip
+arm-of k (call f xs d) = skip

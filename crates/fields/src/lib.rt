@@ -5,7 +5,6 @@ ghost use lib.ListN.{length};
 ghost use Rattle.fields.specs.ModelTags.{tagsOf};
 ghost use Rattle.fields.specs.RecordField.{has, bytesOf, numberAt, written, nodeAtByte, ruleOf, legalAs, fieldAt, Within, refusalOf, placeOf};
 use cluster::Node;
-use reader::Reader;
 
 pub mod ids;
 pub mod reader;
@@ -248,13 +247,6 @@ pub fn field_in(s: &[u8], at: usize, allowed: u32, exact: usize) -> Field
         start,
         len,
     }
-}
-
-// The same by a reader that stands at byte `at`. Its parameters are plain, so that whoever calls it needs no proof by hand.
-pub fn field_at(s: &[u8], at: usize, allowed: u32, exact: usize) -> Field
-    ensures { λ r. ⌜ (r ≡ fieldAt (now (s .entry)) at (tagsOf allowed) exact) × Within (length (now (s .entry))) at (tagsOf allowed) exact r ⌝ }
-{
-    reader::next(Reader { src: s, at }, allowed, exact)
 }
 
 // The refusal of a field that cannot be taken whole; 0 for a whole field.

@@ -1,6 +1,6 @@
 // A reader of fields: it carries the record and its position together.
-// The borrow checker covers no function over a struct that holds a slice, so such functions are few and leave the work to one on
-// slice and number.
+// The borrow checker covers no function with a struct that holds a slice, so such functions are few and leave the work to others on
+// slice and number; the walks that keep a reader have their proofs from tools/walks.
 ghost use mathlib.Core.Path.{_≡_};
 ghost use lib.ListN.{length};
 ghost use Rattle.fields.specs.ModelTags.{tagsOf};

@@ -7,10 +7,8 @@ use mathlib.Core.List.{List, [], _∷_, _++_, append-assoc, append-nil}
 use mathlib.Core.Logic.{⊎-elim}
 use native.Mathlib.Nat.{add-zero}
 use native.Mathlib.Omega.{arith}
-use lib.ListN.{length, drop, getD}
-use Rattle.sums.specs.TermsSums.{tab}
+use lib.ListN.{length, drop}
 use Rattle.sums.proofs.Tests.{both, true-or-false}
-use Rattle.cells.proofs.Cells.{tab-getD}
 use Rattle.fields.specs.RecordField.{bytesOf, Bytes, numberAt, field, legal}
 use Rattle.fields.specs.declared.Field.{Field}
 use Rattle.fields.specs.declared.Field.the-variants.{Body, Refused}
@@ -20,7 +18,7 @@ use Rattle.layout_record.specs.declared.Numbers.{Numbers}
 use Rattle.layout_record.specs.declared.table.Entry.{Entry}
 use Rattle.layout_record.specs.RecordLayout.{headTable, numbersIn, numbersFrom, holds, allHold, inRange, numberFields, headFields}
 use Rattle.layout_record.specs.RecordLayoutFaults.{nextField, HeadRead, HeadEnds, HeadRefused, headNumber, headFrom}
-use Rattle.layout_record.proofs.NumberFields.{next-there, Lawful, Each, table-lawful, entry-width, entry-range, sizeOf}
+use Rattle.layout_record.proofs.NumberFields.{next-there, six-values, Lawful, Each, table-lawful, entry-width, entry-range, sizeOf}
 use Rattle.layout_record.proofs.FieldFaults.{next-refused, next-body, tag-alone, before-end}
 
 -- ---- what is read, is in the bytes
@@ -96,11 +94,6 @@ numbers-back (e ∷ es) s at vs n end b l h =
           many = ap suc (r .many);
         })
         (λ w. absurd (refused-ends 4 at n end (pick false w))) (true-or-false (holds e v))
-
--- Six values are those of the numbers that they make.
-six-values : (l : List ℕ) → length l ≡ length headTable → numbersIn (numbersFrom l) ≡ l
-unfolding tab
-six-values l h = ap (tab (λ i. getD l i 0)) (sym h) ∙ tab-getD l 0
 
 -- A head that is read stands at the front of the record, with its numbers in range.
 pub head-back : (s : List ℕ) (n : Numbers) (e : ℕ) → Bytes s → headFrom headTable s 0 [] ≡ HeadEnds n e → (s ≡ headFields n ++ drop e s) × (inRange n ≡ true)

@@ -2,9 +2,11 @@ pub mod CellsMore
 pub mod Exact
 pub mod FieldFaults
 pub mod HeadExact
+pub mod HeadSteps
 pub mod NumberFields
 pub mod PutRows
 pub mod RecordLaws
 pub mod RowFaults
 pub mod RowSteps
 pub mod RowsExact
+pub mod RowsTo

@@ -11,7 +11,9 @@ use lib.Dec.{ltb, leb, eqb}
 use lib.ListN.{length, drop, getD, length-append}
 use lib.Seq.{drop-cons, drop-length}
 use borrow.Author.Tests.{le-leb, lt-leb, leb-true, ltb-true, eqb-true}
+use Rattle.sums.specs.TermsSums.{tab}
 use Rattle.sums.proofs.Tests.{both}
+use Rattle.cells.proofs.Cells.{tab-getD}
 use Rattle.cluster.specs.Terms.{mostBits, mostCopies, mem}
 use Rattle.cluster.proofs.Lists.{mem-cases}
 use Rattle.fields.specs.RecordField.{bytesOf, field, numberAt, written, ruleOf, legal, fieldAt, Whole}
@@ -38,6 +40,11 @@ module _ (s : List ℕ) (at tag exact : ℕ) where
   next-there h = simp (lt-leb (length s) at h)
 
 -- ---- the table
+
+-- Six values are those of the numbers that they make.
+pub six-values : (l : List ℕ) → length l ≡ length headTable → numbersIn (numbersFrom l) ≡ l
+unfolding tab
+six-values l h = ap (tab (λ i. getD l i 0)) (sym h) ∙ tab-getD l 0
 
 -- An entry agrees with the table of lengths: bodies with its tag have its width alone, one, two or four bytes, in which its numbers have room.
 pub record Lawful (e : Entry) : Type 0 where

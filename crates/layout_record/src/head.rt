@@ -4,15 +4,16 @@ ghost use mathlib.Core.Logic.{_⊎_};
 ghost use mathlib.Core.List.{[], _∷_};
 ghost use Prim.Native.Nat.{_<_};
 ghost use lib.ListN.{length};
-ghost use Rattle.fields.specs.RecordField.{numberAt, Within};
+ghost use Rattle.fields.specs.RecordField.{numberAt, Within, refusalOf, placeOf};
 ghost use Rattle.layout_record.specs.ModelReading.{headSays};
 ghost use Rattle.layout_record.specs.RecordLayout.{headTable};
-ghost use Rattle.layout_record.specs.RecordLayoutFaults.{nextField, headFrom};
+ghost use Rattle.layout_record.specs.RecordLayoutFaults.{nextField, HeadRefused, headFrom};
 use super::Numbers;
 use super::table;
 use super::table::Entry;
 use cluster::refusal;
 use fields::Field;
+use fields::reader::Reader;
 
 // What the fields before the rows say: the numbers and the byte after them, or a refusal with its byte.
 pub enum Head {
@@ -31,7 +32,7 @@ pub fn next_field(bytes: &[u8], at: usize, tag: u32, exact: usize) -> Field
             at: bytes.len(),
         };
     }
-    fields::field_at(bytes, at, sets::with(0, tag), exact)
+    fields::field_in(bytes, at, sets::with(0, tag), exact)
 }
 
 // The number in a body of one, two or four bytes.
@@ -48,26 +49,33 @@ fn number_at(bytes: &[u8], start: usize, len: usize) -> u32
     fields::word_at(bytes, start)
 }
 
+// A field that is not whole ends the reading.
+fn halted(f: Field) -> Head
+    ensures { λ r. ⌜ headSays r ≡ HeadRefused (refusalOf f) (placeOf f) ⌝ }
+{
+    Head::Halted(fields::refusal_of(f), fields::place_of(f))
+}
+
 // Reads the fields before the rows, one after the other.
 pub fn read_head(bytes: &[u8]) -> Head
     ensures { λ r. ⌜ headSays r ≡ headFrom headTable (now (bytes .entry)) 0 [] ⌝ }
 {
-    let mut values = [0u32; 6];
-    let mut at = 0;
+    let mut r = Reader { src: bytes, at: 0 };
+    let mut numbers = Numbers::none();
     let mut i = 0;
     while i < table::HEAD.len() {
         let entry = Entry::at(i);
-        let f = next_field(bytes, at, entry.tag, 0);
+        let f = next_field(r.src, r.at, entry.tag, 0);
         let Field::Body { tag: _, start, len } = f else {
-            return Head::Halted(fields::refusal_of(f), fields::place_of(f));
+            return halted(f);
         };
-        let value = number_at(bytes, start, len);
+        let value = number_at(r.src, start, len);
         if !entry.holds(value) {
-            return Head::Halted(refusal::RANGE, at);
+            return Head::Halted(refusal::RANGE, r.at);
         }
-        values[i] = value;
-        at = start + len;
+        numbers = table::with(numbers, i, value);
+        r.at = start + len;
         i += 1;
     }
-    Head::Read(table::numbers_from(values), at)
+    Head::Read(numbers, r.at)
 }

@@ -4,8 +4,8 @@ ghost use mathlib.Core.List.{[], _++_};
 ghost use Prim.Native.Nat.{_+_, _*_, _^_, _≤_};
 ghost use lib.ListN.{length, drop, replicate};
 ghost use Rattle.cluster.specs.Terms.{mostBits, mostCopies, layoutCells, Layout, cellsOf};
-ghost use Rattle.fields.specs.RecordField.{numberAt, idsAt};
-ghost use Rattle.layout_record.specs.RecordLayoutFaults.{layoutRowFault, endIn, rowsFrom, readLayout};
+ghost use Rattle.fields.specs.RecordField.{numberAt, idsAt, refusalOf, placeOf};
+ghost use Rattle.layout_record.specs.RecordLayoutFaults.{layoutRefused, layoutRowFault, endIn, rowsFrom, readLayout};
 ghost use Rattle.layout_record.specs.RecordLayoutAnswer.{layoutAnswer};
 use super::Numbers;
 use super::ReadLayout;
@@ -17,6 +17,7 @@ use super::refused;
 use cluster::Cluster;
 use cluster::refusal;
 use fields::Field;
+use fields::reader::Reader;
 
 // The fault of a row whose body begins at byte `start`: a value outside its range, then a row that is not the next or
 // ids that do not rise; 0 where there is none.
@@ -41,6 +42,13 @@ fn row_fault(bytes: &[u8], start: usize, partitions: usize, next: usize, count: 
     }
 }
 
+// A field that is not whole ends the reading.
+fn refused_by(f: Field) -> ReadLayout
+    ensures { λ r. ⌜ r ≡ layoutAnswer (layoutRefused (refusalOf f) (placeOf f)) ⌝ }
+{
+    refused(fields::refusal_of(f), fields::place_of(f))
+}
+
 // What is said after the last row: no field is allowed there.
 fn ended(bytes: &[u8], at: usize, numbers: Numbers) -> ReadLayout
     ensures { λ r. ⌜ ((L : Layout) → r ≡ layoutAnswer (endIn (now (bytes .entry)) at numbers L)) ⌝ }
@@ -52,8 +60,7 @@ fn ended(bytes: &[u8], at: usize, numbers: Numbers) -> ReadLayout
             numbers,
         };
     }
-    let f = fields::field_at(bytes, at, 0, 0);
-    refused(fields::refusal_of(f), fields::place_of(f))
+    refused_by(fields::field_in(bytes, at, 0, 0))
 }
 
 // Reads the rows from byte `from` on into cells that are zero.
@@ -64,22 +71,25 @@ fn read_rows(bytes: &[u8], from: usize, numbers: Numbers, cells: &mut [u32]) -> 
 {
     let partitions = cluster::partitions(numbers.bits);
     let count = numbers.replication as usize;
-    let mut at = from;
+    let mut r = Reader {
+        src: bytes,
+        at: from,
+    };
     let mut next = 0;
     while next < partitions {
-        let f = head::next_field(bytes, at, 10, 2 + 4 * count);
+        let f = head::next_field(r.src, r.at, 10, 2 + 4 * count);
         let Field::Body { tag: _, start, len } = f else {
-            return refused(fields::refusal_of(f), fields::place_of(f));
+            return refused_by(f);
         };
-        let fault = row_fault(bytes, start, partitions, next, count);
+        let fault = row_fault(r.src, start, partitions, next, count);
         if fault != 0 {
-            return refused(fault, at);
+            return refused(fault, r.at);
         }
-        ids::put_ids(cells, bytes, next, start + 2, count);
-        at = start + len;
+        ids::put_ids(cells, r.src, next, start + 2, count);
+        r.at = start + len;
         next += 1;
     }
-    ended(bytes, at, numbers)
+    ended(r.src, r.at, numbers)
 }
 
 // Reads a record into cells that are zero.

@@ -1,7 +1,7 @@
 // The numbers before the rows: one table for reading them, for the test of their ranges and for writing them.
 ghost use mathlib.Core.Path.{_≡_};
 ghost use Prim.Native.Nat.{_<_};
-ghost use lib.ListN.{length};
+ghost use lib.ListN.{length, set};
 ghost use Rattle.layout_record.specs.RecordLayout.{headTable, entryAt, holds, numbersIn, numbersFrom};
 use super::Numbers;
 use cluster::Cluster;
@@ -106,4 +106,14 @@ pub fn numbers_from(values: [u32; 6]) -> Numbers
         verdict: values[4],
         improvements: values[5],
     }
+}
+
+// The numbers with another one at entry i.
+pub fn with(n: Numbers, i: usize, value: u32) -> Numbers
+    requires { ⌜ i < length headTable ⌝ }
+    ensures { λ r. ⌜ r ≡ numbersFrom (set (numbersIn n) i value) ⌝ }
+{
+    let mut values = numbers_in(n);
+    values[i] = value;
+    numbers_from(values)
 }

@@ -18,17 +18,17 @@ returns c = let a = c .before .before .args in (sym (next-missing (a .bytes .now
 with-requires : tie.Need-with-requires
 with-requires c κs = search needs
 
-field-at-requires : tie.Need-field-at-requires
-field-at-requires c κs = search needs
+field-in-requires : tie.Need-field-in-requires
+field-in-requires c κs = search needs
 
 returns-2 : tie.Need-returns-2
 returns-2 c =
     let a = c .before .before .before .before .args in
     let w = ap tagsOf (c .before .with .ensures) ∙ tags-alone (a .tag) (c .before .before .before .before .pre) in
     let s = a .bytes .now in (
-      c .field-at .ensures .0 ∙ (ap (λ (m : List ℕ). fieldAt s (a .at) m (a .exact)) w ∙ sym (next-there s (a .at) (a .tag) (a .exact) (c .before .before .if1 .left))),
-      subst (λ (m : List ℕ). Within (length s) (a .at) m (a .exact) (c .field-at .result)) w (c .field-at .ensures .1),
+      c .field-in .ensures .0 ∙ (ap (λ (m : List ℕ). fieldAt s (a .at) m (a .exact)) w ∙ sym (next-there s (a .at) (a .tag) (a .exact) (c .before .before .if1 .left))),
+      subst (λ (m : List ℕ). Within (length s) (a .at) m (a .exact) (c .field-in .result)) w (c .field-in .ensures .1),
     )
 
 pub next-field-spec : {M : Type 1} → statement M
-next-field-spec = tie.close (tie.spec returns with-requires field-at-requires returns-2)
+next-field-spec = tie.close (tie.spec returns with-requires field-in-requires returns-2)

@@ -1,11 +1,12 @@
 -- `layout_record::rows::ended` meets its contract.
 -- Assumes nothing.
 use borrow.Author.Needs.{needs}
-use mathlib.Core.Path.{sym, ap, ap₂, _∙_}
+use mathlib.Core.Path.{sym, ap, _∙_}
 use Prim.Native.Nat.{ℕ, _-_}
 use Rattle.cluster.specs.Terms.{Layout}
 use mathlib.Core.List.{List}
 use Rattle.fields.specs.RecordField.{fieldAt, refusalOf, placeOf}
+use Rattle.fields.specs.declared.Field.{Field}
 use Rattle.fields.proofs.Tags.{tags-empty}
 use Rattle.layout_record.specs.RecordLayoutFaults.{layoutRefused}
 use Rattle.layout_record.specs.RecordLayoutAnswer.{layoutAnswer}
@@ -17,35 +18,20 @@ returns : tie.Need-returns
 unfolding layoutAnswer
 returns c = let a = c .before .before .args in λ (L : Layout). sym (ap layoutAnswer (end-whole (a .bytes .now) (a .at) (a .numbers) L (c .if1 .taken)))
 
-field-at-requires : tie.Need-field-at-requires
-field-at-requires c κs = search needs
+field-in-requires : tie.Need-field-in-requires
+field-in-requires c κs = search needs
 
-refusal-of-requires : tie.Need-refusal-of-requires
-refusal-of-requires c κs = search needs
-
-place-of-requires : tie.Need-place-of-requires
-place-of-requires c κs = search needs
-
-refused-requires : tie.Need-refused-requires
-refused-requires c κs = search needs
+refused-by-requires : tie.Need-refused-by-requires
+refused-by-requires c κs = search needs
 
 returns-2 : tie.Need-returns-2
 returns-2 c =
-    let k = c .before .before .before in
+    let k = c .before in
     let a = k .before .before .before .args in
-    let e = k .field-at .ensures .0 ∙ ap (λ (m : List ℕ). fieldAt (a .bytes .now) (a .at) m 0) tags-empty in
-    λ (L : Layout). c .refused .ensures
-    ∙ (ap₂ (λ (x y : ℕ). layoutAnswer (layoutRefused x y)) (c .before .before .refusal-of .ensures ∙ ap refusalOf e)
-    (c .before .place-of .ensures ∙ ap placeOf e)
+    let e = k .field-in .ensures .0 ∙ ap (λ (m : List ℕ). fieldAt (a .bytes .now) (a .at) m 0) tags-empty in
+    λ (L : Layout). c .refused-by .ensures
+    ∙ (ap (λ (f : Field). layoutAnswer (layoutRefused (refusalOf f) (placeOf f))) e
     ∙ sym (ap layoutAnswer (end-more (a .bytes .now) (a .at) (a .numbers) L (k .before .if1 .left))))
 
 pub ended-spec : {M : Type 1} → statement M
-ended-spec =
-    tie.close
-    (tie.spec
-    returns
-    field-at-requires
-    refusal-of-requires
-    place-of-requires
-    refused-requires
-    returns-2)
+ended-spec = tie.close (tie.spec returns field-in-requires refused-by-requires returns-2)
