@@ -1,6 +1,6 @@
 -- The steps of the loops, over plain lists and numbers: cells that are written or shifted, parts of a walk, and the exchanges of a walk.
 -- Assumes nothing.
-use Prim.Native.Nat.{ℕ, zero, suc, _+_, _-_, _≤_, _<_}
+use Prim.Native.Nat.{ℕ, zero, suc, _+_, _-_, _/_, _^_, _≤_, _<_}
 use mathlib.Core.Path.{_≡_, refl, sym, ap, _∙_, subst}
 use mathlib.Core.Bool.{Bool, true, false, cond}
 use mathlib.Core.List.{List}
@@ -13,7 +13,10 @@ use lib.ListN.{length, getD, set, length-set}
 use lib.Seq.{getD-set-same, getD-set-other}
 use borrow.Author.Tests.{lt-ltb, le-ltb}
 use Rattle.sums.proofs.Sum.{lt-or-ge}
-use Rattle.sets.specs.ModelBits.{withOf, withoutOf, bitsAt}
+use Rattle.cluster.specs.Terms.{bufferRows}
+use Rattle.sets.specs.ModelBits.{maskBits, bit, withOf, withoutOf, bitsAt}
+use Rattle.sets.proofs.Laws.{bit-high, bit-with, bit-with-same}
+use Rattle.swaps.specs.ModelBlocks.{blockRows, ChangedIn}
 use Rattle.cells.specs.ModelCells.{put}
 use Rattle.cells.proofs.Cells.{put-more, length-put, getD-put-in, getD-put-out}
 use Rattle.exchange.specs.ModelUncross.{Walk, Same, partner, firstCrossed, inner, outer, split, uncross}
@@ -160,6 +163,20 @@ module _ (P : ℕ) (y q : ℕ → ℕ) (rows : List ℕ) where
           ≡ length rows
       go e true = length-set (exchanged P y q i rows) (q i) (withOf (withoutOf (getD (exchanged P y q i rows) (q i) 0) (y (suc i))) (y i)) ∙ e
       go e false = e
+
+-- Nothing changed in any block.
+pub changed-none : (m : ℕ) (rows : List ℕ) → ChangedIn m rows rows
+changed-none m rows = record { others = λ p e. refl }
+
+-- A row changed, and its block is told.
+pub changed-row : (m p v : ℕ) (rows r : List ℕ) → m < 2 ^ maskBits → p < bufferRows → ChangedIn m rows r → ChangedIn (withOf m (p / blockRows)) rows (set r p v)
+changed-row m p v rows r w l C =
+    record {
+      others = λ q e.
+          getD-set-other r p q v 0 (λ d. omega (arith, e, ap (λ (k : ℕ). bit (withOf m (p / blockRows)) (k / blockRows)) d, bit-with-same m (p / blockRows) (omega arith)))
+          ∙ C .others q
+          (⊎-elim (λ h. omega (arith, e, bit-with m (p / blockRows) (q / blockRows) h)) (λ h. bit-high maskBits m (q / blockRows) w h) (lt-or-ge (q / blockRows) maskBits));
+    }
 
 -- Walks that are the same make the same exchanges.
 pub exchanged-same : (P : ℕ) {w u : Walk} → Same w u → (rows : List ℕ) (n : ℕ) → n ≤ w .len

@@ -7,6 +7,7 @@ ghost use Rattle.cells.specs.ModelCells.{put};
 ghost use Rattle.cluster.specs.Terms.{mostNodes, bufferRows};
 ghost use Rattle.exchange.specs.ModelUncross.{split, uncross, Same};
 ghost use Rattle.sets.specs.ModelBits.{bitsAt};
+ghost use Rattle.swaps.specs.ModelBlocks.{ChangedIn};
 ghost use Rattle.walks.specs.ModelWalks.{okOf, walkIn};
 ghost use Rattle.circuits.specs.ModelCircuits.{witnessIn, freedOf, walkedOf, turnedOf};
 use cluster::Cluster;
@@ -123,22 +124,26 @@ fn free(
     len
 }
 
-// The exchanges of the walk are made: each takes its source from its row and adds its target.
-fn make(rows: &mut [u32], partitions: usize, y: &[u32], q: &[u32], m: usize)
-    requires { ⌜ (m < length (now y)) × (m ≤ length (now q)) × (partitions ≤ length (now rows)) ⌝ }
-    ensures { λ _. ⌜ now (rows .exit) ≡ walkedOf partitions (walkIn m (now (y .entry)) (now (q .entry))) (now (rows .entry)) ⌝ }
+// The exchanges of the walk are made: each takes its source from its row and adds its target. The blocks of the changed rows are answered.
+fn make(rows: &mut [u32], partitions: usize, y: &[u32], q: &[u32], m: usize) -> u32
+    requires { ⌜ (m < length (now y)) × (m ≤ length (now q)) × (partitions ≤ length (now rows)) × (partitions ≤ bufferRows) ⌝ }
+    ensures { λ r. ⌜ (now (rows .exit) ≡ walkedOf partitions (walkIn m (now (y .entry)) (now (q .entry))) (now (rows .entry)))
+        × ChangedIn r (now (rows .entry)) (now (rows .exit)) ⌝ }
 {
+    let mut changed = 0;
     let mut i = 0;
     while i < m {
         let p = q[i] as usize;
         if p < partitions {
             rows[p] = sets::with(sets::without(rows[p], y[i + 1]), y[i]);
+            changed = sets::with(changed, (p / swaps::BLOCK) as u32);
         }
         i += 1;
     }
+    changed
 }
 
-// The cycle of the m arcs over the nodes of `walk`, where all lengths are right.
+// The cycle of the m arcs over the nodes of `walk`, where all lengths are right. The blocks of the changed rows are answered.
 fn turn_all(
     rows: &mut [u32],
     former: &[u32],
@@ -149,12 +154,12 @@ fn turn_all(
     z: u32,
     walk: &[u32],
     m: usize,
-)
+) -> u32
     requires { ⌜ (m ≤ mostNodes) × (partitions ≤ bufferRows) × (partitions ≤ length (now rows)) × (m < length (now walk)) ⌝ }
-    ensures { λ _. ⌜ now (rows .exit)
+    ensures { λ r. ⌜ (now (rows .exit)
         ≡ walkedOf partitions
         (freedOf (now (rows .entry)) (now (former .entry)) partitions (now (mates .entry)) (now (arcs .entry)) all z (now (walk .entry)) m)
-        (now (rows .entry)) ⌝ }
+        (now (rows .entry))) × ChangedIn r (now (rows .entry)) (now (rows .exit)) ⌝ }
 {
     let mut y = [0u32; cycles::WALK];
     let mut q = [0u32; cycles::WALK];
@@ -172,11 +177,12 @@ fn turn_all(
         z,
     );
     let n = free(&mut y, &mut q, m, rows, former, partitions, mates, all, z);
-    make(rows, partitions, &y, &q, n);
+    make(rows, partitions, &y, &q, n)
 }
 
 // The exchanges of a cycle of m arcs over the nodes of `walk` (arc i goes from walk[i + 1] to walk[i]), freed of crossed pairs, are made in the
-// rows. `arcs` holds the exchange graph. Where a slice is too short, or there are more arcs than nodes or more partitions than a layout has, the rows are kept.
+// rows. `arcs` holds the exchange graph. The blocks of the changed rows are answered. Where a slice is too short, or there are more arcs than nodes or
+// more partitions than a layout has, the rows are kept.
 pub fn turn(
     rows: &mut [u32],
     former: &[u32],
@@ -187,27 +193,29 @@ pub fn turn(
     z: u32,
     walk: &[u32],
     m: u32,
-)
-    ensures { λ _. ⌜ now (rows .exit)
-        ≡ turnedOf (now (rows .entry)) (now (former .entry)) partitions (now (mates .entry)) (now (arcs .entry)) all z (now (walk .entry)) m ⌝ }
+) -> u32
+    ensures { λ r. ⌜ (now (rows .exit)
+        ≡ turnedOf (now (rows .entry)) (now (former .entry)) partitions (now (mates .entry)) (now (arcs .entry)) all z (now (walk .entry)) m)
+        × ChangedIn r (now (rows .entry)) (now (rows .exit)) ⌝ }
 {
     if NODES < m {
-        return;
+        return 0;
     }
     if Cluster::PARTITIONS < partitions {
-        return;
+        return 0;
     }
     if rows.len() < partitions {
-        return;
+        return 0;
     }
     if former.len() < partitions {
-        return;
+        return 0;
     }
     if arcs.len() < cycles::ARCS {
-        return;
+        return 0;
     }
     let n = m as usize;
-    if n < walk.len() {
-        turn_all(rows, former, partitions, mates, arcs, all, z, walk, n);
+    if walk.len() <= n {
+        return 0;
     }
+    turn_all(rows, former, partitions, mates, arcs, all, z, walk, n)
 }

@@ -133,6 +133,65 @@ grown-noted l a F T h g =
     (λ j b p q. by-weight a F T (j / mostNodes) (is a (j % mostNodes)) (is i j) (is (i + mostNodes) j) b q (is-le a (j % mostNodes)) (slot a (bit F a) j h)
     (ap (λ (x : ℕ). is x j) (omega arith) ∙ slot a (1 + bit F a) j h))
 
+-- The three sets of node a joined by those of X.
+pub grown-node : (l : List ℕ) (a lo mid hi : ℕ) (X : ℕ → ℕ → ℕ) → a < mostNodes → arcCells ≤ length l → ((b : ℕ) → b < mostNodes → bit lo b ≡ X a b)
+    → ((b : ℕ) → b < mostNodes → bit mid b ≡ X (a + mostNodes) b) → ((b : ℕ) → b < mostNodes → bit hi b ≡ X (a + 2 * mostNodes) b)
+    → Grown (λ j b. min (is a (j % mostNodes)) (X j b)) l (joined (joined (joined l a lo) (a + mostNodes) mid) (a + 2 * mostNodes) hi)
+grown-node l a lo mid hi X h g el em eh =
+    let first = joined l a lo in
+    let second = joined first (a + mostNodes) mid in
+    let F = grown-joined l a lo (omega arith) g in
+    let G = grown-joined first (a + mostNodes) mid (omega arith) (omega (arith, F .long)) in
+    let low : ℕ → ℕ → ℕ = λ j b. min (is a j) (bit lo b) in
+    let some : ℕ → ℕ → ℕ = λ j b. max (low j b) (min (is (a + mostNodes) j) (bit mid b)) in
+    grown-then some (λ j b. min (is (a + 2 * mostNodes) j) (bit hi b)) (λ j b. min (is a (j % mostNodes)) (X j b)) l second
+    (joined second (a + 2 * mostNodes) hi) (grown-then low (λ j b. min (is (a + mostNodes) j) (bit mid b)) some l first second F G (λ j b p q. refl))
+    (grown-joined second (a + 2 * mostNodes) hi (omega arith) (omega (arith, F .long, G .long))) cell
+  where
+    cell : (j b : ℕ) → j < arcCells → b < mostNodes
+        → max (max (min (is a j) (bit lo b)) (min (is (a + mostNodes) j) (bit mid b))) (min (is (a + 2 * mostNodes) j) (bit hi b))
+        ≡ min (is a (j % mostNodes)) (X j b)
+    cell j b p q =
+        ⊎-elim
+        (λ u. omega (
+          arith,
+          u .1,
+          is-ne {a = a + mostNodes} {b = j} (λ e. omega (arith, u .0)),
+          is-ne {a = a + 2 * mostNodes} {b = j} (λ e. omega (arith, u .0)),
+          is-eq {a = a} {b = j % mostNodes} (omega (arith, u .0)),
+          ap (λ (i : ℕ). X i b) (u .0),
+          el b q,
+          bit-le lo b,
+        ))
+        (λ u. ⊎-elim
+        (λ v. omega (
+          arith,
+          u .1,
+          v .1,
+          is-ne {a = a + 2 * mostNodes} {b = j} (λ e. omega (arith, v .0)),
+          is-eq {a = a} {b = j % mostNodes} (omega (arith, v .0)),
+          ap (λ (i : ℕ). X i b) (v .0),
+          em b q,
+          bit-le mid b,
+        ))
+        (λ v. ⊎-elim
+        (λ w. omega (
+          arith,
+          u .1,
+          v .1,
+          w .1,
+          is-eq {a = a} {b = j % mostNodes} (omega (arith, w .0)),
+          ap (λ (i : ℕ). X i b) (w .0),
+          eh b q,
+          bit-le hi b,
+        ))
+        (λ w. omega (arith, u .1, v .1, w .1, is-ne {a = a} {b = j % mostNodes} (λ e. three j p e (u .0) (v .0) (w .0)))) (is-cases (a + 2 * mostNodes) j))
+        (is-cases (a + mostNodes) j))
+        (is-cases a j)
+      where
+        three : (j : ℕ) → j < arcCells → a ≡ j % mostNodes → (a ≡ j → ⊥) → (a + mostNodes ≡ j → ⊥) → (a + 2 * mostNodes ≡ j → ⊥) → ⊥
+        three j p e u v w = omega arith
+
 -- ---- numbers that are added to
 
 -- Nothing added.

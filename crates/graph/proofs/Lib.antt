@@ -2,3 +2,4 @@ pub mod Growing
 pub mod Turns
 pub mod Members
 pub mod Exchanges
+pub mod Blocks

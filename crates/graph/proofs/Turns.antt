@@ -80,62 +80,35 @@ pub count-all : (row left : ℕ) (l₀ l : List ℕ) → left ≡ 0 → Added (�
 count-all row left l₀ l e A =
     record { long = A .long; cells = λ c p. A .cells c p ∙ ap (λ (d : ℕ). getD l₀ c 0 + d) (done-all row left c e) }
 
--- ---- the nodes with room
+-- ---- the nodes of a graph
 
--- What the nodes with room that are no more left add.
-unfoldable pub rooming : (ℕ → ℕ) → List ℕ → ℕ → ℕ → ℕ → ℕ → ℕ
-rooming copies caps all left j b =
-    min (bit all (j % mostNodes) - bit left (j % mostNodes)) (min (is 1 (j / mostNodes)) (min (one-if (ltb (copies (j % mostNodes)) (getD caps (j % mostNodes) 0))) (bit all b)))
+-- What the nodes of `all` that are no more left add to the sets, of all that X has.
+unfoldable pub adding : ℕ → ℕ → (ℕ → ℕ → ℕ) → ℕ → ℕ → ℕ
+adding all left X j b = min (bit all (j % mostNodes) - bit left (j % mostNodes)) (X j b)
 
-module _ (copies : ℕ → ℕ) (caps : List ℕ) (all : ℕ) (l₀ : List ℕ) where
+module _ (all : ℕ) (X : ℕ → ℕ → ℕ) (l₀ : List ℕ) where
   -- At first nothing is added.
-  pub room-none : Grown (rooming copies caps all all) l₀ l₀
-  unfolding rooming
-  room-none = grown-same (rooming copies caps all all) l₀ (λ j b p q. omega arith)
-
-  -- What a node gets: all, if it has room.
-  pub room-of : (a cap s : ℕ) → cap ≡ getD caps a 0 → ((copies a < cap) × (s ≡ all)) ⊎ ((cap ≤ copies a) × (s ≡ 0))
-      → (b : ℕ) → bit s b ≡ min (one-if (ltb (copies a) (getD caps a 0))) (bit all b)
-  unfolding one-if
-  room-of a cap s e w b =
-      ⊎-elim
-      (λ u. omega (arith, ap (λ (x : ℕ). bit x b) (u .1), ap one-if (lt-ltb (copies a) (getD caps a 0) (omega (arith, u .0))), bit-le all b))
-      (λ u. omega (arith, ap (λ (x : ℕ). bit x b) (u .1), ap one-if (le-ltb (copies a) (getD caps a 0) (omega (arith, u .0))), bit-zero b)) w
+  pub nodes-none : Grown (adding all all X) l₀ l₀
+  unfolding adding
+  nodes-none = grown-same (adding all all X) l₀ (λ j b p q. omega arith)
 
   -- A turn.
-  pub room-turn : (left a next s : ℕ) (l m : List ℕ) → Left all left → (left ≡ 0 → ⊥) → arcCells ≤ length l₀
-      → a ≡ leastOf left → next ≡ withoutOf left a → ((b : ℕ) → bit s b ≡ min (one-if (ltb (copies a) (getD caps a 0))) (bit all b))
-      → m ≡ joined l (a + mostNodes) s
-      → Grown (rooming copies caps all left) l₀ l → Grown (rooming copies caps all next) l₀ m
-  unfolding rooming
-  room-turn left a next s l m L n g ea en es em G =
-      let lt : a < mostNodes = omega (arith, least-word all left L n) in
-      rw (em, en, ap (λ (x : ℕ). withoutOf left x) ea)
-      (grown-then (rooming copies caps all left) (λ j b. min (is (a + mostNodes) j) (bit s b))
-      (rooming copies caps all (withoutOf left (leastOf left))) l₀ l (joined l (a + mostNodes) s) G
-      (grown-joined l (a + mostNodes) s (omega arith) (omega (arith, G .long)))
-      (λ j b p q.
-      ap (λ (x : ℕ). max (rooming copies caps all left j b) x)
-      (ap₂ min (slot a 1 j lt) (es b)
-      ∙ regroup (is a (j % mostNodes)) (is 1 (j / mostNodes)) (min (one-if (ltb (copies a) (getD caps a 0))) (bit all b)))
-      ∙ done-grows all left L n (j % mostNodes) (is a (j % mostNodes)) (min (is 1 (j / mostNodes)) (min (one-if (ltb (copies a) (getD caps a 0))) (bit all b)))
-      (min (is 1 (j / mostNodes)) (min (one-if (ltb (copies (j % mostNodes)) (getD caps (j % mostNodes) 0))) (bit all b))) (omega arith)
-      (ap (λ (x : ℕ). is x (j % mostNodes)) ea)
-      (λ e. ap (λ (i : ℕ). min (is 1 (j / mostNodes)) (min (one-if (ltb (copies i) (getD caps i 0))) (bit all b))) (ea ∙ e))))
-    where
-      regroup : (x y z : ℕ) → min (min x y) z ≡ min x (min y z)
-      regroup x y z = omega arith
+  pub nodes-turn : (left a next : ℕ) (l m : List ℕ) → Left all left → (left ≡ 0 → ⊥) → a ≡ leastOf left → next ≡ withoutOf left a
+      → Grown (adding all left X) l₀ l → Grown (λ j b. min (is a (j % mostNodes)) (X j b)) l m → Grown (adding all next X) l₀ m
+  unfolding adding
+  nodes-turn left a next l m L n ea en G H =
+      rw (en, ap (λ (x : ℕ). withoutOf left x) ea)
+      (grown-then (adding all left X) (λ j b. min (is a (j % mostNodes)) (X j b)) (adding all (withoutOf left (leastOf left)) X) l₀ l m G H
+      (λ j b p q. done-grows all left L n (j % mostNodes) (is a (j % mostNodes)) (X j b) (X j b) (omega arith) (ap (λ (x : ℕ). is x (j % mostNodes)) ea) (λ e. refl)))
 
-  -- At last every node with room has all.
-  pub room-all : (left : ℕ) (l : List ℕ) → left ≡ 0 → Grown (rooming copies caps all left) l₀ l → Grown (roomy copies caps all) l₀ l
-  unfolding rooming roomy
-  room-all left l e G =
+  -- At last the sets of all nodes of `all` are there.
+  pub nodes-all : (left : ℕ) (l : List ℕ) → left ≡ 0 → Grown (adding all left X) l₀ l → Grown (λ j b. min (bit all (j % mostNodes)) (X j b)) l₀ l
+  unfolding adding
+  nodes-all left l e G =
       record {
         long = G .long;
         bits = λ j b p q.
-            G .bits j b p q
-            ∙ ap (λ (d : ℕ). max (bit (getD l₀ j 0) b) (min d (min (is 1 (j / mostNodes)) (min (one-if (ltb (copies (j % mostNodes)) (getD caps (j % mostNodes) 0))) (bit all b)))))
-            (done-all all left (j % mostNodes) e);
+            G .bits j b p q ∙ ap (λ (d : ℕ). max (bit (getD l₀ j 0) b) (min d (X j b))) (done-all all left (j % mostNodes) e);
         rest = G .rest;
       }
 
@@ -165,7 +138,7 @@ module _ (rows : List ℕ) where
   copies-le zero c = omega arith
   copies-le (suc p) c = omega (arith, copies-le p c, bit-le (getD rows p 0) c)
 
-module _ (rows former mates caps : List ℕ) (all z : ℕ) where
+module _ (rows former mates : List ℕ) (all z : ℕ) where
   -- Before the first row nothing is added.
   pub rows-none : (l₀ : List ℕ) → Grown (movesTo rows former 0 mates all z) l₀ l₀
   unfolding movesTo maxTo
@@ -180,42 +153,3 @@ module _ (rows former mates caps : List ℕ) (all z : ℕ) where
       (λ j b q r.
       ap (λ (x : ℕ). max (movesTo rows former p mates all z j b) x) (ap₂ (λ (x y : ℕ). moves mates all z x y j b) es ef)
       ∙ ap (λ (k : ℕ). movesTo rows former k mates all z j b) (sym (add-one p)))
-
-  -- Where there is room for all sets, they are written.
-  pub arcs-all : (P : ℕ) (l₀ l₁ l₂ l₃ counts : List ℕ) → arcCells ≤ length l₀ → l₁ ≡ tab (λ k. 0) arcCells ++ drop arcCells l₀
-      → Grown (movesTo rows former P mates all z) l₁ l₂ → Added (copiesTo rows P) (replicate mostNodes 0) counts
-      → Grown (roomy (λ a. getD counts a 0) caps all) l₂ l₃ → ((j : ℕ) → getD l₃ j 0 < 2 ^ maskBits)
-      → l₃ ≡ arcsOf rows former P mates caps all z l₀
-  unfolding arcsOf cellOf
-  arcs-all P l₀ l₁ l₂ l₃ counts g e G A H word =
-      sym (take-append-drop arcCells l₃)
-      ∙ (ap₂ (λ (x y : List ℕ). x ++ y)
-      (ext-getD 0 (take arcCells l₃) (tab (cellOf rows former P mates caps all z) arcCells) (long ∙ sym (length-tab (cellOf rows former P mates caps all z) arcCells))
-      (λ j h. let q : j < arcCells = omega (arith, long) in
-      getD-take arcCells l₃ j 0 q ∙ (cell j q ∙ sym (getD-tab (cellOf rows former P mates caps all z) arcCells j 0 q))))
-      (H .rest ∙ (G .rest ∙ (ap (λ (l : List ℕ). drop arcCells l) e ∙ drop-at (tab (λ k. 0) arcCells) (drop arcCells l₀) arcCells (length-tab (λ k. 0) arcCells))))
-      ∙ sym (rw (le-ltb (length l₀) arcCells g)))
-    where
-      long : length (take arcCells l₃) ≡ arcCells
-      long =
-          length-take-le arcCells l₃
-          (omega (arith, H .long, G .long, clear-length l₀ l₁ g e))
-
-      empty : (j b : ℕ) → j < arcCells → bit (getD l₁ j 0) b ≡ 0
-      empty j b q =
-          ap (λ (l : List ℕ). bit (getD l j 0) b) e
-          ∙ (ap (λ (x : ℕ). bit x b) (List·getD-append (tab (λ k. 0) arcCells) (drop arcCells l₀) 0 j (omega (arith, length-tab {A = ℕ} (λ k. 0) arcCells)) ∙ getD-tab (λ k. 0) arcCells j 0 q)
-          ∙ bit-zero b)
-
-      counted : (c : ℕ) → c < mostNodes → getD counts c 0 ≡ copiesTo rows P c
-      counted c l = omega (arith, A .cells c l, getD-replicate {A = ℕ} mostNodes c 0 0 l)
-
-      room : (j b : ℕ) → roomy (λ a. getD counts a 0) caps all j b ≡ roomy (copiesTo rows P) caps all j b
-      room j b =
-          unfold roomy in
-          ap (λ (n : ℕ). min (bit all (j % mostNodes)) (min (is 1 (j / mostNodes)) (min (one-if (ltb n (getD caps (j % mostNodes) 0))) (bit all b)))) (counted (j % mostNodes) (omega arith))
-
-      cell : (j : ℕ) → j < arcCells → getD l₃ j 0 ≡ cellOf rows former P mates caps all z j
-      cell j q =
-          mask-unique maskBits (getD l₃ j 0) (λ b. max (movesTo rows former P mates all z j b) (roomy (copiesTo rows P) caps all j b)) (word j)
-          (λ b r. omega (arith, bit-le (getD l₃ j 0) b, H .bits j b q r, G .bits j b q r, empty j b q, room j b))

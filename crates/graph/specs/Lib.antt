@@ -1,2 +1,3 @@
 pub mod ModelArcs
 pub mod ModelGrowth
+pub mod ModelKept

@@ -29,15 +29,15 @@ movesTo rows former p mates all z j b = maxTo p (λ q. moves mates all z (getD r
 unfoldable pub copiesTo : List ℕ → ℕ → ℕ → ℕ
 copiesTo rows p a = sumTo p (λ q. bit (getD rows q 0) a)
 
--- 1 where j is the cell at weight 0 of a node of `all` with fewer copies than its cap, and b is of `all`.
+-- 1 where j is the cell at weight 0 of a node with fewer copies than its cap, and b is of `all`.
 unfoldable pub roomy : (ℕ → ℕ) → List ℕ → ℕ → ℕ → ℕ → ℕ
 roomy copies caps all j b =
-    min (bit all (j % mostNodes)) (min (is 1 (j / mostNodes)) (min (one-if (ltb (copies (j % mostNodes)) (getD caps (j % mostNodes) 0))) (bit all b)))
+    min (is 1 (j / mostNodes)) (min (one-if (ltb (copies (j % mostNodes)) (getD caps (j % mostNodes) 0))) (bit all b))
 
--- The set in cell j.
+-- The set in cell j: nothing for a node outside of `all`.
 unfoldable pub cellOf : List ℕ → List ℕ → ℕ → List ℕ → List ℕ → ℕ → ℕ → ℕ → ℕ
 cellOf rows former P mates caps all z j =
-    maskOf (λ b. max (movesTo rows former P mates all z j b) (roomy (copiesTo rows P) caps all j b)) maskBits
+    maskOf (λ b. min (bit all (j % mostNodes)) (max (movesTo rows former P mates all z j b) (roomy (copiesTo rows P) caps all j b))) maskBits
 
 -- All sets, in a list that has room for them.
 unfoldable pub arcsOf : List ℕ → List ℕ → ℕ → List ℕ → List ℕ → ℕ → ℕ → List ℕ → List ℕ

@@ -65,7 +65,7 @@ module _ (rows former : List ℕ) (P : ℕ) (mates caps : List ℕ) (n z : ℕ) 
       step-kept allowed w = (can, ap₂ (λ (b d : Bool). cond (b && d) (nextIn former P mates caps n z rows) rows) can (sym w))
 
 -- A step keeps the number of rows.
-pub stepped-length : (former : List ℕ) (P : ℕ) (mates caps : List ℕ) (n z : ℕ) (allowed : Bool) (rows : List ℕ)
+stepped-length : (former : List ℕ) (P : ℕ) (mates caps : List ℕ) (n z : ℕ) (allowed : Bool) (rows : List ℕ)
     → length (steppedIn former P mates caps n z allowed rows) ≡ length rows
 unfolding steppedIn nextIn
 stepped-length former P mates caps n z allowed rows = go (improvesIn former P mates caps n z rows && allowed)
@@ -75,6 +75,11 @@ stepped-length former P mates caps n z allowed rows = go (improvesIn former P ma
         turned-length rows former P mates (arcsIn former P mates caps n z rows) (belowOf n) z
         (foundWalk (arcsIn former P mates caps n z rows) n (replicate walkCells 0)) (cycleIn former P mates caps n z rows)
     go false = refl
+
+-- So the rows after it are as many as at the beginning.
+pub stepped-long : (former : List ℕ) (P : ℕ) (mates caps : List ℕ) (n z : ℕ) (allowed : Bool) (first rows new : List ℕ) → length rows ≡ length first
+    → new ≡ steppedIn former P mates caps n z allowed rows → length new ≡ length first
+stepped-long former P mates caps n z allowed first rows new l e = ap length e ∙ (stepped-length former P mates caps n z allowed rows ∙ l)
 
 -- ---- the run
 

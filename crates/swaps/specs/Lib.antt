@@ -1,2 +1,3 @@
 pub mod ModelSwaps
 pub mod ModelMates
+pub mod ModelBlocks

@@ -4,6 +4,9 @@ ghost use mathlib.Core.Path.{_≡_};
 ghost use lib.ListN.{getD};
 ghost use Rattle.swaps.specs.ModelSwaps.{coverOf, coveredOf, targetsIn, targetsOf};
 
+// The rows of a block: what a block of rows allows is kept until one of its rows changes. Row p stands in block p / BLOCK.
+pub const BLOCK: usize = 16;
+
 // The cell i of a slice; 0 past its end.
 pub fn cell(cells: &[u32], i: usize) -> u32
     ensures { λ r. ⌜ r ≡ getD (now (cells .entry)) i 0 ⌝ }

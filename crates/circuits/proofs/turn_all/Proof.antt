@@ -52,10 +52,12 @@ returns c = let f = c .before .before .before .before .before .before .before .b
     let cycle =
     loaded (a .rows .now) (a .former .now) (a .partitions) (a .mates .now) (a .arcs .now) (a .all) (a .z) (a .walk .now) (a .m) (l .last .0)
     (l .last .1 .0) (replicate walkCells 0) (replicate walkCells 0) (l .ensures .0) (omega arith) (l .ensures .1) (omega arith) in
-    let made : c .before .before .make .last .0 ≡ walkedOf (a .partitions) (walkIn (f .free .result) (f .free .last .0) (f .free .last .1 .0)) (a .rows .now) = c .before .before .make .ensures in
-    made
-    ∙ turned-in (a .rows .now) (a .former .now) (a .partitions) (a .mates .now) (a .arcs .now) (a .all) (a .z) (a .walk .now) (a .m)
-    (walkIn (a .m) (l .last .0) (l .last .1 .0)) (walkIn (f .free .result) (f .free .last .0) (f .free .last .1 .0)) cycle (f .free .ensures .3)
+    let made : c .before .before .make .last .0 ≡ walkedOf (a .partitions) (walkIn (f .free .result) (f .free .last .0) (f .free .last .1 .0)) (a .rows .now) = c .before .before .make .ensures .0 in (
+      made
+          ∙ turned-in (a .rows .now) (a .former .now) (a .partitions) (a .mates .now) (a .arcs .now) (a .all) (a .z) (a .walk .now) (a .m)
+          (walkIn (a .m) (l .last .0) (l .last .1 .0)) (walkIn (f .free .result) (f .free .last .0) (f .free .last .1 .0)) cycle (f .free .ensures .3),
+      c .before .before .make .ensures .1,
+    )
 
 pub turn-all-spec : {M : Type 1} → statement M
 turn-all-spec =

@@ -1,119 +1,109 @@
--- `graph::build` meets its contract. The loop's invariant: the rows passed have been added and counted.
--- Assumes nothing.
-use Prim.Native.Nat.{ℕ, _-_, _≤_}
-use mathlib.Core.Path.{_≡_, sym, _∙_, subst}
-use lib.ListN.{length, replicate, getD-replicate}
-use borrow.Author.Tests.{lt-ltb}
-use Rattle.graph.specs.ModelArcs.{movesTo, copiesTo, arcsOf}
-use Rattle.graph.specs.ModelGrowth.{Grown, Added}
-use Rattle.graph.proofs.Turns.{rows-none, rows-turn, copies-none, copies-turn, copies-le, clear-length, arcs-all}
+-- `graph::build` meets its contract. The loop's invariant: the blocks that are not left are right.
+-- The measure is the number of blocks that are left. Assumes nothing.
 use borrow.Author.Needs.{needs}
 use native.Mathlib.Omega.{arith}
-use Rattle.cluster.specs.Terms.{mostNodes}
+use Prim.Native.Nat.{ℕ, _+_, _-_, _/_, _^_, _≤_, _<_}
+use mathlib.Core.Path.{_≡_, refl, sym, ap, _∙_, subst}
+use lib.ListN.{length}
+use borrow.Author.Tests.{lt-ltb}
+use Rattle.cluster.specs.Terms.{bufferRows}
 use Rattle.cycles.specs.ModelGraph.{arcCells}
+use Rattle.sets.specs.ModelBits.{maskBits, countOf, leastOf}
+use Rattle.sets.proofs.Laws.{without-lt, least-taken}
+use Rattle.swaps.specs.ModelBlocks.{blockRows}
+use Rattle.graph.specs.ModelArcs.{arcsOf}
+use Rattle.graph.specs.ModelKept.{Kept}
+use Rattle.graph.proofs.Turns.{clear-length}
+use Rattle.graph.proofs.Blocks.{arcs-all}
 use Rattle.graph.proofs.build.Statement.{statement}
 use Rattle.graph.proofs.build.Tie as tie
 
 abbrev Inv-loop : tie.InvT-loop
-Inv-loop rows former partitions mates caps all z arcs₀ counts₀ p₀ arcs counts p =
-    (p ≤ partitions)
-    × (arcCells ≤ length arcs₀)
-    × Grown (movesTo rows former p mates all z) arcs₀ arcs
-    × Added (copiesTo rows p) (replicate mostNodes 0) counts
+Inv-loop rows former partitions mates caps all z stale kept₀ arcs left₀ kept left =
+    (partitions ≤ bufferRows) × (left < 2 ^ maskBits) × Kept rows former partitions mates all z left kept
 
 abbrev μ-loop : tie.MeasureT-loop
-μ-loop rows former partitions mates caps all z arcs₀ counts₀ p₀ arcs counts p = partitions - p
+μ-loop rows former partitions mates caps all z stale kept₀ arcs left₀ kept left = countOf left
+
+-- Where no block is left, all are right.
+fresh : (k : tie.At-loop Inv-loop μ-loop) → k .loop .left ≡ 0
+    → (let a = k .before .before .before .before .before .before .before .args in
+    Kept (a .rows .now) (a .former .now) (a .partitions) (a .mates .now) (a .all) (a .z) 0 (k .loop .kept))
+fresh k e =
+    let a = k .before .before .before .before .before .before .before .args in
+    subst (λ (x : ℕ). Kept (a .rows .now) (a .former .now) (a .partitions) (a .mates .now) (a .all) (a .z) x (k .loop .kept)) e (k .loop .inv .2)
+
+loop-holds : tie.Need-loop-holds Inv-loop μ-loop
+loop-holds c = (search needs, search needs, c .before .before .before .before .before .before .pre .1)
+
+renew-requires : tie.Need-renew-requires Inv-loop μ-loop
+renew-requires c κs = let k = c .before .before in (k .loop .inv .0, c .before .loop-test .taken, k .loop .inv .2)
+
+loop-less : tie.Need-loop-less Inv-loop μ-loop
+loop-less c =
+    let r = c .before .before in
+    let k = r .before .before .before in
+    omega (arith, least-taken (k .loop .left) (k .loop .inv .1) (r .before .before .loop-test .taken), ap countOf (r .renew .ensures .0))
+
+loop-again : tie.Need-loop-again Inv-loop μ-loop
+loop-again c =
+    let r = c .before .before in
+    let k = r .before .before .before in
+    (k .loop .inv .0, omega (arith, r .renew .ensures .0, without-lt (k .loop .left) (leastOf (k .loop .left))), r .renew .ensures .1)
+
+same-length : tie.Need-same-length Inv-loop μ-loop
+same-length c = let k = c .before .before in k .loop .inv .2 .long ∙ sym (k .before .before .before .before .before .before .before .pre .1 .long)
 
 returns : tie.Need-returns Inv-loop μ-loop
 unfolding arcsOf
-returns c = rw (lt-ltb (length (c .before .before .before .before .before .before .args .arcs .now)) arcCells (c .if1 .taken))
+returns c =
+    let k = c .before .before in
+    let a = k .before .before .before .before .before .before .before .args in (
+      sym (rw (lt-ltb (length (a .arcs .now)) arcCells (c .if1 .taken))),
+      fresh k (c .before .loop-test .left),
+    )
 
 clear-requires : tie.Need-clear-requires Inv-loop μ-loop
 clear-requires c κs = search needs
 
-loop-holds : tie.Need-loop-holds Inv-loop μ-loop
-loop-holds c =
-    let a = c .before .before .before .before .before .before .before .before .before .before .args in
-    let g : arcCells ≤ length (a .arcs .now) = omega arith in (
+sub-blocks : tie.Need-sub-blocks Inv-loop μ-loop
+sub-blocks c = search needs
+
+add-blocks : tie.Need-add-blocks Inv-loop μ-loop
+add-blocks c = search needs
+
+add-nodes-requires : tie.Need-add-nodes-requires Inv-loop μ-loop
+add-nodes-requires c κs =
+    let l = c .before .before .before .before in
+    let k = l .before .before .before .before in
+    let a = k .before .before .before .before .before .before .before .args in (
+      omega (arith, clear-length (a .arcs .now) (l .clear .last .0) (omega arith) (l .clear .ensures)),
+      k .loop .inv .2 .long,
       search needs,
-      omega (arith, clear-length (a .arcs .now) (c .before .before .clear .last .0) g (c .before .before .clear .ensures)),
-      rows-none (a .rows .now) (a .former .now) (a .mates .now) (a .caps .now) (a .all) (a .z) (c .before .before .clear .last .0),
-      copies-none (a .rows .now) (replicate mostNodes 0),
     )
 
--- There is a count for each node.
-full : (k : tie.At-loop Inv-loop μ-loop) → length (k .loop .counts) ≡ mostNodes
-full k = k .loop .inv .3 .long
+same-length-2 : tie.Need-same-length-2 Inv-loop μ-loop
+same-length-2 c = let k = c .before .before .before .before .before .before .before .before .before .before .before in k .loop .inv .2 .long ∙ sym (k .before .before .before .before .before .before .before .pre .1 .long)
 
-slice-aggregate-add-row : tie.Need-slice-aggregate-add-row Inv-loop μ-loop
-slice-aggregate-add-row c = sym (full (c .before .before .before))
-
-cell-requires : tie.Need-cell-requires Inv-loop μ-loop
-cell-requires c κs = search needs
-
-cell-requires-2 : tie.Need-cell-requires-2 Inv-loop μ-loop
-cell-requires-2 c κs = search needs
-
-add-row-requires : tie.Need-add-row-requires Inv-loop μ-loop
-add-row-requires c κs =
-    let k = c .before .before .before .before .before in
-    let a = k .before .before .before .before .before .before .before .before .before .before .before .args in (
-      omega (arith, k .loop .inv .2 .long),
-      omega (arith, full k),
-      λ i h. omega (
-        arith,
-        k .loop .inv .3 .cells i h,
-        getD-replicate {A = ℕ} mostNodes i 0 0 h,
-        copies-le (a .rows .now) (k .loop .p) i,
-      ),
-    )
-
-add-p : tie.Need-add-p Inv-loop μ-loop
-add-p c = search needs
-
-loop-less : tie.Need-loop-less Inv-loop μ-loop
-loop-less c = omega arith
-
-loop-again : tie.Need-loop-again Inv-loop μ-loop
-loop-again c =
-    let r = c .before .before .before in
-    let k = r .before .before .before .before .before .before in
-    let a = k .before .before .before .before .before .before .before .before .before .before .before .args in (
-      omega arith,
-      k .loop .inv .1,
-      rows-turn (a .rows .now) (a .former .now) (a .mates .now) (a .caps .now) (a .all) (a .z) (k .loop .p) (r .before .before .cell .result) (r .before .cell2 .result)
-          (k .before .before .before .clear .last .0) (k .loop .arcs) (r .add-row .last .0) (r .before .before .cell .ensures) (r .before .cell2 .ensures) (k .loop .inv .2) (r .add-row .ensures .0),
-      copies-turn (a .rows .now) (k .loop .p) (r .before .before .cell .result)
-          (replicate mostNodes 0) (k .loop .counts) (r .add-row .last .1 .0) (r .before .before .cell .ensures) (k .loop .inv .3) (r .add-row .ensures .1),
-    )
-
-slice-aggregate-add-room : tie.Need-slice-aggregate-add-room Inv-loop μ-loop
-slice-aggregate-add-room c = sym (full (c .before .before .before))
-
-add-room-requires : tie.Need-add-room-requires Inv-loop μ-loop
-add-room-requires c κs =
-    let k = c .before .before .before in
-    (omega (arith, k .loop .inv .2 .long), omega (arith, full k))
-
-same-length : tie.Need-same-length Inv-loop μ-loop
-same-length c =
+same-length-3 : tie.Need-same-length-3 Inv-loop μ-loop
+same-length-3 c =
     let r = c .before .before in
-    let k = r .before .before .before .before in
-    let a = k .before .before .before .before .before .before .before .before .before .before .before .args in
-    r .add-room .ensures .long
-    ∙ (k .loop .inv .2 .long ∙ clear-length (a .arcs .now) (k .before .before .before .clear .last .0) (omega arith) (k .before .before .before .clear .ensures))
+    let l = r .before .before .before .before .before in
+    let a = l .before .before .before .before .before .before .before .before .before .before .before .args in
+    r .add-nodes .ensures .long ∙ clear-length (a .arcs .now) (l .clear .last .0) (omega arith) (l .clear .ensures)
 
 returns-2 : tie.Need-returns-2 Inv-loop μ-loop
 returns-2 c =
     let r = c .before .before in
-    let k = r .before .before .before .before in
-    let a = k .before .before .before .before .before .before .before .before .before .before .before .args in
-    let e : k .loop .p ≡ a .partitions = omega arith in
-    arcs-all (a .rows .now) (a .former .now) (a .mates .now) (a .caps .now) (a .all) (a .z) (a .partitions) (a .arcs .now) (k .before .before .before .clear .last .0)
-    (k .loop .arcs) (r .add-room .last .0) (k .loop .counts) (omega arith) (k .before .before .before .clear .ensures)
-    (subst (λ (p : ℕ). Grown (movesTo (a .rows .now) (a .former .now) p (a .mates .now) (a .all) (a .z)) (k .before .before .before .clear .last .0) (k .loop .arcs)) e (k .loop .inv .2))
-    (subst (λ (p : ℕ). Added (copiesTo (a .rows .now) p) (replicate mostNodes 0) (k .loop .counts)) e (k .loop .inv .3)) (r .add-room .ensures)
-    (λ j. omega (arith, c .slice-known4 .given j))
+    let l = r .before .before .before .before .before in
+    let k = l .before .before .before .before in
+    let a = k .before .before .before .before .before .before .before .args in
+    let K = fresh k (l .before .before .before .loop-test .left) in (
+      arcs-all (a .former .now) (a .partitions) (a .mates .now) (a .all) (a .z) (k .loop .inv .0) (a .rows .now) (k .loop .kept) K
+          ((a .partitions + (blockRows - 1)) / blockRows) refl (a .caps .now) (a .arcs .now) (l .clear .last .0) (r .add-nodes .last .0) (omega arith) (l .clear .ensures)
+          (r .add-nodes .ensures) (λ j. omega (arith, c .slice-known5 .given j)),
+      K,
+    )
 
 pub build-spec : {M : Type 1} → statement M
 build-spec =
@@ -121,17 +111,16 @@ build-spec =
     (tie.spec
     Inv-loop
     μ-loop
-    returns
-    clear-requires
     loop-holds
-    slice-aggregate-add-row
-    cell-requires
-    cell-requires-2
-    add-row-requires
-    add-p
+    renew-requires
     loop-less
     loop-again
-    slice-aggregate-add-room
-    add-room-requires
     same-length
+    returns
+    clear-requires
+    sub-blocks
+    add-blocks
+    add-nodes-requires
+    same-length-2
+    same-length-3
     returns-2)
