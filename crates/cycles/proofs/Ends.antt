@@ -2,33 +2,32 @@
 -- around that cycle.
 -- Assumes nothing.
 use Prim.Native.Nat.{ℕ, zero, suc, _+_, _-_, _*_, _≤_, _<_, _^_}
-use mathlib.Core.Path.{_≡_, refl, sym, ap, _∙_, subst}
+use mathlib.Core.Path.{_≡_, refl, sym, ap, ap₂, _∙_, subst}
 use mathlib.Core.Bool.{Bool, true, false, cond, _&&_}
 use mathlib.Core.List.{List}
 use mathlib.Core.Logic.{⊎-elim}
-use native.Mathlib.Nat.{zero-add, sub-zero}
+use native.Mathlib.Nat.{sub-zero}
 use native.Mathlib.Numerals.{add-one}
 use native.Mathlib.Omega.{arith}
 use lib.Dec.{ltb, eqb}
-use lib.ListN.{length, getD, set, take, drop}
+use lib.ListN.{getD, take, drop}
 use lib.Seq.{getD-take, getD-drop}
 use borrow.Author.Tests.{lt-ltb, le-ltb}
 use Rattle.cluster.specs.Terms.{mostNodes}
-use Rattle.sums.specs.ModelSums.{is, firstFrom}
-use Rattle.sums.proofs.Sum.{lt-or-ge, is-eq}
+use Rattle.sums.specs.ModelSums.{firstFrom}
+use Rattle.sums.proofs.Sum.{lt-or-ge}
 use Rattle.cells.specs.ModelCells.{put}
-use Rattle.cells.proofs.Cells.{getD-put-in, put-cong}
-use Rattle.sets.specs.ModelBits.{maskBits, bit, memberOf, withOf, leastOf}
-use Rattle.sets.proofs.Laws.{bit-le, bit-zero, bit-true, bit-false, bit-with, bit-without, least-some, least-at}
+use Rattle.cells.proofs.Cells.{put-cong}
+use Rattle.sets.specs.ModelBits.{maskBits, bit, memberOf, leastOf}
+use Rattle.sets.proofs.Laws.{bit-zero, member-true, member-false, bit-true, bit-false, bit-with, least-some, least-at}
 use Rattle.exchange.specs.ModelLevels as levels
 use Rattle.exchange.specs.ModelLevels.{Graph, Outcome, Potential, Cycle, fell, back, way, closes, search-from, outcome, cycleLength}
 use Rattle.exchange.proofs.Levels.{from-node}
 use Rattle.sums.proofs.Tests.{true-or-false}
-use Rattle.exchange.proofs.Search.{open-next, Closing, closing, way-next, way-stays, way-self, way-le, back-next, back-fell, back-node}
+use Rattle.exchange.proofs.Search.{open-next, Closing, closing, way-next, way-stays, back-next, back-fell, back-node}
 use Rattle.sums.proofs.First.{first-lt, first-cong, first-is-none, first-some, first-none, first-cases}
 use Rattle.cycles.specs.ModelFound.{endLength, endWalk}
-use Rattle.cycles.specs.ModelTurns.{before, closer, trail, trailLength}
-use Rattle.cycles.proofs.Parts.{before-fallen, before-stayed}
+use Rattle.cycles.specs.ModelTurns.{Settled, before, longer, returned, closer, trail, trailLength}
 use Rattle.cycles.proofs.States.{State, Next}
 
 -- One level down from level k, with all that the cells hold: the state before, the next level, and the row of the nodes that the fallen came from.
@@ -93,43 +92,41 @@ module _ {G : Graph} {k set mask : ℕ} {next table dist next₀ ways table₀ r
   pub row-node : (v : ℕ) → v < n → memberOf set v ≡ true → getD row v 0 < mostNodes
   row-node v l e = omega (arith, row-from v l (sym (T .down .marks v l) ∙ e), from-node G (suc k) v (T .below) l)
 
-  before-fell : (v x : ℕ) → v < n → x < mostNodes → fell G (suc k) v ≡ true → bit (before set row ways v) x ≡ way G k (levels.from G (suc k) v) x
-  before-fell v x l m e =
-      ap (λ (i : ℕ). bit i x) (sym (before-fallen set row ways v (T .down .marks v l ∙ e)))
-      ∙ (ap (λ (i : ℕ). bit (getD ways i 0) x) (row-from v l e) ∙ T .state .ways (levels.from G (suc k) v) x (from-node G (suc k) v (T .below) l) m)
+  before-is : (v x : ℕ) → v < n → x < mostNodes → fell G (suc k) v ≡ true → bit (before row ways v) x ≡ way G k (levels.from G (suc k) v) x
+  unfolding before
+  before-is v x l m e =
+      ap (λ (i : ℕ). bit (getD ways i 0) x) (row-from v l e) ∙ T .state .ways (levels.from G (suc k) v) x (from-node G (suc k) v (T .below) l) m
 
-  before-stay : (v x : ℕ) → v < n → x < mostNodes → fell G (suc k) v ≡ false → bit (before set row ways v) x ≡ way G k v x - is v x
-  before-stay v x l m e =
-      ap (λ (i : ℕ). bit i x) (sym (before-stayed set row ways v (T .down .marks v l ∙ e)))
-      ∙ (bit-without (getD ways v 0) v x m ∙ ap (λ (i : ℕ). i - is v x) (T .state .ways v x l m))
-
-  -- A node is on the way that its own grows from if it closes a cycle.
-  closes-is : (v : ℕ) → v < n → memberOf (before set row ways v) v ≡ closes G (suc k) v
-  unfolding closes memberOf
+  -- A node that fell is on the way that its own grows from if it closes a cycle.
+  closes-is : (v : ℕ) → v < n → returned set row ways v ≡ closes G (suc k) v
+  unfolding closes memberOf returned
   closes-is v l = ⊎-elim yes no (true-or-false (fell G (suc k) v))
     where
-      yes : fell G (suc k) v ≡ true → memberOf (before set row ways v) v ≡ closes G (suc k) v
-      yes e =
-          ap (λ (i : ℕ). eqb i 1) (before-fell v v l (omega arith) e)
-          ∙ ap (λ (b : Bool). b && eqb (way G k (levels.from G (suc k) v) v) 1) (sym e)
+      yes : fell G (suc k) v ≡ true → returned set row ways v ≡ closes G (suc k) v
+      yes e = ap₂ _&&_ (T .down .marks v l) (ap (λ (i : ℕ). eqb i 1) (before-is v v l (omega arith) e))
 
-      no : fell G (suc k) v ≡ false → memberOf (before set row ways v) v ≡ closes G (suc k) v
+      no : fell G (suc k) v ≡ false → returned set row ways v ≡ closes G (suc k) v
       no e =
-          bit-false (before set row ways v) v (omega (arith, before-stay v v l (omega arith) e, is-eq {a = v} {b = v} refl, T .state .ways v v l (omega arith), bit-le (getD ways v 0) v))
+          ap (λ (b : Bool). b && memberOf (before row ways v) v) (T .down .marks v l ∙ e)
           ∙ ap (λ (b : Bool). b && eqb (way G k (levels.from G (suc k) v) v) 1) (sym e)
 
   closer-is : closer n set row ways ≡ firstFrom (closes G (suc k)) n 0
   unfolding closer
-  closer-is = first-cong (λ v. memberOf (before set row ways v) v) (closes G (suc k)) n 0 (λ j a b. closes-is j (omega arith))
+  closer-is = first-cong (returned set row ways) (closes G (suc k)) n 0 (λ j a b. closes-is j (omega arith))
 
-  grown-is : (v x : ℕ) → v < n → x < mostNodes → bit (withOf (before set row ways v) v) x ≡ way G (suc k) v x
-  grown-is v x l m = ⊎-elim yes no (true-or-false (fell G (suc k) v))
+  grown-is : (grown : List ℕ) → Settled (bit set) (longer row ways) ways grown → (v x : ℕ) → v < n → x < mostNodes → bit (getD grown v 0) x ≡ way G (suc k) v x
+  unfolding longer
+  grown-is grown g v x l m = ⊎-elim yes no (true-or-false (fell G (suc k) v))
     where
-      yes : fell G (suc k) v ≡ true → bit (withOf (before set row ways v) v) x ≡ way G (suc k) v x
-      yes e = omega (arith, bit-with (before set row ways v) v x m, before-fell v x l m e, way-next G k v x)
+      yes : fell G (suc k) v ≡ true → bit (getD grown v 0) x ≡ way G (suc k) v x
+      yes e =
+          ap (λ (i : ℕ). bit i x) (g .taken v (omega arith) (member-true set v (T .down .marks v l ∙ e)))
+          ∙ omega (arith, bit-with (before row ways v) v x m, before-is v x l m e, way-next G k v x)
 
-      no : fell G (suc k) v ≡ false → bit (withOf (before set row ways v) v) x ≡ way G (suc k) v x
-      no e = omega (arith, bit-with (before set row ways v) v x m, before-stay v x l m e, way-stays G k v x (T .below) e, way-self G k v x, way-le G k v x)
+      no : fell G (suc k) v ≡ false → bit (getD grown v 0) x ≡ way G (suc k) v x
+      no e =
+          ap (λ (i : ℕ). bit i x) (g .left v (omega arith) (member-false set v (T .down .marks v l ∙ e)))
+          ∙ (T .state .ways v x l m ∙ sym (way-stays G k v x (T .below) e))
 
   -- Where none closes a cycle, the search goes on.
   pub search-on : (set ≡ 0 → ⊥) → set < 2 ^ maskBits → n ≤ closer n set row ways → search-from G (n - k) k ≡ search-from G (n - (k + 1)) (k + 1)
@@ -139,24 +136,18 @@ module _ {G : Graph} {k set mask : ℕ} {next table dist next₀ ways table₀ r
       (le-ltb (firstFrom (closes G (suc k)) n 0) n (omega (arith, closer-is)))
 
   -- And the cells hold the next level.
-  pub state-on : (grown₀ grown : List ℕ) → n ≤ length grown₀ → n ≤ closer n set row ways → grown ≡ put 0 (λ v. withOf (before set row ways v) v) n grown₀
-      → State G (k + 1) set next next grown table
-  state-on grown₀ grown h c e =
+  pub state-on : (grown : List ℕ) → n ≤ closer n set row ways → Settled (bit set) (longer row ways) ways grown → State G (k + 1) set next next grown table
+  state-on grown c g =
       subst (λ (i : ℕ). State G i set next next grown table) (sym (add-one k))
       (record {
         dists = T .down .nexts;
         nexts = T .down .nexts;
         marks = T .down .marks;
-        ways = λ v x l m. ap (λ (i : ℕ). bit i x) (cell v l) ∙ grown-is v x l m;
+        nodes = T .down .nodes;
+        ways = grown-is grown g;
         rows = T .down .rows;
         still-open = open-next G k (T .state .still-open) (first-none (closes G (suc k)) n (le-ltb (firstFrom (closes G (suc k)) n 0) n (omega (arith, closer-is))));
       })
-    where
-      cell : (v : ℕ) → v < n → getD grown v 0 ≡ withOf (before set row ways v) v
-      cell v l =
-          ap (λ (g : List ℕ). getD g v 0) e
-          ∙ (ap (λ (i : ℕ). getD (put 0 (λ v. withOf (before set row ways v) v) n grown₀) i 0) (sym (zero-add v))
-          ∙ getD-put-in 0 (λ v. withOf (before set row ways v) v) n grown₀ v 0 l (omega arith))
 
   -- ---- the cycle
 
@@ -242,4 +233,4 @@ search-start G = ap (λ (i : ℕ). search-from G i 0) (sym (sub-zero (G .N)))
 pub closer-le : (n fell : ℕ) (row way : List ℕ) → closer n fell row way ≤ n
 unfolding closer
 closer-le n fell row way =
-    ⊎-elim (λ h. omega (arith, h .1)) (λ h. omega (arith, h .0)) (first-cases (λ v. memberOf (before fell row way v) v) n 0)
+    ⊎-elim (λ h. omega (arith, h .1)) (λ h. omega (arith, h .0)) (first-cases (returned fell row way) n 0)

@@ -1,24 +1,22 @@
--- An offer of one distance to the members of a set, member by member.
+-- An offer of one distance to the members of a set: the nodes that stand above it take it, and the sets of the nodes at each distance follow.
 -- Assumes nothing.
-use Prim.Native.Nat.{ℕ, _+_, _-_, _≤_, _<_}
+use Prim.Native.Nat.{ℕ, _+_, _-_, _≤_, _<_, max}
 use mathlib.Core.Path.{_≡_, refl, sym, ap, _∙_, subst}
 use mathlib.Core.Bool.{Bool, true, false, cond, _&&_}
 use mathlib.Core.List.{List}
-use mathlib.Core.Logic.{⊎-elim}
+use mathlib.Core.Logic.{_⊎_, inl, inr, ⊎-elim}
 use native.Mathlib.Omega.{arith}
-use lib.Dec.{ltb, eqb}
-use lib.ListN.{length, getD, set}
+use lib.Dec.{ltb, leb, eqb}
+use lib.ListN.{length, getD, set, replicate, getD-replicate}
 use lib.Seq.{getD-set-same, getD-set-other}
-use borrow.Author.Tests.{lt-ltb, le-ltb}
+use borrow.Author.Tests.{lt-ltb, le-ltb, le-leb, lt-leb}
 use Rattle.cluster.specs.Terms.{mostNodes}
 use Rattle.sums.specs.TermsSums.{one-if}
-use Rattle.sums.specs.ModelSums.{is}
-use Rattle.sums.proofs.Sum.{eq-or-ne, is-eq, is-ne}
-use Rattle.sets.specs.ModelBits.{bit, withOf, withoutOf, leastOf, countOf}
-use Rattle.sets.proofs.Laws.{bit-le, bit-with-same, bit-with-other, least-at, least-taken}
-use Rattle.sets.proofs.Scan.{Left, least-word, left-less, done-more, done-all}
+use Rattle.sums.proofs.Sum.{lt-or-ge}
+use Rattle.sets.specs.ModelBits.{bit, unionOf, differenceOf}
+use Rattle.sets.proofs.Laws.{bit-le, bit-zero, bit-union, bit-difference}
 use Rattle.exchange.specs.ModelLevels.{Fall}
-use Rattle.cycles.specs.ModelTurns.{Held, Turns, offered}
+use Rattle.cycles.specs.ModelTurns.{Held, Settled, Joined, AtMost, Turns, offered}
 
 -- An offer that is not made changes nothing.
 pub offered-not : (c u : ℕ) (f : Fall) → offered 0 c u f ≡ f
@@ -53,84 +51,116 @@ held-less {d} {f} c u h l =
 held-more : {d : ℕ} {f : Fall} {x y b : ℕ} (e c u : ℕ) → Held d f x y b → x ≤ c → Held d (offered e c u f) x y b
 held-more {d} {f} e c u h l = let s : f .dist ≤ c = omega arith in rw (offered-more e c u f s) h
 
--- Before the first member all holds what it held.
-pub offers-start : (top m c u fell : ℕ) (next row : List ℕ) → Turns top (λ v f. offered (bit m v - bit m v) c u f) next row fell next row fell
-offers-start top m c u fell next row v d f l t h =
-    subst (λ (g : Fall). Held d g (getD next v 0) (getD row v 0) (bit fell v)) (sym (offered-none (bit m v - bit m v) c u f (omega arith))) h
-
--- After the last member the offer is made.
-pub offers-end : (top m c u fell marks left : ℕ) (next₀ row₀ next row : List ℕ) → left ≡ 0
-    → Turns top (λ v f. offered (bit m v - bit left v) c u f) next₀ row₀ fell next row marks
-    → Turns top (λ v f. offered (bit m v) c u f) next₀ row₀ fell next row marks
-offers-end top m c u fell marks left next₀ row₀ next row z s v d f l t h =
-    subst (λ (i : ℕ). Held d (offered i c u f) (getD next v 0) (getD row v 0) (bit marks v)) (done-all m left v z) (s v d f l t h)
-
 -- An offer at the top or above is of no use.
 pub offers-high : (top m c u fell : ℕ) (next row : List ℕ) → top ≤ c → Turns top (λ v f. offered (bit m v) c u f) next row fell next row fell
 offers-high top m c u fell next row g v d f l t h = held-more (bit m v) c u h (omega (arith, h .low, h .dist))
 
--- The turn at the next member w, of those left, with the rest after it.
-pub record Offering (top m c u fell marks left w rest : ℕ) (next₀ row₀ next row : List ℕ) : Type 0 where
-  pub some : left ≡ 0 → ⊥
-  pub scan : Left m left
-  pub at-least : w ≡ leastOf left
-  pub at-rest : rest ≡ withoutOf left w
-  pub turns : Turns top (λ v f. offered (bit m v - bit left v) c u f) next₀ row₀ fell next row marks
+-- ---- the sets of the distances, one after the other
 
-module _ {top m c u fell marks left w rest : ℕ} {next₀ row₀ next row : List ℕ} (o : Offering top m c u fell marks left w rest next₀ row₀ next row) where
-  -- The next member is a node.
-  pub offers-node : w < mostNodes
-  offers-node = omega (arith, o .at-least, least-word m left (o .scan) (o .some))
+-- Before the first set all are as they were.
+pub joined-start : (c s : ℕ) (l : List ℕ) → Joined c c s l l
+joined-start c s l = record { more = λ i a b. absurd (omega arith); low = λ i a. refl; high = λ i a. refl }
 
-  the-rest : rest ≡ withoutOf left (leastOf left)
-  the-rest = o .at-rest ∙ ap (withoutOf left) (o .at-least)
+-- One set more.
+pub joined-more : (c e s x : ℕ) (l₀ l : List ℕ) → c ≤ e → e < length l → x ≡ unionOf (getD l e 0) s → Joined c e s l₀ l → Joined c (e + 1) s l₀ (set l e x)
+joined-more c e s x l₀ l k f q h =
+    record {
+      more = λ i a b. ⊎-elim (λ g. other i (λ r. omega arith) ∙ h .more i a g) (λ g. same i (omega arith)) (lt-or-ge i e);
+      low = λ i a. other i (λ r. omega arith) ∙ h .low i a;
+      high = λ i a. other i (λ r. omega arith) ∙ h .high i (omega arith);
+    }
+  where
+    same : (i : ℕ) → e ≡ i → getD (set l e x) i 0 ≡ unionOf (getD l₀ i 0) s
+    same i r =
+        subst (λ (j : ℕ). getD (set l e x) j 0 ≡ unionOf (getD l₀ j 0) s) r
+        (getD-set-same l e x 0 f ∙ (q ∙ ap (λ (y : ℕ). unionOf y s) (h .high e (omega arith))))
 
-  -- What is left is smaller.
-  pub offers-less : countOf rest < countOf left
-  offers-less = omega (arith, least-taken left (o .scan .word) (o .some), ap countOf the-rest)
+    other : (i : ℕ) → (i ≡ e → ⊥) → getD (set l e x) i 0 ≡ getD l i 0
+    other i n = getD-set-other l e i x 0 n
 
-  -- What is left is still a part.
-  pub offers-rest : Left m rest
-  offers-rest = subst (Left m) (sym the-rest) (left-less m left (o .scan) (o .some))
+-- ---- the nodes that stand at a distance or below
 
-  -- The next member has had no offer yet, and has it now; the others have had it or not as before.
-  done : (v : ℕ) → v < mostNodes → bit m v - bit left v + is w v ≡ bit m v - bit rest v
-  done v l = omega (arith, done-more m left (o .scan) (o .some) v l, ap (λ (i : ℕ). is i v) (o .at-least), ap (λ (i : ℕ). bit i v) the-rest)
+one-in : (a b : ℕ) → a ≤ b → one-if (leb a b) ≡ 1
+unfolding one-if
+one-in a b l = ap one-if (le-leb a b l)
 
-  none-yet : bit m w - bit left w ≡ 0
-  none-yet = omega (arith, ap (bit left) (o .at-least), least-at left (least-word m left (o .scan) (o .some)), bit-le m w)
+one-out : (a b : ℕ) → b < a → one-if (leb a b) ≡ 0
+unfolding one-if
+one-out a b l = ap one-if (lt-leb a b l)
 
-  here : {d : ℕ} {f : Fall} → d ≤ top → Held d f (getD next₀ w 0) (getD row₀ w 0) (bit fell w) → Held d f (getD next w 0) (getD row w 0) (bit marks w)
-  here {d} {f} t h =
-      subst (λ (g : Fall). Held d g (getD next w 0) (getD row w 0) (bit marks w)) (offered-none (bit m w - bit left w) c u f none-yet) (o .turns w d f offers-node t h)
+-- Where all nodes stand at top, the sets below it are empty.
+pub stand-start : (top : ℕ) → top ≤ mostNodes → AtMost top (replicate mostNodes top) (replicate mostNodes 0)
+stand-start top s v c l t =
+    ap (λ (i : ℕ). bit i v) (getD-replicate mostNodes c 0 0 (omega arith))
+    ∙ (bit-zero v ∙ sym (one-out (getD (replicate mostNodes top) v 0) c (omega (arith, getD-replicate mostNodes v top 0 l))))
 
-  now-one : bit m w - bit rest w ≡ 1
-  now-one = omega (arith, done w offers-node, none-yet, is-eq {a = w} {b = w} refl)
+-- The offer of c to the members of m: the set of those that take it.
+pub record Offering (top m c taken : ℕ) (next atmost : List ℕ) : Type 0 where
+  pub below : c < top
+  pub stand : AtMost top next atmost
+  pub takers : taken ≡ differenceOf m (getD atmost c 0)
 
-  still : (v : ℕ) → v < mostNodes → (w ≡ v → ⊥) → bit m v - bit rest v ≡ bit m v - bit left v
-  still v l n = omega (arith, done v l, is-ne n)
+module _ {top m c taken : ℕ} {next atmost : List ℕ} (o : Offering top m c taken next atmost) where
+  takes : (v : ℕ) → v < mostNodes → bit taken v ≡ bit m v - one-if (leb (getD next v 0) c)
+  takes v l = ap (λ (i : ℕ). bit i v) (o .takers) ∙ (bit-difference m (getD atmost c 0) v l ∙ ap (λ (i : ℕ). bit m v - i) (o .stand v c l (o .below)))
 
-  -- The next member does not take it.
-  pub offers-skip : getD next w 0 ≤ c → Turns top (λ v f. offered (bit m v - bit rest v) c u f) next₀ row₀ fell next row marks
-  offers-skip g v d f l t h =
+  -- A node takes it that it is made to and that stands above it.
+  took : (v : ℕ) → v < mostNodes → bit taken v ≡ 1 → (c < getD next v 0) × (bit m v ≡ 1)
+  took v l e =
+      ⊎-elim (λ g. (g, omega (arith, takes v l, one-out (getD next v 0) c g)))
+      (λ g. absurd (omega (arith, takes v l, one-in (getD next v 0) c g, bit-le m v))) (lt-or-ge c (getD next v 0))
+
+  -- A node that does not take it holds what it held.
+  skipped : {d v y b : ℕ} {f : Fall} (u : ℕ) → v < mostNodes → bit taken v ≡ 0 → Held d f (getD next v 0) y b → Held d (offered (bit m v) c u f) (getD next v 0) y b
+  skipped {d} {v} {y} {b} {f} u l e h =
       ⊎-elim
-      (λ e. subst (λ (i : ℕ). Held d (offered (bit m i - bit rest i) c u f) (getD next i 0) (getD row i 0) (bit marks i)) e
-      (held-more (bit m w - bit rest w) c u (here t (subst (λ (i : ℕ). Held d f (getD next₀ i 0) (getD row₀ i 0) (bit fell i)) (sym e) h)) g))
-      (λ n. subst (λ (i : ℕ). Held d (offered i c u f) (getD next v 0) (getD row v 0) (bit marks v)) (sym (still v l n)) (o .turns v d f l t h))
-      (eq-or-ne w v)
+      (λ g. subst (λ (k : Fall). Held d k (getD next v 0) y b) (sym (offered-none (bit m v) c u f (omega (arith, takes v l, one-out (getD next v 0) c g)))) h)
+      (λ g. held-more (bit m v) c u h g) (lt-or-ge c (getD next v 0))
 
-  -- The next member takes it.
-  pub offers-take : (marks' : ℕ) → marks' ≡ withOf marks w → mostNodes ≤ length next → mostNodes ≤ length row → c < getD next w 0
-      → Turns top (λ v f. offered (bit m v - bit rest v) c u f) next₀ row₀ fell (set next w c) (set row w u) marks'
-  offers-take marks' em a b g v d f l t h = ⊎-elim same other (eq-or-ne w v)
+  -- Where none takes it, all is as it was.
+  pub offers-none : (u fell : ℕ) (row : List ℕ) → taken ≡ 0 → Turns top (λ v f. offered (bit m v) c u f) next row fell next row fell
+  offers-none u fell row z v d f l t h = skipped u l (ap (λ (i : ℕ). bit i v) z ∙ bit-zero v) h
+
+  one-or-none : (v : ℕ) → (bit taken v ≡ 1) ⊎ (bit taken v ≡ 0)
+  one-or-none v = ⊎-elim (λ g. inr (omega arith)) (λ g. inl (omega (arith, bit-le taken v))) (lt-or-ge (bit taken v) 1)
+
+  -- Where those that take it hold it, it is made.
+  pub offers-made : (u fell r : ℕ) (row next' row' : List ℕ) → Settled (bit taken) (λ _. c) next next' → Settled (bit taken) (λ _. u) row row' → r ≡ unionOf fell taken
+      → Turns top (λ v f. offered (bit m v) c u f) next row fell next' row' r
+  offers-made u fell r row next' row' a b q v d f l t h = ⊎-elim yes no (one-or-none v)
     where
-      same : w ≡ v → Held d (offered (bit m v - bit rest v) c u f) (getD (set next w c) v 0) (getD (set row w u) v 0) (bit marks' v)
-      same e =
-          subst (λ (i : ℕ). Held d (offered (bit m i - bit rest i) c u f) (getD (set next w c) i 0) (getD (set row w u) i 0) (bit marks' i)) e
-          (rw (em, now-one, getD-set-same next w c 0 (omega (arith, offers-node)), getD-set-same row w u 0 (omega (arith, offers-node)), bit-with-same marks w offers-node)
-          (held-less c u (here t (subst (λ (i : ℕ). Held d f (getD next₀ i 0) (getD row₀ i 0) (bit fell i)) (sym e) h)) g))
+      marks : bit r v ≡ max (bit fell v) (bit taken v)
+      marks = ap (λ (i : ℕ). bit i v) q ∙ bit-union fell taken v l
 
-      other : (w ≡ v → ⊥) → Held d (offered (bit m v - bit rest v) c u f) (getD (set next w c) v 0) (getD (set row w u) v 0) (bit marks' v)
-      other n =
-          rw (em, still v l n, getD-set-other next w v c 0 (λ e. n (sym e)), getD-set-other row w v u 0 (λ e. n (sym e)), bit-with-other marks w v l n)
-          (o .turns v d f l t h)
+      yes : bit taken v ≡ 1 → Held d (offered (bit m v) c u f) (getD next' v 0) (getD row' v 0) (bit r v)
+      yes e =
+          let w = took v l e in
+          let k : bit r v ≡ 1 = omega (arith, marks, bit-le fell v) in
+          rw (a .taken v l e, b .taken v l e, k, w .1) (held-less c u h (w .0))
+
+      no : bit taken v ≡ 0 → Held d (offered (bit m v) c u f) (getD next' v 0) (getD row' v 0) (bit r v)
+      no e =
+          let k : bit r v ≡ bit fell v = omega (arith, marks) in
+          rw (a .left v l e, b .left v l e, k) (skipped u l e h)
+
+  -- And where they join the sets from c on, those are again the sets of the nodes that stand at a distance or below.
+  pub stand-made : (next' atmost' : List ℕ) → Settled (bit taken) (λ _. c) next next' → Joined c top taken atmost atmost' → AtMost top next' atmost'
+  stand-made next' atmost' a j v e l t = ⊎-elim yes no (one-or-none v)
+    where
+      more : c ≤ e → bit (getD atmost' e 0) v ≡ max (bit (getD atmost e 0) v) (bit taken v)
+      more g = ap (λ (i : ℕ). bit i v) (j .more e g t) ∙ bit-union (getD atmost e 0) taken v l
+
+      low : e < c → bit (getD atmost' e 0) v ≡ bit (getD atmost e 0) v
+      low g = ap (λ (i : ℕ). bit i v) (j .low e g)
+
+      yes : bit taken v ≡ 1 → bit (getD atmost' e 0) v ≡ one-if (leb (getD next' v 0) e)
+      yes q =
+          ⊎-elim
+          (λ g. omega (arith, low g, o .stand v e l t, one-out (getD next v 0) e (omega (arith, took v l q .0)), one-out (getD next' v 0) e (omega (arith, a .taken v l q))))
+          (λ g. omega (arith, more g, bit-le (getD atmost e 0) v, one-in (getD next' v 0) e (omega (arith, a .taken v l q))))
+          (lt-or-ge e c)
+
+      no : bit taken v ≡ 0 → bit (getD atmost' e 0) v ≡ one-if (leb (getD next' v 0) e)
+      no q =
+          let k : bit (getD atmost' e 0) v ≡ bit (getD atmost e 0) v = ⊎-elim low (λ g. omega (arith, more g)) (lt-or-ge e c) in
+          k ∙ (o .stand v e l t ∙ ap (λ (i : ℕ). one-if (leb i e)) (sym (a .left v l q)))

@@ -1,10 +1,10 @@
 -- The ways that grow node by node, and the trace back step by step.
 -- Assumes nothing.
 use Prim.Native.Nat.{ℕ, _+_, _-_, _*_, _≤_, _<_}
-use mathlib.Core.Path.{_≡_, refl, sym, ap, _∙_}
-use mathlib.Core.Bool.{Bool, true, false, cond}
+use mathlib.Core.Path.{_≡_, refl, sym, ap, _∙_, subst}
+use mathlib.Core.Bool.{Bool, true, false, _&&_, false≢true}
 use mathlib.Core.List.{List}
-use native.Mathlib.Nat.{sub-zero}
+use mathlib.Core.Logic.{⊎-elim}
 use native.Mathlib.Numerals.{add-one}
 use native.Mathlib.Omega.{arith}
 use lib.Dec.{eqb}
@@ -13,47 +13,65 @@ use borrow.Author.Tests.{eq-eqb, ne-eqb}
 use Rattle.cluster.specs.Terms.{mostNodes}
 use Rattle.cells.specs.ModelCells.{put}
 use Rattle.cells.proofs.Cells.{put-next}
-use Rattle.sets.specs.ModelBits.{memberOf, withoutOf}
+use Rattle.sums.proofs.Sum.{lt-or-ge, eq-or-ne, is-ne}
+use Rattle.sets.specs.ModelBits.{bit, memberOf, withOf}
+use Rattle.sets.proofs.Laws.{bit-zero, bit-true, bit-false}
 use Rattle.sums.specs.ModelSums.{firstFrom}
-use Rattle.cycles.specs.ModelTurns.{before, closer, trail, trailLength}
-use Rattle.sums.proofs.First.{first-hit, first-miss, first-end}
+use Rattle.cycles.specs.ModelTurns.{Nodes, before, longer, returned, closer, trail, trailLength}
+use Rattle.cycles.proofs.Visits.{Visit, visit-node, visit-member, visit-below, visit-before, visit-after}
+use Rattle.sums.proofs.First.{first-cases, first-is-none, first-hit, first-miss, first-end}
 
 -- ---- ways
 
--- Where a node fell, its way grows from that of the node it came from.
-pub before-fallen : (fell : ℕ) (row way : List ℕ) (v : ℕ) → memberOf fell v ≡ true → getD way (getD row v 0) 0 ≡ before fell row way v
+-- The way that is read for v, and what it grows to.
+pub before-read : (row way : List ℕ) (v : ℕ) → getD way (getD row v 0) 0 ≡ before row way v
 unfolding before
-before-fallen fell row way v e = ap (λ (b : Bool). cond b (getD way (getD row v 0) 0) (withoutOf (getD way v 0) v)) (sym e)
+before-read row way v = refl
 
--- Where it did not, from its own.
-pub before-stayed : (fell : ℕ) (row way : List ℕ) (v : ℕ) → memberOf fell v ≡ false → withoutOf (getD way v 0) v ≡ before fell row way v
-unfolding before
-before-stayed fell row way v e = ap (λ (b : Bool). cond b (getD way (getD row v 0) 0) (withoutOf (getD way v 0) v)) (sym e)
+pub longer-with : (row way : List ℕ) (v : ℕ) → withOf (getD way (getD row v 0) 0) v ≡ longer row way v
+unfolding before longer
+longer-with row way v = refl
 
--- The first node of those from v on that its way comes to again.
-unfoldable pub closerFrom : ℕ → ℕ → List ℕ → List ℕ → ℕ → ℕ
-closerFrom n fell row way v = firstFrom (λ v. memberOf (before fell row way v) v) (n - v) v
+-- The first number that passes a test, where none before it does.
+first-is : (t : ℕ → Bool) (n v : ℕ) → v < n → t v ≡ true → ((j : ℕ) → j < v → t j ≡ false) → firstFrom t n 0 ≡ v
+first-is t n v l e none =
+    ⊎-elim
+    (λ h. ⊎-elim (λ g. absurd (false≢true (sym (none (firstFrom t n 0) g) ∙ h .2))) (λ g. ⊎-elim (λ k. absurd (false≢true (sym (h .3 v (omega arith) k) ∙ e))) (λ k. omega arith) (lt-or-ge v (firstFrom t n 0)))
+    (lt-or-ge (firstFrom t n 0) v))
+    (λ h. absurd (false≢true (sym (h .1 v (omega arith) (omega arith)) ∙ e))) (first-cases t n 0)
 
-module _ (n fell : ℕ) (row way : List ℕ) where
-  -- The search for it begins at 0.
-  pub closer-start : closer n fell row way ≡ closerFrom n fell row way 0
-  unfolding closer closerFrom
-  closer-start = ap (λ (k : ℕ). firstFrom (λ v. memberOf (before fell row way v) v) k 0) (sym (sub-zero n))
+-- Of the nodes that are not left, none closes a cycle.
+abbrev pub Open : ℕ → List ℕ → List ℕ → ℕ → Type 0
+Open fell row way left = (v : ℕ) → v < mostNodes → bit left v ≡ 0 → returned fell row way v ≡ false
 
-  -- Here it is.
-  pub closer-hit : (v w : ℕ) → v < n → w ≡ before fell row way v → memberOf w v ≡ true → closerFrom n fell row way v ≡ v
-  unfolding closerFrom
-  closer-hit v w l e q = first-hit (λ v. memberOf (before fell row way v) v) n v l (ap (λ (x : ℕ). memberOf x v) (sym e) ∙ q)
+module _ (fell : ℕ) (row way : List ℕ) where
+  -- At first all that fell are left.
+  pub open-start : Open fell row way fell
+  unfolding returned
+  open-start v l e = ap (λ (b : Bool). b && memberOf (before row way v) v) (bit-false fell v e)
 
-  -- Here it is not.
-  pub closer-miss : (v w : ℕ) → v < n → w ≡ before fell row way v → memberOf w v ≡ false → closerFrom n fell row way v ≡ closerFrom n fell row way (v + 1)
-  unfolding closerFrom
-  closer-miss v w l e q = first-miss (λ v. memberOf (before fell row way v) v) n v l (ap (λ (x : ℕ). memberOf x v) (sym e) ∙ q)
+  module _ {left v rest : ℕ} (o : Visit fell left v rest) (w : ℕ) (at-way : w ≡ before row way v) (h : Open fell row way left) where
+    returned-if : memberOf w v ≡ returned fell row way v
+    unfolding returned
+    returned-if = ap (λ (i : ℕ). memberOf i v) at-way ∙ ap (λ (b : Bool). b && memberOf (before row way v) v) (sym (bit-true fell v (visit-member o)))
 
-  -- It is nowhere.
-  pub closer-end : (v : ℕ) → n ≤ v → closerFrom n fell row way v ≡ v
-  unfolding closerFrom
-  closer-end v l = first-end (λ v. memberOf (before fell row way v) v) n v l
+    -- The next one closes none.
+    pub open-more : memberOf w v ≡ false → Open fell row way rest
+    open-more e j l z =
+        ⊎-elim (λ q. subst (λ (i : ℕ). returned fell row way i ≡ false) q (sym returned-if ∙ e))
+        (λ n. h j l (omega (arith, visit-after o j l, is-ne n))) (eq-or-ne v j)
+
+    -- The next one closes one.
+    pub closer-hit : (n : ℕ) → Nodes n fell → memberOf w v ≡ true → v ≡ closer n fell row way
+    unfolding closer
+    closer-hit n k e =
+        sym (first-is (returned fell row way) n v (visit-below o n k) (sym returned-if ∙ e) (λ j l. h j (omega (arith, visit-node o)) (visit-before o j l)))
+
+  -- None does.
+  pub closer-none : (n left : ℕ) → n ≤ mostNodes → left ≡ 0 → Open fell row way left → n ≡ closer n fell row way
+  unfolding closer
+  closer-none n left s z h =
+      sym (first-is-none (returned fell row way) n (λ j l. h j (omega arith) (ap (λ (i : ℕ). bit i j) z ∙ bit-zero j)))
 
 -- ---- the trace
 

@@ -1,10 +1,10 @@
 -- What a search holds at a level, and how a sweep, the ways that grow and the trace back lead from it to the next level or to the end.
 -- Assumes nothing.
-use Prim.Native.Nat.{ℕ, zero, suc, _+_, _-_, _*_, _≤_, _<_}
+use Prim.Native.Nat.{ℕ, zero, suc, _+_, _*_, _≤_, _<_}
 use mathlib.Core.Path.{_≡_, refl, sym, ap, _∙_, subst}
 use mathlib.Core.Bool.{Bool, true, false}
 use mathlib.Core.List.{List}
-use mathlib.Core.Logic.{_⊎_, ⊎-elim}
+use mathlib.Core.Logic.{⊎-elim}
 use native.Mathlib.Nat.{mul-one, zero-add}
 use native.Mathlib.Numerals.{add-one}
 use native.Mathlib.Omega.{arith}
@@ -16,13 +16,13 @@ use Rattle.sums.proofs.Sum.{lt-or-ge}
 use Rattle.cells.specs.ModelCells.{put}
 use Rattle.cells.proofs.Cells.{getD-put-in}
 use Rattle.sets.specs.ModelBits.{bit, memberOf, withOf, belowOf}
-use Rattle.sets.proofs.Laws.{bit-zero, bit-true, bit-below, bit-with}
+use Rattle.sets.proofs.Laws.{bit-zero, bit-true, bit-below, bit-below-not, bit-with}
 use Rattle.exchange.specs.ModelLevels as levels
 use Rattle.exchange.specs.ModelLevels.{Graph, Fall, relax, scan, level, fell}
 use Rattle.exchange.proofs.Levels.{level-skip, dist-room, dist-le, fell-lt}
 use Rattle.exchange.proofs.Search.{Open, open-zero}
 use Rattle.cycles.specs.ModelGraph.{graphOf}
-use Rattle.cycles.specs.ModelTurns.{Held, Descended}
+use Rattle.cycles.specs.ModelTurns.{Held, Nodes, Descended}
 
 -- ---- tests that agree
 
@@ -42,6 +42,7 @@ pub record State (G : Graph) (k mask : ℕ) (dist next way table : List ℕ) : T
   pub dists : (v : ℕ) → v < G .N → getD dist v 0 ≡ levels.dist G k v
   pub nexts : (v : ℕ) → v < G .N → getD next v 0 ≡ levels.dist G k v
   pub marks : (v : ℕ) → v < G .N → memberOf mask v ≡ fell G k v
+  pub nodes : Nodes (G .N) mask
   pub ways : (v x : ℕ) → v < G .N → x < mostNodes → bit (getD way v 0) x ≡ levels.way G k v x
   pub rows : (j v : ℕ) → 1 ≤ j → j ≤ k → v < G .N → fell G j v ≡ true → getD table (j * mostNodes + v) 0 ≡ levels.from G j v
   pub still-open : Open G k
@@ -51,7 +52,7 @@ pub record Next (G : Graph) (k set : ℕ) (next table : List ℕ) : Type 0 where
   pub nexts : (v : ℕ) → v < G .N → getD next v 0 ≡ levels.dist G (suc k) v
   pub marks : (v : ℕ) → v < G .N → memberOf set v ≡ fell G (suc k) v
   pub rows : (j v : ℕ) → 1 ≤ j → j ≤ suc k → v < G .N → fell G j v ≡ true → getD table (j * mostNodes + v) 0 ≡ levels.from G j v
-  pub nodes : (v : ℕ) → v < mostNodes → G .N ≤ v → bit set v ≡ 0
+  pub nodes : Nodes (G .N) set
 
 module _ (arcs : List ℕ) (n k mask : ℕ) (dist next way table : List ℕ) (small : n ≤ mostNodes) (below : k < n)
     (st : State (graphOf arcs n) k mask dist next way table) where
@@ -103,6 +104,7 @@ state-start arcs n mask dist next way₀ way table small h em ed en ew =
       dists = λ v l. ed v l ∙ sym (mul-one n);
       nexts = λ v l. en v l ∙ sym (mul-one n);
       marks = λ v l. ap (λ (i : ℕ). memberOf i v) em ∙ bit-true (belowOf n) v (bit-below n v (omega arith) l);
+      nodes = λ v m g. ap (λ (i : ℕ). bit i v) em ∙ bit-below-not n v g;
       ways = λ v x l m. ap (λ (i : ℕ). bit i x) (cell v l) ∙ omega (arith, bit-with 0 v x m, bit-zero x);
       rows = λ j v a b l e. absurd (omega arith);
       still-open = open-zero (graphOf arcs n);

@@ -1,6 +1,6 @@
 -- A look at the arcs of a node is three offers, and a sweep is a scan at every node.
 -- Assumes nothing.
-use Prim.Native.Nat.{ℕ, zero, suc, _+_, _-_, _*_, _≤_, _<_, max}
+use Prim.Native.Nat.{ℕ, zero, suc, _+_, _-_, _*_, _≤_, _<_, _^_, max}
 use mathlib.Core.Path.{_≡_, refl, sym, ap, _∙_, subst}
 use mathlib.Core.Bool.{Bool, true, false, cond, _&&_}
 use mathlib.Core.List.{List, _++_}
@@ -14,11 +14,12 @@ use borrow.Author.Tests.{lt-ltb, le-ltb, eq-eqb}
 use Rattle.cluster.specs.Terms.{mostNodes}
 use Rattle.sums.specs.TermsSums.{one-if}
 use Rattle.sums.proofs.Sum.{lt-or-ge}
-use Rattle.sets.specs.ModelBits.{bit, memberOf, meetOf, belowOf}
-use Rattle.sets.proofs.Laws.{bit-le, bit-zero, bit-meet, bit-below, bit-below-not}
-use Rattle.exchange.specs.ModelLevels.{Fall, relax, scan}
+use Rattle.sets.specs.ModelBits.{maskBits, bit, memberOf, meetOf, belowOf}
+use Rattle.sets.proofs.Laws.{bit-le, bit-zero, bit-true, bit-false, bit-meet, bit-below, bit-below-not}
+use Rattle.exchange.specs.ModelLevels.{Graph, Fall, relax, scan}
 use Rattle.cycles.specs.ModelGraph.{graphOf, arcOf, weightOf}
 use Rattle.cycles.specs.ModelTurns.{Held, Turns, Swept, Descended, offered}
+use Rattle.cycles.proofs.Visits.{Visit, visit-member, Passed, passed-start, passed-le, passed-none, passed-next, passed-end}
 use Rattle.cycles.proofs.Offers.{offered-not, offered-less, offered-more}
 
 -- What was offered stands no higher.
@@ -63,21 +64,14 @@ look-offers arcs n d v u f h =
     three (bit (getD arcs u 0) v) (bit (getD arcs (mostNodes + u) 0) v) (bit (getD arcs (2 * mostNodes + u) 0) v) d u f (bit-le (getD arcs u 0) v) (bit-le (getD arcs (mostNodes + u) 0) v)
     (bit-le (getD arcs (2 * mostNodes + u) 0) v) h
 
--- A node that is not looked at changes nothing.
-pub look-not : (arcs : List ℕ) (n d u fell : ℕ) (on : Bool) (next row : List ℕ) → on ≡ false
-    → Turns n (λ v f. relax (graphOf arcs n) (λ _. d) v u on f) next row fell next row fell
-unfolding relax
-look-not arcs n d u fell on next row o v e f l g h =
-    subst (λ (i : Bool). Held e (relax (graphOf arcs n) (λ _. d) v u i f) (getD next v 0) (getD row v 0) (bit fell v)) (sym o) h
-
 -- Three offers one after the other are a look.
-pub look-turns : (arcs : List ℕ) (n d u a b fell r : ℕ) (on : Bool) (next₀ row₀ next₁ row₁ next₂ row₂ next row : List ℕ) → 1 ≤ d → on ≡ true
+pub look-turns : (arcs : List ℕ) (n d u a b fell r : ℕ) (next₀ row₀ next₁ row₁ next₂ row₂ next row : List ℕ) → 1 ≤ d
     → Turns n (λ v f. offered (bit (getD arcs u 0) v) (d - 1) u f) next₀ row₀ fell next₁ row₁ a
     → Turns n (λ v f. offered (bit (getD arcs (mostNodes + u) 0) v) d u f) next₁ row₁ a next₂ row₂ b
     → Turns n (λ v f. offered (bit (getD arcs (2 * mostNodes + u) 0) v) (d + 1) u f) next₂ row₂ b next row r
-    → Turns n (λ v f. relax (graphOf arcs n) (λ _. d) v u on f) next₀ row₀ fell next row r
-look-turns arcs n d u a b fell r on next₀ row₀ next₁ row₁ next₂ row₂ next row p o s t w v e f l g h =
-    subst (λ (k : Fall). Held e k (getD next v 0) (getD row v 0) (bit r v)) (look-offers arcs n d v u f p ∙ ap (λ (i : Bool). relax (graphOf arcs n) (λ _. d) v u i f) (sym o))
+    → Turns n (λ v f. relax (graphOf arcs n) (λ _. d) v u true f) next₀ row₀ fell next row r
+look-turns arcs n d u a b fell r next₀ row₀ next₁ row₁ next₂ row₂ next row p s t w v e f l g h =
+    subst (λ (k : Fall). Held e k (getD next v 0) (getD row v 0) (bit r v)) (look-offers arcs n d v u f p)
     (w v e (offered (bit (getD arcs (mostNodes + u) 0) v) d u (offered (bit (getD arcs u 0) v) (d - 1) u f)) l g
     (t v e (offered (bit (getD arcs u 0) v) (d - 1) u f) l g (s v e f l g h)))
 
@@ -85,20 +79,61 @@ look-turns arcs n d u a b fell r on next₀ row₀ next₁ row₁ next₂ row₂
 abbrev pub fallTo : List ℕ → ℕ → ℕ → List ℕ → ℕ → ℕ → Fall
 fallTo arcs n mask d v u = scan (graphOf arcs n) (memberOf mask) (λ i. getD d i 0) v u
 
--- Before the first look every node stands where it stood.
-pub sweep-start : (arcs : List ℕ) (n mask : ℕ) (d next row : List ℕ) (v : ℕ) → getD next v 0 ≡ getD d v 0
-    → Held (getD d v 0) (fallTo arcs n mask d v 0) (getD next v 0) (getD row v 0) (bit 0 v)
-unfolding scan one-if
-sweep-start arcs n mask d next row v e =
-    record { low = omega arith; dist = e; from = λ l. absurd (omega arith); mark = bit-zero v ∙ ap one-if (sym (le-ltb (getD d v 0) (getD d v 0) (omega arith))) }
-
--- One look more.
-pub sweep-more : (arcs : List ℕ) (n mask u fell r : ℕ) (d next row next' row' : List ℕ) (v : ℕ) → v < mostNodes → getD d v 0 ≤ n
-    → Turns n (λ v f. relax (graphOf arcs n) (λ _. getD d u 0) v u (memberOf mask u) f) next row fell next' row' r
-    → Held (getD d v 0) (fallTo arcs n mask d v u) (getD next v 0) (getD row v 0) (bit fell v)
-    → Held (getD d v 0) (fallTo arcs n mask d v (u + 1)) (getD next' v 0) (getD row' v 0) (bit r v)
+-- A scan passes over the nodes that fail its test.
+scan-over : (G : Graph) (on : ℕ → Bool) (d : ℕ → ℕ) (v a b : ℕ) → a ≤ b → ((i : ℕ) → a ≤ i → i < b → on i ≡ false) → scan G on d v a ≡ scan G on d v b
 unfolding scan relax
-sweep-more arcs n mask u fell r d next row next' row' v l g t h = rw (add-one u) (t v (getD d v 0) (fallTo arcs n mask d v u) l g h)
+scan-over G on d v a zero l h = let e : a ≡ 0 = omega arith in ap (scan G on d v) e
+scan-over G on d v a (suc b) l h =
+    ⊎-elim
+    (λ g. scan-over G on d v a b (omega arith) (λ i p q. h i p (omega arith)) ∙ ap (λ (o : Bool). relax G d v b o (scan G on d v b)) (sym (h b (omega arith) (omega arith))))
+    (λ g. let e : a ≡ suc b = omega arith in ap (scan G on d v) e) (lt-or-ge a (suc b))
+
+-- Between two looks: the arcs of all members of the mask below a node have been looked at, and the others are left.
+pub record Sweeping (arcs : List ℕ) (n mask : ℕ) (d next row : List ℕ) (fell left : ℕ) : Type 0 where
+  pub upto : ℕ
+  pub low : upto ≤ n
+  pub passed : Passed mask left upto
+  pub held : (v : ℕ) → v < n → Held (getD d v 0) (fallTo arcs n mask d v upto) (getD next v 0) (getD row v 0) (bit fell v)
+
+-- Before the first look every node stands where it stood.
+pub sweep-start : (arcs : List ℕ) (n mask : ℕ) (d next row : List ℕ) → mask < 2 ^ maskBits → ((v : ℕ) → v < n → getD next v 0 ≡ getD d v 0)
+    → Sweeping arcs n mask d next row 0 mask
+unfolding scan one-if
+sweep-start arcs n mask d next row w e =
+    record {
+      upto = 0;
+      low = omega arith;
+      passed = passed-start mask w;
+      held = λ v l. record { low = omega arith; dist = e v l; from = λ g. absurd (omega arith); mark = bit-zero v ∙ ap one-if (sym (le-ltb (getD d v 0) (getD d v 0) (omega arith))) };
+    }
+
+module _ {arcs d next row : List ℕ} {n mask fell left : ℕ} (w : Sweeping arcs n mask d next row fell left) where
+  -- One look more, at the arcs of the next member.
+  pub sweep-more : (u rest r : ℕ) (next' row' : List ℕ) → Visit mask left u rest → u < n → n ≤ mostNodes → ((v : ℕ) → v < n → getD d v 0 ≤ n)
+      → Turns n (λ v f. relax (graphOf arcs n) (λ _. getD d u 0) v u true f) next row fell next' row' r → Sweeping arcs n mask d next' row' r rest
+  unfolding scan relax
+  sweep-more u rest r next' row' o k small g t =
+      record {
+        upto = u + 1;
+        low = omega arith;
+        passed = passed-next (w .passed) o;
+        held = λ v l.
+            rw (add-one u, bit-true mask u (visit-member o))
+            (t v (getD d v 0) (fallTo arcs n mask d v u) (omega arith) (g v l)
+            (subst (λ (f : Fall). Held (getD d v 0) f (getD next v 0) (getD row v 0) (bit fell v)) (over v) (w .held v l)));
+      }
+    where
+      over : (v : ℕ) → fallTo arcs n mask d v (w .upto) ≡ fallTo arcs n mask d v u
+      over v =
+          scan-over (graphOf arcs n) (memberOf mask) (λ i. getD d i 0) v (w .upto) u (passed-le (w .passed) o)
+          (λ i a b. bit-false mask i (passed-none (w .passed) o i a b))
+
+  -- After the last the sweep is done.
+  pub sweep-end : left ≡ 0 → n ≤ mostNodes → Swept arcs n mask d next row fell
+  sweep-end z small v l =
+      subst (λ (f : Fall). Held (getD d v 0) f (getD next v 0) (getD row v 0) (bit fell v))
+      (scan-over (graphOf arcs n) (memberOf mask) (λ i. getD d i 0) v (w .upto) n (w .low) (λ i a b. bit-false mask i (passed-end (w .passed) z i a (omega arith))))
+      (w .held v l)
 
 -- ---- one level down
 

@@ -3,13 +3,13 @@
 -- Assumes nothing.
 use Prim.Native.Nat.{ℕ, zero, suc, _+_, _-_, _*_, _≤_, _<_}
 use mathlib.Core.Path.{_≡_}
-use mathlib.Core.Bool.{cond, _&&_}
+use mathlib.Core.Bool.{Bool, cond, _&&_}
 use mathlib.Core.List.{List}
-use lib.Dec.{ltb, eqb}
+use lib.Dec.{ltb, leb, eqb}
 use lib.ListN.{getD}
 use Rattle.cluster.specs.Terms.{mostNodes}
 use Rattle.sums.specs.TermsSums.{one-if}
-use Rattle.sets.specs.ModelBits.{bit, memberOf, withoutOf}
+use Rattle.sets.specs.ModelBits.{bit, memberOf, withOf, unionOf}
 use Rattle.exchange.specs.ModelLevels.{Fall, scan}
 use Rattle.sums.specs.ModelSums.{firstFrom}
 use Rattle.cycles.specs.ModelGraph.{graphOf}
@@ -24,6 +24,25 @@ pub record Held (d : ℕ) (f : Fall) (x y b : ℕ) : Type 0 where
 -- The fall f, after an offer of distance c from u, if b is 1.
 unfoldable pub offered : ℕ → ℕ → ℕ → Fall → Fall
 offered b c u f = cond (eqb b 1 && ltb c (f .dist)) (record { dist = c; from = u }) f
+
+-- The cells of l', where a node v has the digit b v ≡ 1, hold x v; those of the others are as in l.
+pub record Settled (b x : ℕ → ℕ) (l l' : List ℕ) : Type 0 where
+  pub taken : (v : ℕ) → v < mostNodes → b v ≡ 1 → getD l' v 0 ≡ x v
+  pub left : (v : ℕ) → v < mostNodes → b v ≡ 0 → getD l' v 0 ≡ getD l v 0
+
+-- The sets from c on, below e, have the members of s too; the others are as they were.
+pub record Joined (c e s : ℕ) (l l' : List ℕ) : Type 0 where
+  pub more : (i : ℕ) → c ≤ i → i < e → getD l' i 0 ≡ unionOf (getD l i 0) s
+  pub low : (i : ℕ) → i < c → getD l' i 0 ≡ getD l i 0
+  pub high : (i : ℕ) → e ≤ i → getD l' i 0 ≡ getD l i 0
+
+-- For each distance c below top there is the set of the nodes that stand at c or below.
+abbrev pub AtMost : ℕ → List ℕ → List ℕ → Type 0
+AtMost top next atmost = (v c : ℕ) → v < mostNodes → c < top → bit (getD atmost c 0) v ≡ one-if (leb (getD next v 0) c)
+
+-- A set of nodes below n.
+abbrev pub Nodes : ℕ → ℕ → Type 0
+Nodes n s = (v : ℕ) → v < mostNodes → n ≤ v → bit s v ≡ 0
 
 -- The cells of each node that stood at top or below hold its fall after t, where they held one before.
 abbrev pub Turns : ℕ → (ℕ → Fall → Fall) → List ℕ → List ℕ → ℕ → List ℕ → List ℕ → ℕ → Type 0
@@ -43,15 +62,23 @@ pub record Descended (arcs : List ℕ) (n k mask : ℕ) (d next table₀ table :
   pub swept : (v : ℕ) → v < n
       → Held (getD d v 0) (scan (graphOf arcs n) (memberOf mask) (λ u. getD d u 0) v n) (getD next v 0) (getD table ((k + 1) * mostNodes + v) 0) (bit fell v)
   pub kept : (i : ℕ) → i < (k + 1) * mostNodes → getD table i 0 ≡ getD table₀ i 0
-  pub nodes : (v : ℕ) → v < mostNodes → n ≤ v → bit fell v ≡ 0
+  pub nodes : Nodes n fell
 
--- The way that v's way grows from: that of the node it came from, where it fell, else its own way but v.
-unfoldable pub before : ℕ → List ℕ → List ℕ → ℕ → ℕ
-before fell row way v = cond (memberOf fell v) (getD way (getD row v 0) 0) (withoutOf (getD way v 0) v)
+-- The way of the node that v came from.
+unfoldable pub before : List ℕ → List ℕ → ℕ → ℕ
+before row way v = getD way (getD row v 0) 0
+
+-- The way of v, where it fell: that of the node it came from, and v.
+unfoldable pub longer : List ℕ → List ℕ → ℕ → ℕ
+longer row way v = withOf (before row way v) v
+
+-- Whether v fell and is on the way that its own grows from.
+unfoldable pub returned : ℕ → List ℕ → List ℕ → ℕ → Bool
+returned fell row way v = memberOf fell v && memberOf (before row way v) v
 
 -- The first node that its way comes to again; n where there is none.
 unfoldable pub closer : ℕ → ℕ → List ℕ → List ℕ → ℕ
-closer n fell row way = firstFrom (λ v. memberOf (before fell row way v) v) n 0
+closer n fell row way = firstFrom (returned fell row way) n 0
 
 -- The node t steps back from v at level k, by a table with a row of nodes for each level.
 unfoldable pub trail : List ℕ → ℕ → ℕ → ℕ → ℕ

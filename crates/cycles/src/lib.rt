@@ -9,7 +9,7 @@ ghost use Rattle.sets.specs.ModelBits.{bit, memberOf, withOf};
 ghost use Rattle.exchange.specs.ModelLevels.{relax, outcome};
 ghost use Rattle.cycles.specs.ModelFound.{endLength, endWalk, foundLength, foundWalk};
 ghost use Rattle.cycles.specs.ModelGraph.{arcCells, walkCells, tableCells, graphOf};
-ghost use Rattle.cycles.specs.ModelTurns.{offered, Turns, Swept, Descended, before, closer, trail, trailLength};
+ghost use Rattle.cycles.specs.ModelTurns.{offered, Settled, Joined, AtMost, Nodes, Turns, Swept, Descended, closer, longer, trail, trailLength};
 use cluster::Cluster;
 
 // The most nodes of a graph, as nodes are numbered.
@@ -23,63 +23,104 @@ pub const WALK: usize = Cluster::NODES + 1;
 // The cells of a search's table: a row of nodes for each level, from 0 on.
 const TABLE: usize = (Cluster::NODES + 1) * Cluster::NODES;
 
-// Offers distance c from node u to the members of m, where all stand at top or below. The members that take it are set in fell, which is returned.
-fn offer(top: u32, m: u32, c: u32, u: u32, fell: u32, next: &mut [u32], row: &mut [u32]) -> u32
+// Writes c into the cells of next, and u into those of row, of the members of s.
+fn settle(s: u32, c: u32, u: u32, next: &mut [u32], row: &mut [u32])
     requires { ⌜ (mostNodes ≤ length (now next)) × (mostNodes ≤ length (now row)) ⌝ }
-    ensures { λ r. ⌜ Turns top (λ v f. offered (bit m v) c u f) (now (next .entry)) (now (row .entry)) fell (now (next .exit)) (now (row .exit)) r ⌝ }
+    ensures { λ _. ⌜ Settled (bit s) (λ _. c) (now (next .entry)) (now (next .exit)) × Settled (bit s) (λ _. u) (now (row .entry)) (now (row .exit)) ⌝ }
 {
-    if top <= c {
-        return fell;
-    }
-    let mut marks = fell;
-    let mut left = m;
+    let mut left = s;
     while left != 0 {
         let v = sets::least(left);
         let i = v as usize;
         left = sets::without(left, v);
-        if c < next[i] {
-            next[i] = c;
-            row[i] = u;
-            marks = sets::with(marks, v);
-        }
+        next[i] = c;
+        row[i] = u;
     }
-    marks
 }
 
-// Looks at the arcs of node u, which stands at d, if it is a member of mask. The nodes that fall are set in fell, which is returned.
+// The members of s join the sets of the distances from c on, below top.
+fn join(top: u32, s: u32, c: u32, atmost: &mut [u32])
+    requires { ⌜ (c ≤ top) × (top ≤ mostNodes) × (mostNodes ≤ length (now atmost)) ⌝ }
+    ensures { λ _. ⌜ Joined c top s (now (atmost .entry)) (now (atmost .exit)) ⌝ }
+{
+    let mut e = c;
+    while e < top {
+        let i = e as usize;
+        atmost[i] = sets::union(atmost[i], s);
+        e += 1;
+    }
+}
+
+// Offers distance c from node u to the members of m, where all stand at top or below. The members that take it, which are those that stand above c, are
+// set in fell, which is returned.
+fn offer(
+    top: u32,
+    m: u32,
+    c: u32,
+    u: u32,
+    fell: u32,
+    next: &mut [u32],
+    row: &mut [u32],
+    atmost: &mut [u32],
+) -> u32
+    requires { ⌜ (top ≤ mostNodes) × (mostNodes ≤ length (now next)) × (mostNodes ≤ length (now row)) × (mostNodes ≤ length (now atmost)) × AtMost top (now next) (now atmost) ⌝ }
+    ensures turns { λ r. ⌜ Turns top (λ v f. offered (bit m v) c u f) (now (next .entry)) (now (row .entry)) fell (now (next .exit)) (now (row .exit)) r ⌝ }
+    ensures stand { λ _. ⌜ AtMost top (now (next .exit)) (now (atmost .exit)) ⌝ }
+{
+    if top <= c {
+        return fell;
+    }
+    let low = atmost[c as usize];
+    let taken = sets::difference(m, low);
+    if taken == 0 {
+        return fell;
+    }
+    settle(taken, c, u, next, row);
+    join(top, taken, c, atmost);
+    sets::union(fell, taken)
+}
+
+// Looks at the arcs of node u, which stands at d. The nodes that fall are set in fell, which is returned.
 fn look(
     arcs: &[u32],
     n: u32,
-    mask: u32,
     u: u32,
     d: u32,
     fell: u32,
     next: &mut [u32],
     row: &mut [u32],
+    atmost: &mut [u32],
 ) -> u32
-    requires { ⌜ (arcCells ≤ length (now arcs)) × (u < mostNodes) × (1 ≤ d) × (d ≤ mostNodes) × (mostNodes ≤ length (now next)) × (mostNodes ≤ length (now row)) ⌝ }
-    ensures { λ r. ⌜ Turns n (λ v f. relax (graphOf (now (arcs .entry)) n) (λ _. d) v u (memberOf mask u) f) (now (next .entry)) (now (row .entry)) fell (now (next .exit)) (now (row .exit)) r ⌝ }
+    requires { ⌜ (n ≤ mostNodes) × (arcCells ≤ length (now arcs)) × (u < mostNodes) × (1 ≤ d) × (d ≤ mostNodes) × (mostNodes ≤ length (now next)) × (mostNodes ≤ length (now row)) × (mostNodes ≤ length (now atmost)) × AtMost n (now next) (now atmost) ⌝ }
+    ensures turns { λ r. ⌜ Turns n (λ v f. relax (graphOf (now (arcs .entry)) n) (λ _. d) v u true f) (now (next .entry)) (now (row .entry)) fell (now (next .exit)) (now (row .exit)) r ⌝ }
+    ensures stand { λ _. ⌜ AtMost n (now (next .exit)) (now (atmost .exit)) ⌝ }
 {
-    if sets::member(mask, u) {
-        let i = u as usize;
-        let a = offer(n, arcs[i], d - 1, u, fell, next, row);
-        let b = offer(n, arcs[Cluster::NODES + i], d, u, a, next, row);
-        offer(n, arcs[HIGHER + i], d + 1, u, b, next, row)
-    } else {
-        fell
-    }
+    let i = u as usize;
+    let a = offer(n, arcs[i], d - 1, u, fell, next, row, atmost);
+    let b = offer(n, arcs[Cluster::NODES + i], d, u, a, next, row, atmost);
+    offer(n, arcs[HIGHER + i], d + 1, u, b, next, row, atmost)
 }
 
 // Looks at the arcs of the members of mask, from their distances dist, which next holds too. The set of the nodes that fall is returned.
-fn sweep(arcs: &[u32], n: u32, mask: u32, dist: &[u32], next: &mut [u32], row: &mut [u32]) -> u32
-    requires { ⌜ (n ≤ mostNodes) × (arcCells ≤ length (now arcs)) × (mostNodes ≤ length (now dist)) × (mostNodes ≤ length (now next)) × (mostNodes ≤ length (now row)) × ((v : ℕ) → v < n → (1 ≤ getD (now dist) v 0) × (getD (now dist) v 0 ≤ n) × (getD (now next) v 0 ≡ getD (now dist) v 0)) ⌝ }
-    ensures { λ r. ⌜ Swept (now (arcs .entry)) n mask (now (dist .entry)) (now (next .exit)) (now (row .exit)) r ⌝ }
+fn sweep(
+    arcs: &[u32],
+    n: u32,
+    mask: u32,
+    dist: &[u32],
+    next: &mut [u32],
+    row: &mut [u32],
+    atmost: &mut [u32],
+) -> u32
+    requires { ⌜ (n ≤ mostNodes) × (arcCells ≤ length (now arcs)) × (mostNodes ≤ length (now dist)) × (mostNodes ≤ length (now next)) × (mostNodes ≤ length (now row)) × (mostNodes ≤ length (now atmost)) × AtMost n (now next) (now atmost) × Nodes n mask × ((v : ℕ) → v < n → (1 ≤ getD (now dist) v 0) × (getD (now dist) v 0 ≤ n) × (getD (now next) v 0 ≡ getD (now dist) v 0)) ⌝ }
+    ensures swept { λ r. ⌜ Swept (now (arcs .entry)) n mask (now (dist .entry)) (now (next .exit)) (now (row .exit)) r ⌝ }
+    ensures stand { λ _. ⌜ AtMost n (now (next .exit)) (now (atmost .exit)) ⌝ }
 {
     let mut fell = 0;
-    let mut u = 0;
-    while u < n {
-        fell = look(arcs, n, mask, u, dist[u as usize], fell, next, row);
-        u += 1;
+    let mut left = mask;
+    while left != 0 {
+        let u = sets::least(left);
+        left = sets::without(left, u);
+        fell = look(arcs, n, u, dist[u as usize], fell, next, row, atmost);
     }
     fell
 }
@@ -94,42 +135,41 @@ fn descend(
     dist: &[u32],
     next: &mut [u32],
     table: &mut [u32],
+    atmost: &mut [u32],
 ) -> u32
-    requires { ⌜ (k < mostNodes) × (n ≤ mostNodes) × (arcCells ≤ length (now arcs)) × (mostNodes ≤ length (now dist)) × (mostNodes ≤ length (now next)) × (tableCells ≤ length (now table)) × ((v : ℕ) → v < n → (1 ≤ getD (now dist) v 0) × (getD (now dist) v 0 ≤ n) × (getD (now next) v 0 ≡ getD (now dist) v 0)) ⌝ }
-    ensures { λ r. ⌜ Descended (now (arcs .entry)) n k mask (now (dist .entry)) (now (next .exit)) (now (table .entry)) (now (table .exit)) r ⌝ }
+    requires { ⌜ (k < mostNodes) × (n ≤ mostNodes) × (arcCells ≤ length (now arcs)) × (mostNodes ≤ length (now dist)) × (mostNodes ≤ length (now next)) × (tableCells ≤ length (now table)) × (mostNodes ≤ length (now atmost)) × AtMost n (now next) (now atmost) × Nodes n mask × ((v : ℕ) → v < n → (1 ≤ getD (now dist) v 0) × (getD (now dist) v 0 ≤ n) × (getD (now next) v 0 ≡ getD (now dist) v 0)) ⌝ }
+    ensures level { λ r. ⌜ Descended (now (arcs .entry)) n k mask (now (dist .entry)) (now (next .exit)) (now (table .entry)) (now (table .exit)) r ⌝ }
+    ensures stand { λ _. ⌜ AtMost n (now (next .exit)) (now (atmost .exit)) ⌝ }
 {
     let a = ((k + 1) * NODES) as usize;
-    let swept = sweep(arcs, n, mask, dist, next, &mut table[a..a + Cluster::NODES]);
+    let swept = sweep(
+        arcs,
+        n,
+        mask,
+        dist,
+        next,
+        &mut table[a..a + Cluster::NODES],
+        atmost,
+    );
     sets::meet(swept, sets::below(n))
 }
 
-// The way that v's way grows from: that of the node it came from, where it fell, else its own way but v.
-fn grown_from(fell: u32, v: u32, row: &[u32], way: &[u32]) -> u32
-    requires { ⌜ (v < mostNodes) × (mostNodes ≤ length (now row)) × (mostNodes ≤ length (now way)) × (memberOf fell v ≡ true → getD (now row) v 0 < mostNodes) ⌝ }
-    ensures { λ r. ⌜ r ≡ before fell (now (row .entry)) (now (way .entry)) v ⌝ }
-{
-    let i = v as usize;
-    if sets::member(fell, v) {
-        way[row[i] as usize]
-    } else {
-        sets::without(way[i], v)
-    }
-}
-
-// The first node that its way comes to again; n where there is none, and then grown has the ways with one level more.
+// The first node, of those that fell, that its way comes to again; n where there is none, and then grown has the ways of the fallen with one level more.
 fn close(n: u32, fell: u32, row: &[u32], way: &[u32], grown: &mut [u32]) -> u32
-    requires { ⌜ (n ≤ mostNodes) × (mostNodes ≤ length (now row)) × (mostNodes ≤ length (now way)) × (mostNodes ≤ length (now grown)) × ((v : ℕ) → v < n → memberOf fell v ≡ true → getD (now row) v 0 < mostNodes) ⌝ }
+    requires { ⌜ (n ≤ mostNodes) × (mostNodes ≤ length (now row)) × (mostNodes ≤ length (now way)) × (mostNodes ≤ length (now grown)) × Nodes n fell × ((v : ℕ) → v < n → memberOf fell v ≡ true → getD (now row) v 0 < mostNodes) ⌝ }
     ensures first { λ r. ⌜ r ≡ closer n fell (now (row .entry)) (now (way .entry)) ⌝ }
-    ensures grows { λ r. ⌜ (r ≡ n → now (grown .exit) ≡ put 0 (λ v. withOf (before fell (now (row .entry)) (now (way .entry)) v) v) n (now (grown .entry))) ⌝ }
+    ensures grows { λ r. ⌜ (r ≡ n → Settled (bit fell) (longer (now (row .entry)) (now (way .entry))) (now (grown .entry)) (now (grown .exit))) ⌝ }
 {
-    let mut v = 0;
-    while v < n {
-        let w = grown_from(fell, v, row, way);
+    let mut left = fell;
+    while left != 0 {
+        let v = sets::least(left);
+        let i = v as usize;
+        left = sets::without(left, v);
+        let w = way[row[i] as usize];
         if sets::member(w, v) {
             return v;
         }
-        grown[v as usize] = sets::with(w, v);
-        v += 1;
+        grown[i] = sets::with(w, v);
     }
     n
 }
@@ -172,14 +212,15 @@ fn search(arcs: &[u32], n: u32, walk: &mut [u32]) -> u32
 {
     let mut dist = [n; Cluster::NODES];
     let mut next = [n; Cluster::NODES];
+    let mut atmost = [0u32; Cluster::NODES];
     let mut way = [0u32; Cluster::NODES];
-    let mut grown = [0u32; Cluster::NODES];
-    let mut table = [0u32; TABLE];
     begin(&mut way);
+    let mut grown = way;
+    let mut table = [0u32; TABLE];
     let mut mask = sets::below(n);
     let mut k = 0;
     while k < n {
-        let fell = descend(arcs, n, k, mask, &dist, &mut next, &mut table);
+        let fell = descend(arcs, n, k, mask, &dist, &mut next, &mut table, &mut atmost);
         if fell == 0 {
             return 0;
         }

@@ -1,35 +1,70 @@
--- `cycles::close` meets its contract. Assumes nothing.
-use Prim.Native.Nat.{ℕ, _≤_, _-_}
-use mathlib.Core.Path.{_≡_, sym, ap, _∙_}
+-- `cycles::close` meets its contract. The nodes that are not left close no cycle, and their ways have grown.
+-- Assumes nothing.
+use Prim.Native.Nat.{_≤_, _<_, _-_}
+use mathlib.Core.Path.{_≡_, sym, _∙_}
 use native.Mathlib.Omega.{arith}
 use borrow.Author.Needs.{needs}
-use lib.ListN.{length, length-set}
+use lib.ListN.{length, getD, length-set}
 use Rattle.cluster.specs.Terms.{mostNodes}
-use Rattle.cells.specs.ModelCells.{put}
-use Rattle.cells.proofs.Cells.{put-none, put-next}
-use Rattle.sets.specs.ModelBits.{withOf}
-use Rattle.cycles.specs.ModelTurns.{before, closer}
-use Rattle.cycles.proofs.Parts.{closerFrom, closer-start, closer-hit, closer-miss, closer-end}
+use Rattle.sets.specs.ModelBits.{bit, countOf}
+use Rattle.sets.proofs.Laws.{bit-true}
+use Rattle.sets.proofs.Scan.{Left, left-all}
+use Rattle.cycles.specs.ModelTurns.{Settled, longer}
+use Rattle.cycles.proofs.Visits.{Visit, visit-node, visit-member, visit-below, visit-less, visit-rest, settled-start, settled-more, settled-end}
+use Rattle.cycles.proofs.Parts.{Open, open-start, open-more, closer-hit, closer-none, before-read, longer-with}
 use Rattle.cycles.proofs.close.Statement.{statement}
 use Rattle.cycles.proofs.close.Tie as tie
 
 abbrev Inv-loop : tie.InvT-loop
-Inv-loop n fell row way grown₀ v₀ grown v =
-    (v ≤ n) × (n ≤ mostNodes) × (mostNodes ≤ length row) × (mostNodes ≤ length way) × (mostNodes ≤ length grown₀) × (length grown ≡ length grown₀)
-    × (closer n fell row way ≡ closerFrom n fell row way v) × (grown ≡ put 0 (λ v. withOf (before fell row way v) v) v grown₀)
+Inv-loop n fell row way grown₀ left₀ grown left =
+    (n ≤ mostNodes) × (mostNodes ≤ length row) × (mostNodes ≤ length way) × (mostNodes ≤ length grown₀) × (length grown ≡ length grown₀) × Left fell left × Open fell row way left
+    × Settled (λ v. bit fell v - bit left v) (longer row way) grown₀ grown
 
 abbrev μ-loop : tie.MeasureT-loop
-μ-loop n fell row way grown₀ v₀ grown v = n - v
+μ-loop n fell row way grown₀ left₀ grown left = countOf left
 
 loop-holds : tie.Need-loop-holds Inv-loop μ-loop
 loop-holds c =
     let a = c .before .before .before .args in
-    (search needs, search needs, search needs, search needs, search needs, search needs, closer-start (a .n) (a .fell) (a .row .now) (a .way .now), put-none _ _ _)
+    (search needs, search needs, search needs, search needs, search needs, left-all (a .fell) (search needs), open-start (a .fell) (a .row .now) (a .way .now), settled-start (a .fell) (longer (a .row .now) (a .way .now)) (a .grown .now))
 
-grown-from-requires : tie.Need-grown-from-requires Inv-loop μ-loop
-grown-from-requires c κs =
-    let t = c .before .before .before .before .before in
-    (search needs, search needs, search needs, t .pre .4 (c .before .loop .v) (c .loop-test .taken))
+least-requires : tie.Need-least-requires Inv-loop μ-loop
+least-requires c κs = search needs
+
+cast-i : tie.Need-cast-i Inv-loop μ-loop
+cast-i c = search needs
+
+without-requires : tie.Need-without-requires Inv-loop μ-loop
+without-requires c κs = search needs
+
+at : (c : tie.After-without Inv-loop μ-loop)
+    → let l = c .before .before .before in
+    Visit (l .before .before .before .before .args .fell) (l .loop .left) (c .before .least .result) (c .without .result)
+at c =
+    let l = c .before .before .before in
+    record { some = c .before .before .loop-test .taken; scan = l .loop .inv .5; at-least = c .before .least .ensures; at-rest = c .without .ensures }
+
+mul-w : tie.Need-mul-w Inv-loop μ-loop
+mul-w c = search needs
+
+shared-slice-read-w : tie.Need-shared-slice-read-w Inv-loop μ-loop
+shared-slice-read-w c = omega (arith, visit-node (at (c .before)))
+
+-- Where the next one came from is a node.
+from : (c : tie.After-without Inv-loop μ-loop)
+    → getD (c .before .before .before .before .before .before .before .args .row .now) (c .before .least .result) 0 < mostNodes
+from c =
+    let t = c .before .before .before .before .before .before .before in
+    t .pre .5 (c .before .least .result) (visit-below (at c) (t .args .n) (t .pre .4)) (bit-true (t .args .fell) (c .before .least .result) (visit-member (at c)))
+
+cast-w : tie.Need-cast-w Inv-loop μ-loop
+cast-w c = omega (arith, from (c .before))
+
+mul-w-2 : tie.Need-mul-w-2 Inv-loop μ-loop
+mul-w-2 c = omega (arith, from (c .before))
+
+shared-slice-read-w-2 : tie.Need-shared-slice-read-w-2 Inv-loop μ-loop
+shared-slice-read-w-2 c = omega (arith, from (c .before .before))
 
 member-requires : tie.Need-member-requires Inv-loop μ-loop
 member-requires c κs = search needs
@@ -40,50 +75,45 @@ same-length c = search needs
 returns : tie.Need-returns Inv-loop μ-loop
 returns c =
     let m = c .before in
-    let g = m .before in
-    let l = g .before .before in
+    let o = m .before .before .before in
+    let l = o .before .before .before in
     let t = l .before .before .before .before in
-    let a = t .args in (
-      sym (l .loop .inv .6 ∙ closer-hit (a .n) (a .fell) (a .row .now) (a .way .now) (l .loop .v) (g .grown-from .result) (g .before .loop-test .taken) (g .grown-from .ensures)
-          (sym (m .member .ensures) ∙ c .if1 .taken)),
-      λ e. absurd (omega (arith, e)),
+    let a = t .args in
+    let v = o .before .least .result in (
+      closer-hit (a .fell) (a .row .now) (a .way .now) (at o) (getD (a .way .now) (getD (a .row .now) v 0) 0) (before-read (a .row .now) (a .way .now) v) (l .loop .inv .6) (a .n) (t .pre .4)
+          (sym (m .member .ensures) ∙ c .if1 .taken),
+      λ e. absurd (omega (arith, e, visit-below (at o) (a .n) (t .pre .4))),
     )
 
 with-requires : tie.Need-with-requires Inv-loop μ-loop
 with-requires c κs = search needs
 
-cast-grown : tie.Need-cast-grown Inv-loop μ-loop
-cast-grown c = search needs
-
 mul-grown : tie.Need-mul-grown Inv-loop μ-loop
 mul-grown c = search needs
 
 slice-write-grown : tie.Need-slice-write-grown Inv-loop μ-loop
-slice-write-grown c = search needs
-
-add-v : tie.Need-add-v Inv-loop μ-loop
-add-v c = search needs
+slice-write-grown c = omega (arith, visit-node (at (c .before .before .before .before .before)))
 
 loop-less : tie.Need-loop-less Inv-loop μ-loop
-loop-less c = search needs
+loop-less c = visit-less (at (c .before .before .before .before .before))
 
 loop-again : tie.Need-loop-again Inv-loop μ-loop
 loop-again c =
     let m = c .before .before in
-    let g = m .before in
-    let l = g .before .before in
-    let t = l .before .before .before .before in
-    let a = t .args in (
-      search needs,
+    let o = m .before .before .before in
+    let l = o .before .before .before in
+    let a = l .before .before .before .before .args in
+    let v = o .before .least .result in (
       search needs,
       search needs,
       search needs,
       search needs,
       simp length-set (search needs),
-      l .loop .inv .6 ∙ closer-miss (a .n) (a .fell) (a .row .now) (a .way .now) (l .loop .v) (g .grown-from .result) (g .before .loop-test .taken) (g .grown-from .ensures)
+      visit-rest (at o),
+      open-more (a .fell) (a .row .now) (a .way .now) (at o) (getD (a .way .now) (getD (a .row .now) v 0) 0) (before-read (a .row .now) (a .way .now) v) (l .loop .inv .6)
           (sym (m .member .ensures) ∙ c .before .if1 .left),
-      put-next (λ v. withOf (before (a .fell) (a .row .now) (a .way .now) v) v) (l .loop .v) (c .with .result) (a .grown .now) (l .loop .grown) (l .loop .inv .7)
-          (c .with .ensures ∙ ap (λ (x : ℕ). withOf x (l .loop .v)) (g .grown-from .ensures)),
+      settled-more (at o) (longer (a .row .now) (a .way .now)) (c .with .result) (a .grown .now) (l .loop .grown) (omega arith) (c .with .ensures ∙ longer-with (a .row .now) (a .way .now) v)
+          (l .loop .inv .7),
     )
 
 same-length-2 : tie.Need-same-length-2 Inv-loop μ-loop
@@ -93,9 +123,9 @@ returns-2 : tie.Need-returns-2 Inv-loop μ-loop
 returns-2 c =
     let l = c .before in
     let a = l .before .before .before .before .args in
-    let e : l .loop .v ≡ a .n = omega arith in (
-      sym (l .loop .inv .6 ∙ (closer-end (a .n) (a .fell) (a .row .now) (a .way .now) (l .loop .v) (c .loop-test .left) ∙ e)),
-      λ _. l .loop .inv .7 ∙ ap (λ (k : ℕ). put 0 (λ v. withOf (before (a .fell) (a .row .now) (a .way .now) v) v) k (a .grown .now)) e,
+    let z = c .loop-test .left in (
+      closer-none (a .fell) (a .row .now) (a .way .now) (a .n) (l .loop .left) (l .loop .inv .0) z (l .loop .inv .6),
+      λ _. settled-end (a .fell) (l .loop .left) (longer (a .row .now) (a .way .now)) (a .grown .now) (l .loop .grown) z (l .loop .inv .7),
     )
 
 pub close-spec : {M : Type 1} → statement M
@@ -105,15 +135,20 @@ close-spec =
     Inv-loop
     μ-loop
     loop-holds
-    grown-from-requires
+    least-requires
+    cast-i
+    without-requires
+    mul-w
+    shared-slice-read-w
+    cast-w
+    mul-w-2
+    shared-slice-read-w-2
     member-requires
     same-length
     returns
     with-requires
-    cast-grown
     mul-grown
     slice-write-grown
-    add-v
     loop-less
     loop-again
     same-length-2

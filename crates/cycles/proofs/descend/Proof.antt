@@ -49,9 +49,12 @@ same-length c = search needs
 same-length-2 : tie.Need-same-length-2
 same-length-2 c = search needs
 
+same-length-3 : tie.Need-same-length-3
+same-length-3 c = search needs
+
 row-long : (c : tie.After-sweep) → mostNodes ≤ length (c .sweep .last .1 .1 .1 .1 .1 .0)
 row-long c =
-    let t = c .before .before .before .before .before .before .before in
+    let t = c .before .before .before .before .before .before .before .before .before in
     let i = (t .args .k + 1) * mostNodes in
     let l = t .args .table .now in
     let e : length (c .sweep .last .1 .1 .1 .1 .1 .0) ≡ length (take (i + mostNodes - i) (drop i l)) = c .sweep .kept .1 .1 .1 .1 .1 .0 in
@@ -60,12 +63,14 @@ row-long c =
 returns : tie.Need-returns
 returns c =
     let b = c .before in
-    let s = b .before .before .before .before .before in
-    let t = s .before .before .before .before .before .before .before in
-    let a = t .args in
-    descended (a .arcs .now) (a .n) (a .k) (a .mask) (s .sweep .result) (c .meet .result) (a .dist .now) (s .sweep .last .1 .1 .1 .1 .0) (a .table .now) (s .sweep .last .1 .1 .1 .1 .1 .0)
-    (drop ((a .k + 1) * mostNodes + mostNodes - (a .k + 1) * mostNodes) (drop ((a .k + 1) * mostNodes) (a .table .now)))
-    (omega (arith, t .pre)) (omega (arith, t .pre)) (row-long s) (c .meet .ensures ∙ ap (λ (x : ℕ). meetOf (s .sweep .result) x) (b .below .ensures)) (s .sweep .ensures)
+    let s = b .before .before .before .before .before .before .before in
+    let t = s .before .before .before .before .before .before .before .before .before in
+    let a = t .args in (
+      descended (a .arcs .now) (a .n) (a .k) (a .mask) (s .sweep .result) (c .meet .result) (a .dist .now) (s .sweep .last .1 .1 .1 .1 .0) (a .table .now) (s .sweep .last .1 .1 .1 .1 .1 .0)
+          (drop ((a .k + 1) * mostNodes + mostNodes - (a .k + 1) * mostNodes) (drop ((a .k + 1) * mostNodes) (a .table .now)))
+          (omega (arith, t .pre)) (omega (arith, t .pre)) (row-long s) (c .meet .ensures ∙ ap (λ (x : ℕ). meetOf (s .sweep .result) x) (b .below .ensures)) (s .sweep .ensures .0),
+      s .sweep .ensures .1,
+    )
 
 pub descend-spec : {M : Type 1} → statement M
 descend-spec =
@@ -84,4 +89,5 @@ descend-spec =
     meet-requires
     same-length
     same-length-2
+    same-length-3
     returns)

@@ -1,42 +1,63 @@
--- `cycles::sweep` meets its contract: the nodes below u have been looked at.
+-- `cycles::sweep` meets its contract: the members of the mask that are not left have been looked at.
 -- Assumes nothing.
-use Prim.Native.Nat.{ℕ, _≤_, _<_, _-_, _^_}
-use mathlib.Core.Path.{_≡_, subst}
+use Prim.Native.Nat.{_≤_, _<_, _^_}
+use mathlib.Core.Path.{_≡_, refl, _∙_}
 use native.Mathlib.Omega.{arith}
 use borrow.Author.Needs.{needs}
-use lib.ListN.{length, getD}
+use lib.ListN.{length}
 use Rattle.cluster.specs.Terms.{mostNodes}
 use Rattle.cycles.specs.ModelGraph.{arcCells}
-use Rattle.sets.specs.ModelBits.{maskBits, bit}
-use Rattle.cycles.specs.ModelTurns.{Held}
-use Rattle.cycles.proofs.Sweeps.{fallTo, sweep-start, sweep-more}
+use Rattle.sets.specs.ModelBits.{maskBits, countOf}
+use Rattle.cycles.specs.ModelTurns.{AtMost}
+use Rattle.cycles.proofs.Rows.{length-kept, distance-most}
+use Rattle.cycles.proofs.Visits.{Visit, visit-node, visit-below, visit-less, passed-left}
+use Rattle.cycles.proofs.Sweeps.{Sweeping, sweep-start, sweep-more, sweep-end}
 use Rattle.cycles.proofs.sweep.Statement.{statement}
 use Rattle.cycles.proofs.sweep.Tie as tie
 
 abbrev Inv-loop : tie.InvT-loop
-Inv-loop arcs n mask dist next₀ row₀ fell₀ u₀ next row fell u =
-    (u ≤ n) × (length next ≡ length next₀) × (length row ≡ length row₀) × (mostNodes ≤ length next₀) × (mostNodes ≤ length row₀) × (n ≤ mostNodes) × (arcCells ≤ length arcs) × (mostNodes ≤ length dist)
-    × (fell < 2 ^ maskBits)
-    × ((v : ℕ) → v < n → Held (getD dist v 0) (fallTo arcs n mask dist v u) (getD next v 0) (getD row v 0) (bit fell v))
+Inv-loop arcs n mask dist next₀ row₀ atmost₀ fell₀ left₀ next row atmost fell left =
+    (length next ≡ length next₀) × (length row ≡ length row₀) × (length atmost ≡ length atmost₀) × (mostNodes ≤ length next₀) × (mostNodes ≤ length row₀) × (mostNodes ≤ length atmost₀)
+    × (n ≤ mostNodes) × (arcCells ≤ length arcs) × (mostNodes ≤ length dist) × (fell < 2 ^ maskBits) × AtMost n next atmost × Sweeping arcs n mask dist next row fell left
 
 abbrev μ-loop : tie.MeasureT-loop
-μ-loop arcs n mask dist next₀ row₀ fell₀ u₀ next row fell u = n - u
+μ-loop arcs n mask dist next₀ row₀ atmost₀ fell₀ left₀ next row atmost fell left = countOf left
 
 loop-holds : tie.Need-loop-holds Inv-loop μ-loop
 loop-holds c =
-    let t = c .before .before .before .before in
-    let a = t .args in (
-      search needs,
-      search needs,
-      search needs,
-      search needs,
-      search needs,
-      search needs,
-      search needs,
-      search needs,
-      search needs,
-      λ v l. sweep-start (a .arcs .now) (a .n) (a .mask) (a .dist .now) (a .next .now) (a .row .now) v (t .pre .5 v l .2),
+    let t = c .before .before .before .before .before in
+    let a = t .args in
+    let p = t .pre in (
+      refl,
+      refl,
+      refl,
+      p .3,
+      p .4,
+      p .5,
+      p .0,
+      p .1,
+      p .2,
+      omega arith,
+      p .6,
+      sweep-start (a .arcs .now) (a .n) (a .mask) (a .dist .now) (a .next .now) (a .row .now) (search needs) (λ v l. p .8 v l .2),
     )
+
+least-requires : tie.Need-least-requires Inv-loop μ-loop
+least-requires c κs = search needs
+
+without-requires : tie.Need-without-requires Inv-loop μ-loop
+without-requires c κs = search needs
+
+at : (c : tie.After-without Inv-loop μ-loop)
+    → let l = c .before .before .before in
+    Visit (l .before .before .before .before .before .before .args .mask) (l .loop .left) (c .before .least .result) (c .without .result)
+at c =
+    let l = c .before .before .before in
+    record { some = c .before .before .loop-test .taken; scan = passed-left (l .loop .inv .11 .passed); at-least = c .before .least .ensures; at-rest = c .without .ensures }
+
+-- The next member is a node below n.
+node : (c : tie.After-without Inv-loop μ-loop) → c .before .least .result < c .before .before .before .before .before .before .before .before .before .args .n
+node c = visit-below (at c) _ (c .before .before .before .before .before .before .before .before .before .pre .7)
 
 cast-look : tie.Need-cast-look Inv-loop μ-loop
 cast-look c = search needs
@@ -45,54 +66,55 @@ mul-look : tie.Need-mul-look Inv-loop μ-loop
 mul-look c = search needs
 
 shared-slice-read-look : tie.Need-shared-slice-read-look Inv-loop μ-loop
-shared-slice-read-look c = search needs
+shared-slice-read-look c = omega (arith, visit-node (at (c .before)))
 
 look-requires : tie.Need-look-requires Inv-loop μ-loop
 look-requires c κs =
-    let l = c .before .before .before .before in
-    let t = l .before .before .before .before .before in
-    let p = t .pre .5 (l .loop .u) (c .before .before .before .loop-test .taken) in
-    (search needs, search needs, p .0, omega arith, search needs, search needs)
-
-add-u : tie.Need-add-u Inv-loop μ-loop
-add-u c = search needs
+    let w = c .before .before .before .before in
+    let l = w .before .before .before in
+    let t = l .before .before .before .before .before .before in
+    let p = t .pre .8 (w .before .least .result) (node w) in
+    let i = l .loop .inv in
+    (t .pre .0, t .pre .1, visit-node (at w), p .0, distance-most _ _ (p .1) (t .pre .0), length-kept (i .0) (i .3), length-kept (i .1) (i .4), length-kept (i .2) (i .5), i .10)
 
 loop-less : tie.Need-loop-less Inv-loop μ-loop
-loop-less c = search needs
+loop-less c = visit-less (at (c .before .before .before .before .before .before .before .before .before .before .before))
 
 loop-again : tie.Need-loop-again Inv-loop μ-loop
 loop-again c =
-    let k = c .before .before .before .before in
-    let l = k .before .before .before .before .before in
-    let t = l .before .before .before .before .before in
-    let a = t .args in
-    let b : t .args .n ≤ mostNodes = omega arith in (
-      search needs,
-      search needs,
-      search needs,
-      search needs,
-      search needs,
-      search needs,
-      search needs,
-      search needs,
-      search needs,
-      λ v h. sweep-more (a .arcs .now) (a .n) (a .mask) (l .loop .u) (l .loop .fell) (k .look .result) (a .dist .now) (l .loop .next) (l .loop .row)
-          (k .look .last .1 .1 .1 .1 .1 .1 .0) (k .look .last .1 .1 .1 .1 .1 .1 .1 .0) v (omega arith) (t .pre .5 v h .1) (k .look .ensures) (l .loop .inv .9 v h),
+    let k = c .before .before .before .before .before .before in
+    let w = k .before .before .before .before .before in
+    let l = w .before .before .before in
+    let t = l .before .before .before .before .before .before in
+    let i = l .loop .inv in (
+      k .look .kept .1 .1 .1 .1 .1 .0 ∙ i .0,
+      k .look .kept .1 .1 .1 .1 .1 .1 .0 ∙ i .1,
+      k .look .kept .1 .1 .1 .1 .1 .1 .1 .0 ∙ i .2,
+      i .3,
+      i .4,
+      i .5,
+      i .6,
+      i .7,
+      i .8,
+      k .look .ok,
+      k .look .ensures .1,
+      sweep-more (i .11) (w .before .least .result) (w .without .result) (k .look .result) (k .look .last .1 .1 .1 .1 .1 .0) (k .look .last .1 .1 .1 .1 .1 .1 .0)
+          (at w) (node w) (t .pre .0) (λ v h. t .pre .8 v h .1) (k .look .ensures .0),
     )
 
 same-length : tie.Need-same-length Inv-loop μ-loop
-same-length c = search needs
+same-length c = c .before .loop .inv .0
 
 same-length-2 : tie.Need-same-length-2 Inv-loop μ-loop
-same-length-2 c = search needs
+same-length-2 c = c .before .loop .inv .1
+
+same-length-3 : tie.Need-same-length-3 Inv-loop μ-loop
+same-length-3 c = c .before .loop .inv .2
 
 returns : tie.Need-returns Inv-loop μ-loop
 returns c =
     let l = c .before in
-    let a = l .before .before .before .before .before .args in
-    let e : l .loop .u ≡ a .n = omega arith in
-    λ v h. subst (λ (k : ℕ). Held (getD (a .dist .now) v 0) (fallTo (a .arcs .now) (a .n) (a .mask) (a .dist .now) v k) (getD (l .loop .next) v 0) (getD (l .loop .row) v 0) (bit (l .loop .fell) v)) e
-    (l .loop .inv .9 v h)
+    (sweep-end (l .loop .inv .11) (c .loop-test .left) (l .loop .inv .6), l .loop .inv .10)
 
 pub sweep-spec : {M : Type 1} → statement M
 sweep-spec =
@@ -101,13 +123,15 @@ sweep-spec =
     Inv-loop
     μ-loop
     loop-holds
+    least-requires
+    without-requires
     cast-look
     mul-look
     shared-slice-read-look
     look-requires
-    add-u
     loop-less
     loop-again
     same-length
     same-length-2
+    same-length-3
     returns)
