@@ -1,93 +1,151 @@
-//! How fast the proved planner is, beside the same method and the report's method in plain Rust.
+//! How fast the proved planner is, beside the best program of the same method and the report's
+//! method, both in plain Rust.
 //!
 //! All plan the same clusters in turn in one run, each from the bytes of the cluster's record, and
-//! have to come to the same distance; the proved planner is called through its C function. The
-//! report's method is timed twice: as document 000 has it, with 4N + 1 rounds in every search for
-//! cycles, and stopping each search at the first round that shows a cycle or lowers nothing, which
-//! the report does not. A time is the median of several calls, and a line the median of several clusters of its
-//! kind.
+//! have to come to the same distance. "proved" is the planner through its C function. "plain" is the
+//! same method in `console/reference`, with all that makes it quick; it turns a cycle again as long as
+//! rows allow it, and "search" is the same program with a search for each improvement. "report's" is
+//! the report's method as document 000 has it, with 4N + 1 rounds in every search for cycles, and
+//! "stopping" ends each search at the first round that shows a cycle or lowers nothing, which the
+//! report does not. A line is the median of several clusters of its kind, each column by itself.
+//!
+//! A time is what a call takes of the processor, as the system counts it, so that others may use the
+//! machine meanwhile: the median of several batches of calls. Where the system does not tell it, it is
+//! the time of the clock.
+//!
+//!     cargo bench --bench plan                     all tables (`make bench`)
+//!     cargo bench --bench plan -- proved           the proved planner's times alone
+//!     cargo bench --bench plan -- once worst       one call of proved, plain and search, to be counted
+//!
+//! Two builds of the static library are compared by two programs that are run in turn: put the one
+//! library into `build/`, run `cargo bench --bench plan --no-run`, and copy the program that it names;
+//! do the same with the other, and let the two print their times by `PROGRAM proved`, several times.
+//!
+//! Instructions do not hang on what else the machine does. The programs are small enough to be run
+//! under callgrind, which counts within one function where it is told so:
+//! `valgrind --tool=callgrind --toggle-collect=dezghuri_plan PROGRAM once worst`, and for the other two
+//! `--toggle-collect='*plain_plan*'` and `'*search_plan*'`.
 
 use dezghuri::ffi;
+use reference::exchanges::{plan_record, Path};
 use reference::random::Random;
 use reference::records::{cluster_record, read_cluster};
-use reference::{distance, exchanges, report, Cluster, Layout, Node};
-use std::time::Instant;
+use reference::{distance, report, Cluster, Layout, Node};
+use std::time::{Duration, Instant};
 
 /// Clusters of each kind.
-const CLUSTERS: u64 = 9;
-/// Calls of each method for each cluster.
-const CALLS: usize = 7;
+const CLUSTERS: u64 = 11;
+/// Batches of calls of each method for each cluster.
+const BATCHES: usize = 5;
+/// How long a batch takes; it has one call at least.
+const BATCH: Duration = Duration::from_millis(5);
 
 /// A cluster and the layout before.
 type Case = (Cluster, Layout);
 
-/// The times in milliseconds, and how many improvements the plan took.
+/// A kind of cluster: its name, what it is, and how one is drawn.
+type Kind = (&'static str, &'static str, fn(&mut Random) -> Case);
+
+const KINDS: [Kind; 6] = [
+    ("home", "4 to 6 nodes, R 3, one replaced", home),
+    ("nineteen", "19 nodes, R 3, two changed", nineteen),
+    ("full", "32 nodes, R 3 to 8, by lot", full),
+    ("worst", "32 nodes, R 8, former far away", worst),
+    ("tight", "32 nodes, disks just enough", tight),
+    ("ties", "32 nodes, disks all equal", ties),
+];
+
+/// The times in microseconds, and how many improvements the proved plan took.
 #[derive(Clone, Copy)]
 struct Times {
     proved: f64,
-    same_method: f64,
+    plain: f64,
+    search: f64,
     report: f64,
     stopping: f64,
     improvements: f64,
 }
 
 fn main() {
-    println!("milliseconds for a plan; medians of {CLUSTERS} clusters, {CALLS} calls each\n");
-    head("cluster");
-    line("home: 5 nodes, k 8, R 3, one replaced", home);
-    line("19 nodes, k 8, R 3, two changed", nineteen);
-    line("32 nodes, k 8, R 8, former far away", far_away);
+    let words: Vec<String> = std::env::args().skip(1).collect();
+    let words = words.iter().map(String::as_str);
+    let words: Vec<&str> = words.filter(|word| *word != "--bench").collect();
+    match words[..] {
+        [] => all_tables(),
+        ["proved"] => proved_alone(),
+        ["once", name] => once(name),
+        _ => panic!("proved, once KIND, or nothing"),
+    }
+}
+
+fn all_tables() {
+    println!("microseconds for a plan; medians of {CLUSTERS} clusters, {BATCHES} batches of calls each\n");
+    head("cluster (256 partitions)");
+    for (name, what, case) in KINDS {
+        line(&format!("{name}: {what}"), case);
+    }
     println!();
     head("growth with nodes (k 8, R 3)");
     for nodes in [4, 8, 16, 32] {
-        line(&format!("{nodes} nodes"), |r| random_case(8, nodes, 3, r));
+        line(&format!("{nodes} nodes"), |r| by_lot(8, nodes, 3, 2, r));
     }
     println!();
     head("growth with copies (k 8, 32 nodes)");
     for copies in [1, 2, 4, 8] {
-        line(&format!("R {copies}"), |r| random_case(8, 32, copies, r));
+        line(&format!("R {copies}"), |r| {
+            by_lot(8, 32, copies, copies.min(2), r)
+        });
     }
     println!();
     head("growth with partitions (16 nodes, R 3)");
     for bits in [2, 4, 6, 8] {
         let partitions = 1 << bits;
         line(&format!("{partitions} partitions"), |r| {
-            random_case(bits, 16, 3, r)
+            by_lot(bits, 16, 3, 2, r)
         });
     }
 }
 
 fn head(name: &str) {
     println!(
-        "{name:<38} {:>8} {:>8} {:>9} {:>9} {:>12} {:>15} {:>15} {:>12}",
+        "{name:<41} {:>7} {:>7} {:>7} {:>8} {:>8} {:>12} {:>15} {:>15} {:>12} {:>7}",
         "proved",
-        "same",
+        "plain",
+        "search",
         "report's",
         "stopping",
-        "proved/same",
+        "proved/plain",
         "report's/proved",
         "stopping/proved",
-        "improvements"
+        "improvements",
+        "us each"
     );
 }
 
 /// Times a kind of cluster and prints its line.
 fn line(name: &str, case: impl Fn(&mut Random) -> Case) {
-    let times: Vec<Times> = (1..=CLUSTERS)
-        .map(|seed| time(&case(&mut Random::new(seed))))
-        .collect();
+    let times: Vec<Times> = drawn(case).iter().map(time).collect();
     let middle = |part: fn(&Times) -> f64| median(times.iter().map(part).collect());
     println!(
-        "{name:<38} {:>8.3} {:>8.3} {:>9.3} {:>9.3} {:>12.2} {:>15.1} {:>15.1} {:>12}",
+        "{name:<41} {:>7.0} {:>7.0} {:>7.0} {:>8.0} {:>8.0} {:>12.2} {:>15.1} {:>15.1} {:>12} {:>7.2}",
         middle(|t| t.proved),
-        middle(|t| t.same_method),
+        middle(|t| t.plain),
+        middle(|t| t.search),
         middle(|t| t.report),
         middle(|t| t.stopping),
-        middle(|t| t.proved / t.same_method),
+        middle(|t| t.proved / t.plain),
         middle(|t| t.report / t.proved),
         middle(|t| t.stopping / t.proved),
         middle(|t| t.improvements),
+        middle(|t| t.proved / t.improvements),
     );
+}
+
+/// The clusters of a kind.
+fn drawn(case: impl Fn(&mut Random) -> Case) -> Vec<Case> {
+    (1..=CLUSTERS)
+        .map(|seed| case(&mut Random::new(seed)))
+        .collect()
 }
 
 fn median(mut values: Vec<f64>) -> f64 {
@@ -98,57 +156,95 @@ fn median(mut values: Vec<f64>) -> f64 {
 /// Calls the methods in turn, so that none has the machine to itself.
 fn time((c, former): &Case) -> Times {
     let record = cluster_record(c, former);
-    let (mut proved, mut same_method) = (Vec::new(), Vec::new());
+    let mut lent = Lent::new();
+    let (mut proved, mut plain, mut search) = (Vec::new(), Vec::new(), Vec::new());
     let (mut by_report, mut stopping) = (Vec::new(), Vec::new());
     let mut improvements = 0.0;
-    for _ in 0..CALLS {
-        let (least, steps) = timed(&mut proved, || by_proof(&record));
+    for _ in 0..BATCHES {
+        let (least, steps) = timed(&mut proved, || lent.proved_plan(&record));
         improvements = f64::from(steps);
-        let far = timed(&mut same_method, || by_exchanges(&record));
-        assert_eq!(distance(&far, former), least);
+        assert_eq!(timed(&mut plain, || lent.plain_plan(&record)), least);
+        assert_eq!(timed(&mut search, || lent.search_plan(&record)), least);
         let far = timed(&mut stopping, || by_flows(&record, report::plan));
-        assert_eq!(distance(&far, former), least);
+        assert_eq!(distance(&far, former), least as usize);
         let far = timed(&mut by_report, || {
             by_flows(&record, report::plan_as_written)
         });
-        assert!(distance(&far, former) >= least);
+        assert!(distance(&far, former) >= least as usize);
     }
     Times {
         proved: median(proved),
-        same_method: median(same_method),
+        plain: median(plain),
+        search: median(search),
         report: median(by_report),
         stopping: median(stopping),
         improvements,
     }
 }
 
-fn timed<T>(times: &mut Vec<f64>, call: impl FnOnce() -> T) -> T {
+/// Makes a batch of calls and notes the time of one; what the last call made.
+fn timed<T>(times: &mut Vec<f64>, mut call: impl FnMut() -> T) -> T {
     let begun = Instant::now();
-    let made = call();
-    times.push(begun.elapsed().as_secs_f64() * 1e3);
-    made
+    let (before, mut calls) = (microseconds(begun), 0.0);
+    loop {
+        let made = call();
+        calls += 1.0;
+        if begun.elapsed() >= BATCH {
+            times.push((microseconds(begun) - before) / calls);
+            return made;
+        }
+    }
 }
 
-/// The distance and the improvements of the proved plan.
-fn by_proof(record: &[u8]) -> (usize, u32) {
-    let mut cells = vec![0; ffi::LAYOUT_CELLS];
-    let mut scratch = vec![0; ffi::SCRATCH_CELLS];
-    let mut answer = [0; ffi::PLAN_ANSWER];
-    let refusal = ffi::plan(
-        record,
-        dezghuri::ENOUGH,
-        &mut cells,
-        &mut scratch,
-        &mut answer,
-    );
-    assert_eq!(refusal, 0);
-    (answer[3] as usize, answer[5])
+/// How long this thread has had a processor; where the system does not tell, the time since `begun`.
+/// The system brings its count up to date when a thread offers to let others go first.
+fn microseconds(begun: Instant) -> f64 {
+    std::thread::yield_now();
+    let counts = std::fs::read_to_string("/proc/thread-self/schedstat");
+    let first = |counts: String| counts.split(' ').next()?.parse::<f64>().ok();
+    let told = counts.ok().and_then(first).map(|ns| ns / 1e3);
+    told.unwrap_or_else(|| begun.elapsed().as_secs_f64() * 1e6)
 }
 
-fn by_exchanges(record: &[u8]) -> Layout {
-    let (c, former) = read_cluster(record).expect("a record");
-    let plan = exchanges::plan(&c, &former, 2048).expect("a layout exists");
-    exchanges::layout(&c, &plan.rows)
+/// What the quick methods are lent: a caller that plans often keeps it.
+struct Lent {
+    cells: Vec<u32>,
+    scratch: Vec<u32>,
+}
+
+impl Lent {
+    fn new() -> Lent {
+        Lent {
+            cells: vec![0; ffi::LAYOUT_CELLS],
+            scratch: vec![0; ffi::SCRATCH_CELLS],
+        }
+    }
+
+    /// The distance and the improvements of the proved plan.
+    fn proved_plan(&mut self, record: &[u8]) -> (u32, u32) {
+        let mut answer = [0; ffi::PLAN_ANSWER];
+        let (cells, scratch) = (&mut self.cells, &mut self.scratch);
+        let refusal = ffi::plan(record, dezghuri::ENOUGH, cells, scratch, &mut answer);
+        assert_eq!(refusal, 0);
+        (answer[3], answer[5])
+    }
+
+    /// The distance of the plain plan. It is not made part of its callers, so that its instructions
+    /// can be counted.
+    #[inline(never)]
+    fn plain_plan(&mut self, record: &[u8]) -> u32 {
+        let allowance = dezghuri::ENOUGH.into();
+        let plan = plan_record(record, allowance, Path::Repeated, &mut self.cells);
+        plan.expect("a layout exists").distance
+    }
+
+    /// The same with a search for each improvement.
+    #[inline(never)]
+    fn search_plan(&mut self, record: &[u8]) -> u32 {
+        let allowance = dezghuri::ENOUGH.into();
+        let plan = plan_record(record, allowance, Path::Searched, &mut self.cells);
+        plan.expect("a layout exists").distance
+    }
 }
 
 fn by_flows(record: &[u8], plan: impl Fn(&Cluster, &Layout) -> Option<report::Planned>) -> Layout {
@@ -156,14 +252,49 @@ fn by_flows(record: &[u8], plan: impl Fn(&Cluster, &Layout) -> Option<report::Pl
     plan(&c, &former).expect("a layout exists").layout
 }
 
+/// The proved planner's time for each kind, to be set beside that of another build.
+fn proved_alone() {
+    let mut lent = Lent::new();
+    println!("microseconds for a proved plan; medians of {CLUSTERS} clusters");
+    for (name, _, case) in KINDS {
+        let mut time = |(c, former): &Case| {
+            let record = cluster_record(c, former);
+            let mut times = Vec::new();
+            for _ in 0..BATCHES {
+                timed(&mut times, || lent.proved_plan(&record));
+            }
+            median(times)
+        };
+        let times = drawn(case).iter().map(&mut time).collect();
+        println!("{name:<8} {:>8.1}", median(times));
+    }
+}
+
+/// One call of each quick method on the first cluster of the kind.
+fn once(name: &str) {
+    let kind = KINDS.iter().find(|kind| kind.0 == name);
+    let (_, what, case) = kind.expect("the name of a kind");
+    let (c, former) = case(&mut Random::new(1));
+    let record = cluster_record(&c, &former);
+    let mut lent = Lent::new();
+    let (far, improvements) = lent.proved_plan(&record);
+    assert_eq!(lent.plain_plan(&record), far);
+    assert_eq!(lent.search_plan(&record), far);
+    println!("{name}: {what}: {improvements} improvements");
+}
+
 /// Nodes 1, 2, 3 and on with disks of 1 to 4 TB, in so many zones.
 fn nodes(number: u32, zones: u32, r: &mut Random) -> Vec<Node> {
     let node = |id: u32| Node {
         id,
         zone: (id % zones) as u16,
-        capacity: 500_000 * r.between(2, 8) as u32,
+        capacity: disk(r),
     };
     (1..=number).map(node).collect()
+}
+
+fn disk(r: &mut Random) -> u32 {
+    500_000 * r.between(2, 8) as u32
 }
 
 fn cluster(bits: u32, replication: usize, redundancy: usize, nodes: Vec<Node>) -> Cluster {
@@ -175,22 +306,22 @@ fn cluster(bits: u32, replication: usize, redundancy: usize, nodes: Vec<Node>) -
     }
 }
 
-/// The layout of the cluster, planned by the report's method with nothing before it.
+/// The layout of the cluster, planned with nothing before it.
 fn laid_out(c: &Cluster) -> Layout {
     let none = vec![Vec::new(); c.partitions()];
     report::plan(c, &none).expect("a layout exists").layout
 }
 
-/// Five boxes in three houses, the third of which is replaced by a new one.
+/// Four to six boxes in three houses, the third of which is replaced by a new one.
 fn home(r: &mut Random) -> Case {
-    let before = cluster(8, 3, 2, nodes(5, 3, r));
+    let number = r.between(4, 6) as u32;
+    let before = cluster(8, 3, 2, nodes(number, 3, r));
     let mut after = before.clone();
     after.nodes.remove(2);
-    let (zone, capacity) = (before.nodes[2].zone, 500_000 * r.between(2, 8) as u32);
     after.nodes.push(Node {
-        id: 6,
-        zone,
-        capacity,
+        id: number + 1,
+        zone: before.nodes[2].zone,
+        capacity: disk(r),
     });
     (after, laid_out(&before))
 }
@@ -204,23 +335,57 @@ fn nineteen(r: &mut Random) -> Case {
     (after, laid_out(&before))
 }
 
+/// As many boxes as there may be, three to eight copies, and two zones or more.
+fn full(r: &mut Random) -> Case {
+    let copies = r.between(3, 8);
+    let zones = r.between(2, copies);
+    by_lot(8, 32, copies as usize, zones as usize, r)
+}
+
 /// The largest cluster, each row of which was drawn by lot.
-fn far_away(r: &mut Random) -> Case {
-    random_case(8, 32, 8, r)
+fn worst(r: &mut Random) -> Case {
+    by_lot(8, 32, 8, 2, r)
+}
+
+/// A full cluster in which every box is filled to the last copy.
+fn tight(r: &mut Random) -> Case {
+    let copies = r.between(3, 8);
+    let (mut c, former) = by_lot(8, 32, copies as usize, 2, r);
+    let mut dealt = [0u32; 32];
+    let mut left = 256 * copies;
+    while left > 0 {
+        let b = r.below(32) as usize;
+        if r.below(4_000_000) < c.nodes[b].capacity.into() && dealt[b] < 256 {
+            dealt[b] += 1;
+            left -= 1;
+        }
+    }
+    for (node, dealt) in c.nodes.iter_mut().zip(dealt) {
+        node.capacity = 5_000 * dealt;
+    }
+    (c, former)
+}
+
+/// A full cluster of boxes with equal disks.
+fn ties(r: &mut Random) -> Case {
+    let (mut c, former) = full(r);
+    let capacity = disk(r);
+    c.nodes.iter_mut().for_each(|node| node.capacity = capacity);
+    (c, former)
 }
 
 /// A cluster in a quarter as many houses as it has boxes, three at least, and former rows drawn by
 /// lot.
-fn random_case(bits: u32, number: u32, copies: usize, r: &mut Random) -> Case {
+fn by_lot(bits: u32, number: u32, copies: usize, redundancy: usize, r: &mut Random) -> Case {
     let zones = (number / 4).max(3);
-    let c = cluster(bits, copies, copies.min(2), nodes(number, zones, r));
-    let former = (0..c.partitions()).map(|_| {
+    let c = cluster(bits, copies, redundancy, nodes(number, zones, r));
+    let row = |_| {
         let mut ids: Vec<u32> = (1..=number).collect();
         while ids.len() > copies {
             ids.remove(r.below(ids.len() as u64) as usize);
         }
         ids
-    });
-    let former = former.collect();
+    };
+    let former = (0..c.partitions()).map(row).collect();
     (c, former)
 }

@@ -1,73 +1,92 @@
 //! The size of a cluster by counting, and the beginning of a run by dealing: the first half of the
 //! proved planner's method, unverified.
 
+use crate::exchanges::ground::{NODES, PARTITIONS};
 use crate::Cluster;
 
 /// The most copies that each node can hold at a size.
-pub fn caps_at(c: &Cluster, size: u32) -> Vec<u32> {
-    c.nodes
-        .iter()
-        .map(|n| (n.capacity / size).min(c.partitions() as u32))
-        .collect()
+pub fn caps_at(c: &Cluster, size: u32) -> [u32; NODES] {
+    let mut caps = [0; NODES];
+    for (cap, node) in caps.iter_mut().zip(&c.nodes) {
+        *cap = (node.capacity / size).min(c.partitions() as u32);
+    }
+    caps
 }
 
 /// For each node the place of the first node of its zone.
-pub fn zones(c: &Cluster) -> Vec<usize> {
-    c.nodes
-        .iter()
-        .map(|n| c.nodes.iter().position(|m| m.zone == n.zone).unwrap())
-        .collect()
+pub fn zones(c: &Cluster) -> [usize; NODES] {
+    let mut zones = [0; NODES];
+    for (zone, node) in zones.iter_mut().zip(&c.nodes) {
+        *zone = c.nodes.iter().position(|n| n.zone == node.zone).unwrap();
+    }
+    zones
 }
 
 /// Whether the caps admit a layout: enough copies, and enough pairs of partition and zone.
-fn fits(c: &Cluster, zone: &[usize], size: u32) -> bool {
+fn fits(c: &Cluster, zone: &[usize; NODES], size: u32) -> bool {
     let p = c.partitions() as u32;
     let caps = caps_at(c, size);
-    let mut by_zone = [0u32; 32];
-    for (b, cap) in caps.iter().enumerate() {
-        by_zone[zone[b]] += cap;
+    if caps.iter().sum::<u32>() < c.replication as u32 * p {
+        return false;
     }
-    caps.iter().sum::<u32>() >= c.replication as u32 * p
-        && by_zone.iter().map(|z| p.min(*z)).sum::<u32>() >= c.redundancy as u32 * p
+    let mut by_zone = [0u32; NODES];
+    for (cap, zone) in caps.iter().zip(zone) {
+        by_zone[*zone] += cap;
+    }
+    by_zone.iter().map(|z| p.min(*z)).sum::<u32>() >= c.redundancy as u32 * p
 }
 
-/// The largest size that fits, bit by bit; 0 where none does.
-pub fn size(c: &Cluster, zone: &[usize]) -> u32 {
+/// The largest size that fits, bit by bit; 0 where none does. None fits above what all disks
+/// together would allow.
+pub fn size(c: &Cluster, zone: &[usize; NODES]) -> u32 {
+    let total: u64 = c.nodes.iter().map(|n| u64::from(n.capacity)).sum();
+    let hope = total / (c.replication * c.partitions()) as u64;
     (0..32).rev().fold(0u32, |s, i| {
-        if fits(c, zone, s | 1 << i) {
-            s | 1 << i
+        let larger = s | 1 << i;
+        if u64::from(larger) <= hope && fits(c, zone, larger) {
+            larger
         } else {
             s
         }
     })
 }
 
-/// The dealt layout: copies per node in two passes, then copy number i goes to partition i mod P.
-pub fn deal(c: &Cluster, zone: &[usize], caps: &[u32]) -> Vec<u32> {
+/// How many copies each node gets, in two passes, and how many each zone.
+fn given(c: &Cluster, zone: &[usize; NODES], caps: &[u32; NODES]) -> ([u32; NODES], [u32; NODES]) {
     let p = c.partitions() as u32;
     let mut left = c.replication as u32 * p;
-    let mut by_zone = [0u32; 32];
-    let mut given = vec![0u32; caps.len()];
-    for b in 0..caps.len() {
+    let (mut given, mut by_zone) = ([0u32; NODES], [0u32; NODES]);
+    for b in 0..c.nodes.len() {
         given[b] = caps[b].min(p - by_zone[zone[b]].min(p)).min(left);
         by_zone[zone[b]] += given[b];
         left -= given[b];
     }
-    for b in 0..caps.len() {
+    for b in 0..c.nodes.len() {
         let more = (caps[b] - given[b]).min(left);
         given[b] += more;
         by_zone[zone[b]] += more;
         left -= more;
     }
-    let mut line: Vec<usize> = (0..caps.len()).collect();
-    line.sort_by_key(|&b| (by_zone[zone[b]] >= p, zone[b], b));
-    let mut rows = vec![0u32; p as usize];
+    (given, by_zone)
+}
+
+/// The dealt layout: copy number i goes to partition i mod P.
+pub fn deal(c: &Cluster, zone: &[usize; NODES], caps: &[u32; NODES]) -> [u32; PARTITIONS] {
+    let p = c.partitions();
+    let (given, by_zone) = given(c, zone, caps);
+    let mut line: [usize; NODES] = std::array::from_fn(|b| b);
+    let line = &mut line[..c.nodes.len()];
+    line.sort_unstable_by_key(|&b| (by_zone[zone[b]] >= p as u32, zone[b], b));
+    let mut rows = [0u32; PARTITIONS];
     let mut at = 0;
-    for b in line {
-        for _ in 0..given[b] {
-            rows[at % p as usize] |= 1 << b;
-            at += 1;
-        }
+    for &b in line.iter() {
+        let end = at + given[b] as usize;
+        rows[at..end.min(p)]
+            .iter_mut()
+            .for_each(|row| *row |= 1 << b);
+        let over = end.saturating_sub(p);
+        rows[..over].iter_mut().for_each(|row| *row |= 1 << b);
+        at = if end >= p { over } else { end };
     }
     rows
 }

@@ -16,10 +16,10 @@ impl<'a> Fields<'a> {
         self.at == self.bytes.len()
     }
 
-    /// The next field's tag, body and first byte; `legal` judges tag and length.
+    /// The next field's tag, body and first byte; `due` judges the tag, and `legal` tag and length.
     fn next(
         &mut self,
-        tags: &[u8],
+        due: impl Fn(u8) -> bool,
         legal: impl Fn(u8, usize) -> bool,
     ) -> Result<(u8, &'a [u8], usize), Refused> {
         let at = self.at;
@@ -28,7 +28,7 @@ impl<'a> Fields<'a> {
             return Err((1, at));
         }
         let (tag, len) = (rest[0], u16::from_be_bytes([rest[1], rest[2]]) as usize);
-        if !tags.contains(&tag) {
+        if !due(tag) {
             return Err((2, at));
         }
         if !legal(tag, len) {
@@ -46,12 +46,9 @@ fn number(bytes: &[u8]) -> u64 {
     bytes.iter().fold(0, |n, b| n << 8 | *b as u64)
 }
 
-fn ids(bytes: &[u8]) -> Vec<u32> {
-    bytes.chunks(4).map(|c| number(c) as u32).collect()
-}
-
-fn rising(ids: &[u32]) -> bool {
-    ids.windows(2).all(|w| w[0] < w[1])
+fn ids(bytes: &[u8]) -> impl Iterator<Item = u32> + Clone + '_ {
+    let id = |c: &[u8]| u32::from_be_bytes([c[0], c[1], c[2], c[3]]);
+    bytes.chunks_exact(4).map(id)
 }
 
 fn fixed(tag: u8, len: usize) -> bool {
@@ -77,7 +74,7 @@ fn number_field(f: &mut Fields, tag: u8, least: u64, most: u64) -> Result<u64, R
     if f.done() {
         return Err((7, f.bytes.len()));
     }
-    let (_, body, at) = f.next(&[tag], rows)?;
+    let (_, body, at) = f.next(|next| next == tag, rows)?;
     let v = number(body);
     if v < least || v > most {
         return Err((4, at));
@@ -104,26 +101,34 @@ fn take_node(c: &mut Cluster, body: &[u8], at: usize) -> Result<(), Refused> {
     Ok(())
 }
 
-/// Takes a row; its partition has to be one that `follows` the rows before.
-fn take_row(
-    layout: &mut Layout,
-    body: &[u8],
-    at: usize,
-    follows: impl Fn(usize) -> bool,
-) -> Result<usize, Refused> {
-    let (p, row) = (number(&body[..2]) as usize, ids(&body[2..]));
-    if p >= layout.len() || row.contains(&0) {
-        return Err((4, at));
-    }
-    if !follows(p) || !rising(&row) {
-        return Err((5, at));
-    }
-    layout[p] = row;
-    Ok(p)
+/// Whether the ids rise from above 0 on.
+fn rising(row: &[u8]) -> bool {
+    let mut last = 0;
+    ids(row).all(|id| std::mem::replace(&mut last, id) < id)
 }
 
-/// Reads a cluster record: the cluster and its former layout, P rows.
-pub fn read_cluster(bytes: &[u8]) -> Result<(Cluster, Layout), Refused> {
+/// The partition of a row and the bytes of its ids; the partition has to be one that `follows` the
+/// rows before.
+fn take_row(
+    body: &[u8],
+    at: usize,
+    partitions: usize,
+    follows: impl Fn(usize) -> bool,
+) -> Result<(usize, &[u8]), Refused> {
+    let p = u16::from_be_bytes([body[0], body[1]]) as usize;
+    let row = &body[2..];
+    let rises = rising(row);
+    if p >= partitions || !rises && ids(row).any(|id| id == 0) {
+        return Err((4, at));
+    }
+    if !follows(p) || !rises {
+        return Err((5, at));
+    }
+    Ok((p, row))
+}
+
+/// Reads a cluster record, all of whose nodes stand before its rows, and hands on the rows.
+fn read(bytes: &[u8], mut take: impl FnMut(&Cluster, usize, &[u8])) -> Result<Cluster, Refused> {
     let mut f = Fields { bytes, at: 0 };
     let bits = number_field(&mut f, 1, 0, 8)? as u32;
     let replication = number_field(&mut f, 2, 1, 8)?;
@@ -132,21 +137,63 @@ pub fn read_cluster(bytes: &[u8]) -> Result<(Cluster, Layout), Refused> {
         bits,
         replication: replication as usize,
         redundancy,
-        nodes: Vec::new(),
+        nodes: Vec::with_capacity(32),
     };
-    let mut former: Layout = vec![Vec::new(); c.partitions()];
     let mut last_row: Option<usize> = None;
     while !f.done() {
-        let tags: &[u8] = if last_row.is_some() { &[5] } else { &[4, 5] };
-        let (tag, body, at) = f.next(tags, rows)?;
+        let due = |tag| tag == 5 || tag == 4 && last_row.is_none();
+        let (tag, body, at) = f.next(due, rows)?;
         if tag == 4 {
             take_node(&mut c, body, at)?;
         } else {
             let rises = |p| last_row.is_none_or(|q| q < p);
-            last_row = Some(take_row(&mut former, body, at, rises)?);
+            let (p, row) = take_row(body, at, c.partitions(), rises)?;
+            take(&c, p, row);
+            last_row = Some(p);
         }
     }
+    Ok(c)
+}
+
+/// Reads a cluster record: the cluster and its former layout, P rows.
+pub fn read_cluster(bytes: &[u8]) -> Result<(Cluster, Layout), Refused> {
+    let mut former: Layout = vec![Vec::new(); 256];
+    let c = read(bytes, |_, p, row| former[p] = ids(row).collect())?;
+    former.truncate(c.partitions());
     Ok((c, former))
+}
+
+/// A former layout: in each row the nodes that are still there, and how many ids all rows have.
+pub struct Former {
+    pub rows: [u32; 256],
+    pub ids: u32,
+}
+
+/// Reads a cluster record: the cluster and its former layout as sets of nodes.
+pub fn read_masks(bytes: &[u8]) -> Result<(Cluster, Former), Refused> {
+    let mut former = Former {
+        rows: [0; 256],
+        ids: 0,
+    };
+    let c = read(bytes, |c, p, row| {
+        former.ids += (row.len() / 4) as u32;
+        former.rows[p] = mask(&c.nodes, ids(row));
+    })?;
+    Ok((c, former))
+}
+
+/// The set of the nodes with these ids; both rise.
+fn mask(nodes: &[Node], ids: impl Iterator<Item = u32>) -> u32 {
+    let (mut set, mut b) = (0, 0);
+    for id in ids {
+        while b < nodes.len() && nodes[b].id < id {
+            b += 1;
+        }
+        if b < nodes.len() && nodes[b].id == id {
+            set |= 1 << b;
+        }
+    }
+    set
 }
 
 /// The numbers of a layout record.
@@ -178,11 +225,12 @@ pub fn read_layout(bytes: &[u8]) -> Result<(Numbers, Layout), Refused> {
             return Err((7, bytes.len()));
         }
         let of_this_record = |_, len| len == 2 + 4 * numbers.replication as usize;
-        let (_, body, at) = f.next(&[10], of_this_record)?;
-        take_row(&mut layout, body, at, |p| p == next)?;
+        let (_, body, at) = f.next(|tag| tag == 10, of_this_record)?;
+        let (p, row) = take_row(body, at, layout.len(), |p| p == next)?;
+        layout[p] = ids(row).collect();
     }
     if !f.done() {
-        f.next(&[], rows)?;
+        f.next(|_| false, rows)?;
     }
     Ok((numbers, layout))
 }

@@ -1,8 +1,12 @@
 //! The unverified programs agree with one another: the listing, the method of exchanges and the
 //! report's method.
 
+use reference::cells::cells_of;
+use reference::exchanges::{self, Path};
+use reference::listing::{self, Listed};
 use reference::random::Random;
-use reference::{distance, exchanges, is_valid, listing, report, Cluster, Layout, Node};
+use reference::records::cluster_record;
+use reference::{distance, is_valid, report, Cluster, Layout, Node};
 
 /// A small cluster and a former layout, with gone nodes, long former rows, capacities of 0 and too
 /// many zones wanted.
@@ -35,6 +39,42 @@ fn small(r: &mut Random) -> (Cluster, Layout) {
     (c, former)
 }
 
+/// The layout is valid, of the cluster's size, and one of the nearest.
+fn is_nearest(c: &Cluster, former: &Layout, listed: &Listed, size: u64, layout: &Layout) {
+    assert_eq!(size, listed.size, "{c:?}");
+    assert!(is_valid(c, layout, size), "{c:?} {layout:?}");
+    assert_eq!(
+        distance(layout, former),
+        listed.least_distance,
+        "{c:?} {former:?}"
+    );
+}
+
+/// The method of exchanges comes to one of the nearest layouts on either path, and from the record
+/// to the same as from the cluster.
+fn exchanges_agree(c: &Cluster, former: &Layout, listed: Option<&Listed>) {
+    let record = cluster_record(c, former);
+    for path in [Path::Searched, Path::Repeated] {
+        let mut cells = vec![1; 2048];
+        let by_record = exchanges::plan_record(&record, 2048, path, &mut cells);
+        let planned = exchanges::plan(c, former, 2048, path);
+        let (Some(planned), Some(listed)) = (&planned, listed) else {
+            assert!(planned.is_none() && listed.is_none(), "{c:?}");
+            assert_eq!(by_record, Err((9, 0)));
+            continue;
+        };
+        let layout = exchanges::layout(c, &planned.rows);
+        is_nearest(c, former, listed, planned.size.into(), &layout);
+        assert!(planned.finished);
+        let numbers = by_record.expect("a layout exists");
+        assert_eq!(numbers.size, planned.size);
+        assert_eq!(numbers.distance as usize, listed.least_distance);
+        assert_eq!(numbers.improvements, planned.improvements);
+        assert_eq!(numbers.verdict, 1);
+        assert_eq!(cells, cells_of(&layout));
+    }
+}
+
 #[test]
 fn all_agree_on_small_clusters() {
     let mut r = Random::new(7);
@@ -46,34 +86,11 @@ fn all_agree_on_small_clusters() {
         }
         tried += 1;
         let listed = listing::list(&c, &former);
-        let planned = exchanges::plan(&c, &former, 2048);
-        let flow = report::plan(&c, &former);
-        match listed {
-            None => assert!(planned.is_none() && flow.is_none(), "{c:?}"),
-            Some(listed) => {
-                let planned = planned.expect("a layout exists");
-                let layout = exchanges::layout(&c, &planned.rows);
-                assert_eq!(planned.size as u64, listed.size, "{c:?}");
-                assert!(is_valid(&c, &layout, listed.size), "{c:?}");
-                assert_eq!(
-                    distance(&layout, &former),
-                    listed.least_distance,
-                    "{c:?} {former:?}"
-                );
-                assert!(planned.finished);
-                let flow = flow.expect("a layout exists");
-                assert_eq!(flow.size, listed.size, "{c:?}");
-                assert!(
-                    is_valid(&c, &flow.layout, listed.size),
-                    "{c:?} {:?}",
-                    flow.layout
-                );
-                assert_eq!(
-                    distance(&flow.layout, &former),
-                    listed.least_distance,
-                    "{c:?} {former:?}"
-                );
-            }
+        exchanges_agree(&c, &former, listed.as_ref());
+        match (listed, report::plan(&c, &former)) {
+            (Some(listed), Some(flow)) => is_nearest(&c, &former, &listed, flow.size, &flow.layout),
+            (None, None) => {}
+            _ => panic!("one of the two finds no layout: {c:?}"),
         }
     }
 }

@@ -16,9 +16,9 @@ fn words(text: &str) -> BTreeSet<String> {
     words.map(String::from).collect()
 }
 
-/// The commands of the help, and its options.
-fn of_help() -> (BTreeSet<String>, BTreeSet<String>) {
-    let help = Folder::new("manual").call("help").out;
+/// The commands of the help, and its options; it is called in a folder of this name.
+fn of_help(folder: &str) -> (BTreeSet<String>, BTreeSet<String>) {
+    let help = Folder::new(folder).call("help").out;
     let calls = help.split("dezghuri ").skip(1);
     let commands = calls.filter_map(|call| call.split_whitespace().next());
     let commands = commands.map(|word| word.trim_end_matches(',').to_string());
@@ -30,7 +30,7 @@ fn of_help() -> (BTreeSet<String>, BTreeSet<String>) {
 
 #[test]
 fn the_manual_names_what_the_help_names() {
-    let (commands, options) = of_help();
+    let (commands, options) = of_help("manual");
     assert!(commands.contains("what-if") && options.contains("--json"));
     let manual = words(&MANUAL.replace("\\-", "-"));
     for word in commands.union(&options) {
@@ -42,7 +42,7 @@ fn the_manual_names_what_the_help_names() {
 
 #[test]
 fn the_completions_name_what_the_help_names() {
-    let (commands, options) = of_help();
+    let (commands, options) = of_help("completions");
     for text in COMPLETIONS {
         // In fish an option has its name after -l.
         let named = words(&text.replace(" -l ", " --"));

@@ -10,6 +10,7 @@ mod cycles;
 mod demands;
 mod lent;
 mod paper;
+mod paths;
 mod records;
 mod worst;
 
