@@ -100,7 +100,7 @@ pub fn read_cluster(bytes: &[u8], former: &mut [u32]) -> ReadCluster
     let mut rows = [0u32; Cluster::CELLS];
     let r = walk(bytes, &mut rows);
     if r.refusal == 0 {
-        taking::copy_cells(&rows, former);
+        cells::copy(&rows, former);
     }
     r
 }

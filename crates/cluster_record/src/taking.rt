@@ -1,14 +1,13 @@
 // Taking in what a field says: a cluster with it, and the cells of the former rows with it.
 ghost use mathlib.Core.Path.{_≡_};
-ghost use mathlib.Core.List.{_++_};
-ghost use Prim.Native.Nat.{ℕ, _+_, _-_, _*_, _/_, _≤_, _<_};
-ghost use lib.ListN.{length, drop};
-ghost use Rattle.cells.specs.ModelCells.{put};
-ghost use Rattle.cluster.specs.Terms.{mostCopies, mostNodes, rowCells, bufferRows, layoutCells, Topology, Layout, cellsOf};
+ghost use Prim.Native.Nat.{ℕ, _+_, _-_, _/_, _≤_, _<_};
+ghost use lib.ListN.{length};
+ghost use Rattle.cluster.specs.Terms.{mostCopies, mostNodes, bufferRows, layoutCells, Topology, Layout, cellsOf};
 ghost use Rattle.fields.specs.RecordField.{numberAt, rowWidth};
 ghost use Rattle.cluster_record.specs.RecordClusterFaults.{itemIn, withItem, formerWith};
 ghost use Rattle.cluster.specs.TermsReading.{slotsOf};
 use cluster::Cluster;
+use fields::ids;
 
 // A cluster with what a field says of it.
 pub(crate) fn cluster_with(bytes: &[u8], c: Cluster, tag: u8, start: usize) -> Cluster
@@ -37,18 +36,6 @@ pub(crate) fn cluster_with(bytes: &[u8], c: Cluster, tag: u8, start: usize) -> C
     next
 }
 
-// Writes the ids of a former row, which stand from byte `from` on, into its cells.
-fn put_row(rows: &mut [u32], bytes: &[u8], row: usize, from: usize, count: usize)
-    requires { ⌜ (row * rowCells + count ≤ length (now rows)) × (from + 4 * count ≤ length (now bytes)) ⌝ }
-    ensures { λ _. ⌜ now (rows .exit) ≡ put (row * rowCells) (λ j. numberAt (now (bytes .entry)) (from + 4 * j) 4) count (now (rows .entry)) ⌝ }
-{
-    let mut j = 0;
-    while j < count {
-        rows[row * Cluster::ROW + j] = fields::word_at(bytes, from + 4 * j);
-        j += 1;
-    }
-}
-
 // Takes a former row into its cells; answers the first partition that is not passed.
 pub(crate) fn take_row(
     rows: &mut [u32],
@@ -67,18 +54,6 @@ pub(crate) fn take_row(
         return next;
     }
     let partition = fields::pair_at(bytes, start) as usize;
-    put_row(rows, bytes, partition, start + 2, (len - 2) / 4);
+    ids::put_ids(rows, bytes, partition, start + 2, (len - 2) / 4);
     partition + 1
-}
-
-// Copies the cells of a layout to the front of a lent buffer.
-pub(crate) fn copy_cells(cells: &[u32], to: &mut [u32])
-    requires { ⌜ (length (now cells) ≡ layoutCells) × (layoutCells ≤ length (now to)) ⌝ }
-    ensures { λ _. ⌜ now (to .exit) ≡ now (cells .entry) ++ drop layoutCells (now (to .entry)) ⌝ }
-{
-    let mut i = 0;
-    while i < Cluster::CELLS {
-        to[i] = cells[i];
-        i += 1;
-    }
 }

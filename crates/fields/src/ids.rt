@@ -1,9 +1,12 @@
-// Scans of the ids in the bytes of a record, four bytes each. A missing id counts as 0.
+// The ids of a row in the bytes of a record, four bytes each: scanned, where a missing id counts as 0, and put into cells.
 ghost use mathlib.Core.Path.{_≡_};
-ghost use Prim.Native.Nat.{_-_, _/_};
-ghost use Rattle.cluster.specs.Terms.{mem, rising};
-ghost use Rattle.fields.specs.RecordField.{idsAt};
+ghost use Prim.Native.Nat.{_+_, _-_, _*_, _/_, _≤_};
+ghost use lib.ListN.{length};
+ghost use Rattle.cells.specs.ModelCells.{put};
+ghost use Rattle.cluster.specs.Terms.{rowCells, mem, rising};
+ghost use Rattle.fields.specs.RecordField.{numberAt, idsAt};
 use super::word_at;
+use cluster::Cluster;
 
 // How many whole ids a record of n bytes has from byte `from` on.
 fn ids_in(n: usize, from: usize) -> usize
@@ -51,4 +54,16 @@ pub fn ids_rise(bytes: &[u8], from: usize, count: usize) -> bool
         left -= 1;
     }
     true
+}
+
+// Puts the ids from byte `from` on into the cells of a row.
+pub fn put_ids(cells: &mut [u32], bytes: &[u8], row: usize, from: usize, count: usize)
+    requires { ⌜ (row * rowCells + count ≤ length (now cells)) × (from + 4 * count ≤ length (now bytes)) ⌝ }
+    ensures { λ _. ⌜ now (cells .exit) ≡ put (row * rowCells) (λ j. numberAt (now (bytes .entry)) (from + 4 * j) 4) count (now (cells .entry)) ⌝ }
+{
+    let mut j = 0;
+    while j < count {
+        cells[row * Cluster::ROW + j] = word_at(bytes, from + 4 * j);
+        j += 1;
+    }
 }

@@ -6,7 +6,6 @@ use cluster::Cluster;
 use cluster::refusal;
 
 mod head;
-mod ids;
 mod range;
 mod rows;
 mod table;
@@ -74,7 +73,7 @@ pub fn read_layout(bytes: &[u8], assignment: &mut [u32]) -> ReadLayout
     let mut cells = [0u32; Cluster::CELLS];
     let r = rows::read_into(bytes, &mut cells);
     if r.refusal == 0 {
-        rows::copy_cells(&cells, assignment);
+        cells::copy(&cells, assignment);
     }
     r
 }

@@ -1,8 +1,8 @@
 // Reading the rows of a layout record into cells.
 ghost use mathlib.Core.Path.{_≡_};
-ghost use mathlib.Core.List.{[], _++_};
+ghost use mathlib.Core.List.{[]};
 ghost use Prim.Native.Nat.{_+_, _*_, _^_, _≤_};
-ghost use lib.ListN.{length, drop, replicate};
+ghost use lib.ListN.{length, replicate};
 ghost use Rattle.cluster.specs.Terms.{mostBits, mostCopies, layoutCells, Layout, cellsOf};
 ghost use Rattle.fields.specs.RecordField.{numberAt, idsAt, refusalOf, placeOf};
 ghost use Rattle.layout_record.specs.RecordLayoutFaults.{layoutRefused, layoutRowFault, endIn, rowsFrom, readLayout};
@@ -11,12 +11,12 @@ use super::Numbers;
 use super::ReadLayout;
 use super::head;
 use super::head::Head;
-use super::ids;
 use super::range;
 use super::refused;
 use cluster::Cluster;
 use cluster::refusal;
 use fields::Field;
+use fields::ids;
 use fields::reader::Reader;
 
 // The fault of a row whose body begins at byte `start`: a value outside its range, then a row that is not the next or
@@ -102,17 +102,5 @@ pub(crate) fn read_into(bytes: &[u8], cells: &mut [u32]) -> ReadLayout
     match h {
         Head::Read(numbers, end) => read_rows(bytes, end, numbers, cells),
         Head::Halted(refusal, byte) => refused(refusal, byte),
-    }
-}
-
-// Copies the cells of a layout to the front of a lent buffer.
-pub(crate) fn copy_cells(cells: &[u32], to: &mut [u32])
-    requires { ⌜ (length (now cells) ≡ layoutCells) × (layoutCells ≤ length (now to)) ⌝ }
-    ensures { λ _. ⌜ now (to .exit) ≡ now (cells .entry) ++ drop layoutCells (now (to .entry)) ⌝ }
-{
-    let mut i = 0;
-    while i < Cluster::CELLS {
-        to[i] = cells[i];
-        i += 1;
     }
 }

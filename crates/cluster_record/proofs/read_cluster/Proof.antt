@@ -3,9 +3,11 @@
 use Prim.Native.Nat.{ℕ}
 use mathlib.Core.Path.{sym, ap, _∙_}
 use mathlib.Core.List.{List, _++_}
-use lib.ListN.{drop}
-use Rattle.cluster.specs.Terms.{layoutCells}
+use lib.ListN.{length, drop}
+use Rattle.cluster.specs.Terms.{cellsOf}
+use Rattle.cluster.proofs.CellLayouts.{length-cellsOf}
 use Rattle.cluster_record.specs.declared.ReadCluster.{ReadCluster}
+use Rattle.cluster_record.specs.RecordClusterFaults.{readCluster}
 use Rattle.cluster_record.specs.RecordClusterAnswer.{clusterAnswer}
 use Rattle.cluster_record.proofs.Answers.{short-answer, short-former, long-answer, accepted-former, refused-former}
 use borrow.Author.Needs.{needs}
@@ -14,7 +16,7 @@ use Rattle.cluster_record.proofs.read_cluster.Tie as tie
 use Rattle.cluster_record.proofs.read_cluster.Reads as reads
 use Rattle.cluster_record.proofs.read_cluster.Lts as lts
 use Rattle.cluster_record.proofs.refused.Reads as refused-reads
-use Rattle.cluster_record.proofs.taking.copy_cells.Reads as copy-cells-reads
+use Rattle.cells.proofs.copy.Reads as copy-reads
 use Rattle.cluster_record.proofs.walk.Reads as walk-reads
 
 refused-requires : tie.Need-refused-requires
@@ -32,11 +34,11 @@ slice-aggregate-walk c = search needs
 walk-requires : tie.Need-walk-requires
 walk-requires c κs = search needs
 
-slice-aggregate-copy-cells : tie.Need-slice-aggregate-copy-cells
-slice-aggregate-copy-cells c = search needs
+slice-aggregate-copy : tie.Need-slice-aggregate-copy
+slice-aggregate-copy c = search needs
 
-copy-cells-requires : tie.Need-copy-cells-requires
-copy-cells-requires c κs = search needs
+copy-requires : tie.Need-copy-requires
+copy-requires c κs = search needs
 
 same-length : tie.Need-same-length
 same-length c = search needs
@@ -50,9 +52,10 @@ returns-2 c =
     let a = e .before .before .before .args in
     let z = sym (ap (λ (r : ReadCluster). r .refusal) (k .walk .ensures .0)) ∙ t .if2 .taken in (
       k .walk .ensures .0 ∙ sym (long-answer (a .bytes .now) (a .former .now) (e .if1 .left)),
-      c .before .before .copy-cells .ensures
-          ∙ (ap (λ (l : List ℕ). l ++ drop layoutCells (a .former .now)) (k .walk .ensures .1 (t .if2 .taken))
-          ∙ sym (accepted-former (a .bytes .now) (a .former .now) (e .if1 .left) z)),
+      c .before .before .copy .ensures
+          ∙ (ap (λ (l : List ℕ). l ++ drop (length l) (a .former .now)) (k .walk .ensures .1 (t .if2 .taken))
+          ∙ (ap (λ (n : ℕ). cellsOf (readCluster (a .bytes .now) .former) ++ drop n (a .former .now)) (length-cellsOf (readCluster (a .bytes .now) .former))
+          ∙ sym (accepted-former (a .bytes .now) (a .former .now) (e .if1 .left) z))),
     )
 
 returns-3 : tie.Need-returns-3
@@ -73,8 +76,8 @@ read-cluster-spec =
     returns
     slice-aggregate-walk
     walk-requires
-    slice-aggregate-copy-cells
-    copy-cells-requires
+    slice-aggregate-copy
+    copy-requires
     same-length
     returns-2
     returns-3)

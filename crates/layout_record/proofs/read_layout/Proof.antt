@@ -5,9 +5,11 @@ use native.Mathlib.Omega.{arith}
 use Prim.Native.Nat.{ℕ, _+_, _-_}
 use mathlib.Core.Path.{sym, ap, _∙_}
 use mathlib.Core.List.{List, _++_}
-use lib.ListN.{drop}
-use Rattle.cluster.specs.Terms.{layoutCells}
+use lib.ListN.{length, drop}
+use Rattle.cluster.specs.Terms.{cellsOf}
+use Rattle.cluster.proofs.CellLayouts.{length-cellsOf}
 use Rattle.layout_record.specs.declared.ReadLayout.{ReadLayout}
+use Rattle.layout_record.specs.RecordLayoutFaults.{readLayout}
 use Rattle.layout_record.specs.RecordLayoutAnswer.{layoutAnswer}
 use Rattle.layout_record.proofs.RowSteps.{read-short, short-kept, read-long, long-set, long-kept}
 use Rattle.layout_record.proofs.read_layout.Statement.{statement}
@@ -27,11 +29,11 @@ slice-aggregate-read-into c = search needs
 read-into-requires : tie.Need-read-into-requires
 read-into-requires c κs = search needs
 
-slice-aggregate-copy-cells : tie.Need-slice-aggregate-copy-cells
-slice-aggregate-copy-cells c = search needs
+slice-aggregate-copy : tie.Need-slice-aggregate-copy
+slice-aggregate-copy c = search needs
 
-copy-cells-requires : tie.Need-copy-cells-requires
-copy-cells-requires c κs = search needs
+copy-requires : tie.Need-copy-requires
+copy-requires c κs = search needs
 
 same-length : tie.Need-same-length
 same-length c = search needs
@@ -45,9 +47,10 @@ returns-2 c =
     let answer = k .read-into .ensures .0 in
     let zero′ = sym (ap (λ (r : ReadLayout). r .refusal) answer) ∙ t .if2 .taken in (
       answer ∙ sym (read-long (a .bytes .now) (a .assignment .now) (omega arith)),
-      c .before .before .copy-cells .ensures
-          ∙ (ap (λ (l : List ℕ). l ++ drop layoutCells (a .assignment .now)) (k .read-into .ensures .1 (t .if2 .taken))
-          ∙ sym (long-set (a .bytes .now) (a .assignment .now) (omega arith) zero′)),
+      c .before .before .copy .ensures
+          ∙ (ap (λ (l : List ℕ). l ++ drop (length l) (a .assignment .now)) (k .read-into .ensures .1 (t .if2 .taken))
+          ∙ (ap (λ (n : ℕ). cellsOf (readLayout (a .bytes .now) .layout) ++ drop n (a .assignment .now)) (length-cellsOf (readLayout (a .bytes .now) .layout))
+          ∙ sym (long-set (a .bytes .now) (a .assignment .now) (omega arith) zero′))),
     )
 
 returns-3 : tie.Need-returns-3
@@ -68,8 +71,8 @@ read-layout-spec =
     returns
     slice-aggregate-read-into
     read-into-requires
-    slice-aggregate-copy-cells
-    copy-cells-requires
+    slice-aggregate-copy
+    copy-requires
     same-length
     returns-2
     returns-3)

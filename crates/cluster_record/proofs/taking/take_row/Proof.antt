@@ -13,7 +13,7 @@ use Rattle.cluster_record.proofs.taking.take_row.Statement.{statement}
 use Rattle.cluster_record.proofs.taking.take_row.Tie as tie
 use Rattle.cluster_record.proofs.taking.take_row.Reads as reads
 use Rattle.cluster_record.proofs.taking.take_row.Lts as lts
-use Rattle.cluster_record.proofs.taking.put_row.Reads as put-row-reads
+use Rattle.fields.proofs.ids.put_ids.Reads as put-ids-reads
 use Rattle.fields.proofs.pair_at.Reads as pair-at-reads
 
 -- What is known of a row.
@@ -33,14 +33,14 @@ pair-at-requires c κs = search needs
 cast-partition : tie.Need-cast-partition
 cast-partition c = search needs
 
-add-put-row : tie.Need-add-put-row
-add-put-row c = omega (arith, facts (c .before .before))
+add-put-ids : tie.Need-add-put-ids
+add-put-ids c = omega (arith, facts (c .before .before))
 
-sub-put-row : tie.Need-sub-put-row
-sub-put-row c = omega (arith, facts (c .before .before))
+sub-put-ids : tie.Need-sub-put-ids
+sub-put-ids c = omega (arith, facts (c .before .before))
 
-put-row-requires : tie.Need-put-row-requires
-put-row-requires c κs =
+put-ids-requires : tie.Need-put-ids-requires
+put-ids-requires c κs =
     let f = facts (c .before .before) in
     (omega (arith, f, c .before .pair-at .ensures), omega (arith, f))
 
@@ -55,8 +55,8 @@ returns-2 c = λ F a b e n g.
     let j = c .before .before .before .before in
     let k = j .before in
     let q = k .before .before .before .args in
-    taken-row (q .bytes .now) F (q .tag) (q .start) (q .len) (j .pair-at .result) (q .rows .now) (c .before .before .put-row .last .0)
-    (k .if1 .left) (j .pair-at .ensures .0) (facts k .1) (facts k .3) (g (k .if1 .left)) e (c .before .before .put-row .ensures)
+    taken-row (q .bytes .now) F (q .tag) (q .start) (q .len) (j .pair-at .result) (q .rows .now) (c .before .before .put-ids .last .0)
+    (k .if1 .left) (j .pair-at .ensures .0) (facts k .1) (facts k .3) (g (k .if1 .left)) e (c .before .before .put-ids .ensures)
 
 pub take-row-spec : {M : Type 1} → statement M
 take-row-spec =
@@ -65,9 +65,9 @@ take-row-spec =
     returns
     pair-at-requires
     cast-partition
-    add-put-row
-    sub-put-row
-    put-row-requires
+    add-put-ids
+    sub-put-ids
+    put-ids-requires
     add-result
     same-length
     returns-2)

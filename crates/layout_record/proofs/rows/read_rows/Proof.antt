@@ -96,10 +96,10 @@ use Rattle.layout_record.proofs.refused as refused
 use Rattle.layout_record.proofs.refused.Symbol as refused-def
 use Rattle.layout_record.proofs.refused.Symbol.{name as #layout-record·refused}
 use Rattle.layout_record.proofs.refused.Met as refused-thm
-use Rattle.layout_record.proofs.ids.put_ids as put-ids
-use Rattle.layout_record.proofs.ids.put_ids.Symbol as put-ids-def
-use Rattle.layout_record.proofs.ids.put_ids.Symbol.{name as #layout-record·ids·put-ids}
-use Rattle.layout_record.proofs.ids.put_ids.Met as put-ids-thm
+use Rattle.fields.proofs.ids.put_ids as put-ids
+use Rattle.fields.proofs.ids.put_ids.Symbol as put-ids-def
+use Rattle.fields.proofs.ids.put_ids.Symbol.{name as #fields·ids·put-ids}
+use Rattle.fields.proofs.ids.put_ids.Met as put-ids-thm
 use Rattle.layout_record.proofs.rows.ended as ended
 use Rattle.layout_record.proofs.rows.ended.Symbol as ended-def
 use Rattle.layout_record.proofs.rows.ended.Symbol.{name as #layout-record·rows·ended}
@@ -335,7 +335,7 @@ module _ {M : Type 1} (𝓤 : URA M) (H : Heap 𝓤) (A : Atoms 𝓤) (W : Given
 
   module _ (𝓣 : Tables 𝓤 H) (fm : FmC 𝓤 H (W .laws) (𝓣 .C)) (n-fits : n < 2 ^ 64) (room : Room u32 m) (begin-fits : begin < 2 ^ 64) (nu-is : Is Nu.the-row nu (Nu′.lowered nu ∷ []))
       (whole-buffer : m ≡ layoutCells) (copies : nu .replication ≤ mostCopies) (parts : ℕ) (parts-are : parts ≡ 2 ^ (nu .bits)) (few-parts : parts ≤ bufferRows) (parts-fits : parts < 2 ^ 64)
-      (known-partitions : Triple 𝓤 (𝓣 .C #cluster·partitions) (Partitions 𝓤 H A mem run)) (known-next : Triple 𝓤 (𝓣 .C #layout-record·head·next-field) (Next 𝓤 H A mem run)) (known-refused-by : Triple 𝓤 (𝓣 .C #layout-record·rows·refused-by) (Stopping 𝓤 H A mem run)) (known-fault : Triple 𝓤 (𝓣 .C #layout-record·rows·row-fault) (Fault 𝓤 H A mem run)) (known-refused : Triple 𝓤 (𝓣 .C #layout-record·refused) (Refusing 𝓤 H A mem run)) (known-put-ids : Triple 𝓤 (𝓣 .C #layout-record·ids·put-ids) (Put 𝓤 H A mem run)) (known-ended : Triple 𝓤 (𝓣 .C #layout-record·rows·ended) (Ended 𝓤 H A mem run))
+      (known-partitions : Triple 𝓤 (𝓣 .C #cluster·partitions) (Partitions 𝓤 H A mem run)) (known-next : Triple 𝓤 (𝓣 .C #layout-record·head·next-field) (Next 𝓤 H A mem run)) (known-refused-by : Triple 𝓤 (𝓣 .C #layout-record·rows·refused-by) (Stopping 𝓤 H A mem run)) (known-fault : Triple 𝓤 (𝓣 .C #layout-record·rows·row-fault) (Fault 𝓤 H A mem run)) (known-refused : Triple 𝓤 (𝓣 .C #layout-record·refused) (Refusing 𝓤 H A mem run)) (known-put-ids : Triple 𝓤 (𝓣 .C #fields·ids·put-ids) (Put 𝓤 H A mem run)) (known-ended : Triple 𝓤 (𝓣 .C #layout-record·rows·ended) (Ended 𝓤 H A mem run))
       (l₀ l₁ l₂ l₃ l₄ l₅ l₆ l₇ l₈ l₉ l₁₀ l₁₁ l₁₂ l₁₃ l₁₄ l₁₅ l₁₆ l₁₇ l₁₈ l₁₉ l₂₀ l₂₁ l₂₂ l₂₃ l₂₄ l₂₅ : ℕ) where
     -- fewer rows are left
     abbrev Less : Turn bytes m parts begin nu → Turn bytes m parts begin nu → Type 0
@@ -517,7 +517,7 @@ module _ {M : Type 1} (𝓤 : URA M) (H : Heap 𝓤) (A : Atoms 𝓤) (W : Given
   start parts e begin-fits zeros = record { cells-now = cells₀; next = 0; at = begin; long = refl; read = rows-start bytes begin nu parts cells₀ e zeros; at-fits = begin-fits }
 
   -- the MIR, up to the loop: the reader is made where the head ends
-  walks : (𝓣 : Tables 𝓤 H) → FmC 𝓤 H (W .laws) (𝓣 .C) → Triple 𝓤 (𝓣 .C #cluster·partitions) (Partitions 𝓤 H A mem run) → Triple 𝓤 (𝓣 .C #layout-record·head·next-field) (Next 𝓤 H A mem run) → Triple 𝓤 (𝓣 .C #layout-record·rows·refused-by) (Stopping 𝓤 H A mem run) → Triple 𝓤 (𝓣 .C #layout-record·rows·row-fault) (Fault 𝓤 H A mem run) → Triple 𝓤 (𝓣 .C #layout-record·refused) (Refusing 𝓤 H A mem run) → Triple 𝓤 (𝓣 .C #layout-record·ids·put-ids) (Put 𝓤 H A mem run) → Triple 𝓤 (𝓣 .C #layout-record·rows·ended) (Ended 𝓤 H A mem run) → Is (ShrSlice (named 0) κ u8) s (v ∷ []) → begin < 2 ^ 64 → Is Nu.the-row nu (Nu′.lowered nu ∷ []) → Is (MutSlice (named 1) κ′ u32) (held γ cells₀) (mv ∷ []) → (nu .bits ≤ mostBits) × (1 ≤ nu .replication) × (nu .replication ≤ mostCopies) × (cells₀ ≡ cellsOf [])
+  walks : (𝓣 : Tables 𝓤 H) → FmC 𝓤 H (W .laws) (𝓣 .C) → Triple 𝓤 (𝓣 .C #cluster·partitions) (Partitions 𝓤 H A mem run) → Triple 𝓤 (𝓣 .C #layout-record·head·next-field) (Next 𝓤 H A mem run) → Triple 𝓤 (𝓣 .C #layout-record·rows·refused-by) (Stopping 𝓤 H A mem run) → Triple 𝓤 (𝓣 .C #layout-record·rows·row-fault) (Fault 𝓤 H A mem run) → Triple 𝓤 (𝓣 .C #layout-record·refused) (Refusing 𝓤 H A mem run) → Triple 𝓤 (𝓣 .C #fields·ids·put-ids) (Put 𝓤 H A mem run) → Triple 𝓤 (𝓣 .C #layout-record·rows·ended) (Ended 𝓤 H A mem run) → Is (ShrSlice (named 0) κ u8) s (v ∷ []) → begin < 2 ^ 64 → Is Nu.the-row nu (Nu′.lowered nu ∷ []) → Is (MutSlice (named 1) κ′ u32) (held γ cells₀) (mv ∷ []) → (nu .bits ≤ mostBits) × (1 ≤ nu .replication) × (nu .replication ≤ mostCopies) × (cells₀ ≡ cellsOf [])
       → ent 𝓤 (onEntry 𝓤 H A walk.signature (κ, (κ′, tt)) (q, (q′, tt)) (s, (begin, (nu, (held γ cells₀, tt)))) (v ∷ [], (vint w64 begin ∷ [], (Nu′.lowered nu ∷ [], (mv ∷ [], tt))))) (WpFn 𝓤 H (𝓣 .C) (𝓣 .Λ) code.function (v ∷ vint w64 begin ∷ Nu′.lowered nu ∷ mv ∷ []) Post′)
   walks 𝓣 fm known-partitions known-next known-refused-by known-fault known-refused known-put-ids known-ended p begin-fits nu-is p′ pre =
       let wt = shr-slice-lawful 𝓤 H A W (named 0) κ u8 .typed s (v ∷ []) p .0 in
@@ -536,7 +536,7 @@ module _ {M : Type 1} (𝓤 : URA M) (H : Heap 𝓤) (A : Atoms 𝓤) (W : Given
       looped 𝓣 fm (p .0 .1 .0) (p′ .0 .1) begin-fits nu-is whole-buffer (pre .2) parts all (e .1) (parts-is .1) known-partitions known-next known-refused-by known-fault known-refused known-put-ids known-ended l₀ l₁ l₂ l₃ l₄ l₅ l₆ l₇ l₈ l₉ l₁₀ l₁₁ l₁₂ l₁₃ l₁₄ l₁₅ l₁₆ l₁₇ l₁₈ l₁₉ l₂₀ l₂₁ l₂₂ l₂₃ l₂₄ l₂₅ (start parts all begin-fits (pre .3)))))))))))))))))))))))))))))
 
 module _ {M : Type 1} (𝓤 : URA M) (H : Heap 𝓤) (A : Atoms 𝓤) (W : Given 𝓤 H A) (mem : Memory → SProp 𝓤) (run : Routine → Fun 𝓤) (𝓣 : Tables 𝓤 H) where
-  walk-meets′ : Triple 𝓤 (𝓣 .C #cluster·partitions) (Partitions 𝓤 H A mem run) → Triple 𝓤 (𝓣 .C #layout-record·head·next-field) (Next 𝓤 H A mem run) → Triple 𝓤 (𝓣 .C #layout-record·rows·refused-by) (Stopping 𝓤 H A mem run) → Triple 𝓤 (𝓣 .C #layout-record·rows·row-fault) (Fault 𝓤 H A mem run) → Triple 𝓤 (𝓣 .C #layout-record·refused) (Refusing 𝓤 H A mem run) → Triple 𝓤 (𝓣 .C #layout-record·ids·put-ids) (Put 𝓤 H A mem run) → Triple 𝓤 (𝓣 .C #layout-record·rows·ended) (Ended 𝓤 H A mem run) → Meets 𝓤 H A walk.signature (WpFn 𝓤 H (𝓣 .C) (𝓣 .Λ) code.function) (walk.spec 𝓤 H A mem run)
+  walk-meets′ : Triple 𝓤 (𝓣 .C #cluster·partitions) (Partitions 𝓤 H A mem run) → Triple 𝓤 (𝓣 .C #layout-record·head·next-field) (Next 𝓤 H A mem run) → Triple 𝓤 (𝓣 .C #layout-record·rows·refused-by) (Stopping 𝓤 H A mem run) → Triple 𝓤 (𝓣 .C #layout-record·rows·row-fault) (Fault 𝓤 H A mem run) → Triple 𝓤 (𝓣 .C #layout-record·refused) (Refusing 𝓤 H A mem run) → Triple 𝓤 (𝓣 .C #fields·ids·put-ids) (Put 𝓤 H A mem run) → Triple 𝓤 (𝓣 .C #layout-record·rows·ended) (Ended 𝓤 H A mem run) → Meets 𝓤 H A walk.signature (WpFn 𝓤 H (𝓣 .C) (𝓣 .Λ) code.function) (walk.spec 𝓤 H A mem run)
   walk-meets′ known-partitions known-next known-refused-by known-fault known-refused known-put-ids known-ended =
       walk-meets 𝓤 H A walk.ended stayed W (goes-none-slice 𝓤 H A W 2 (0 ∷ []) tt (plain (λ _. u8)) yes, (goes-none 𝓤 H A W 2 (λ _. usize) yes (λ κs x f. refl), (goes-none 𝓤 H A W 2 (λ _. Nu.the-row) yes (λ κs x f. refl), (goes-slice 𝓤 H A W 2 1 tt (plain (λ _. u32)), tt)))) (walk.clauses 𝓤 H A mem run) (WpFn 𝓤 H (𝓣 .C) (𝓣 .Λ) code.function) (WpFn-mono 𝓤 H (W .laws) 𝓣 code.function)
       (walked 𝓤 H A walk.ended stayed (walk.clauses 𝓤 H A mem run) (WpFn 𝓤 H (𝓣 .C) (𝓣 .Λ) code.function) (λ κs. (slice-vals, (uint-vals w64, ((λ z. Nu′.lowered z ∷ []), (slice-vals, tt))))) (λ κs. (shr-slice-tells (named 0) (κs .0) u8, (uint-tells w64, (Nu′.lowers .val-is, (mut-slice-tells (named 1) (κs .1 .0) u32, tt)))))
@@ -553,5 +553,5 @@ read-rows-spec 𝓤 H 𝓜 𝓖 𝓡 =
     (cited 𝓤 H (Stopping 𝓤 H (𝓖 .A) (𝓜 .mem) (𝓡 .run)) 𝓜 𝓡 code.env #layout-record·rows·refused-by refused-by-def.routine code.calls-layout-record·rows·refused-by (refused-by-thm.met 𝓤 H 𝓜 𝓖 𝓡))
     (cited 𝓤 H (Fault 𝓤 H (𝓖 .A) (𝓜 .mem) (𝓡 .run)) 𝓜 𝓡 code.env #layout-record·rows·row-fault fault-def.routine code.calls-layout-record·rows·row-fault (fault-thm.met 𝓤 H 𝓜 𝓖 𝓡))
     (cited 𝓤 H (Refusing 𝓤 H (𝓖 .A) (𝓜 .mem) (𝓡 .run)) 𝓜 𝓡 code.env #layout-record·refused refused-def.routine code.calls-layout-record·refused (refused-thm.met 𝓤 H 𝓜 𝓖 𝓡))
-    (cited 𝓤 H (Put 𝓤 H (𝓖 .A) (𝓜 .mem) (𝓡 .run)) 𝓜 𝓡 code.env #layout-record·ids·put-ids put-ids-def.routine code.calls-layout-record·ids·put-ids (put-ids-thm.met 𝓤 H 𝓜 𝓖 𝓡))
+    (cited 𝓤 H (Put 𝓤 H (𝓖 .A) (𝓜 .mem) (𝓡 .run)) 𝓜 𝓡 code.env #fields·ids·put-ids put-ids-def.routine code.calls-fields·ids·put-ids (put-ids-thm.met 𝓤 H 𝓜 𝓖 𝓡))
     (cited 𝓤 H (Ended 𝓤 H (𝓖 .A) (𝓜 .mem) (𝓡 .run)) 𝓜 𝓡 code.env #layout-record·rows·ended ended-def.routine code.calls-layout-record·rows·ended (ended-thm.met 𝓤 H 𝓜 𝓖 𝓡)))

@@ -1,4 +1,4 @@
--- `cluster_record::taking::put_row` meets its contract. The loop's invariant: the first ids are written.
+-- `fields::ids::put_ids` meets its contract. The loop's invariant: the first ids are written.
 -- Assumes nothing.
 use Prim.Native.Nat.{ℕ, _≤_, _+_, _-_, _*_}
 use mathlib.Core.Path.{_≡_, ap, ap₂, _∙_}
@@ -7,21 +7,18 @@ use lib.ListN.{length, set}
 use Rattle.cells.specs.ModelCells.{put}
 use Rattle.cells.proofs.Cells.{put-none, put-more}
 use Rattle.cluster.specs.Terms.{rowCells}
 use Rattle.fields.specs.RecordField.{numberAt}
 use borrow.Author.Needs.{needs}
 use native.Mathlib.Omega.{arith}
-use Rattle.cluster_record.proofs.taking.put_row.Statement.{statement}
-use Rattle.cluster_record.proofs.taking.put_row.Tie as tie
-use Rattle.cluster_record.proofs.taking.put_row.Reads as reads
-use Rattle.cluster_record.proofs.taking.put_row.Lts as lts
-use Rattle.fields.proofs.word_at.Reads as word-at-reads
+use Rattle.fields.proofs.ids.put_ids.Statement.{statement}
+use Rattle.fields.proofs.ids.put_ids.Tie as tie
 
 abbrev Inv-loop : tie.InvT-loop
-Inv-loop rows₀ bytes row from count j₀ rows j =
-    (j ≤ count) × (length rows ≡ length rows₀) × (rows ≡ put (row * rowCells) (λ i. numberAt bytes (from + 4 * i) 4) j rows₀)
+Inv-loop cells₀ bytes row from count j₀ cells j =
+    (j ≤ count) × (length cells ≡ length cells₀) × (cells ≡ put (row * rowCells) (λ i. numberAt bytes (from + 4 * i) 4) j cells₀)
 
 abbrev μ-loop : tie.MeasureT-loop
-μ-loop rows₀ bytes row from count j₀ rows j = count - j
+μ-loop cells₀ bytes row from count j₀ cells j = count - j
 
 loop-holds : tie.Need-loop-holds Inv-loop μ-loop
 loop-holds c = (search needs, search needs, put-none _ _ _)
@@ -35,17 +32,17 @@ add-word-at c = search needs
 word-at-requires : tie.Need-word-at-requires Inv-loop μ-loop
 word-at-requires c κs = search needs
 
-mul-rows : tie.Need-mul-rows Inv-loop μ-loop
-mul-rows c = search needs
+mul-cells : tie.Need-mul-cells Inv-loop μ-loop
+mul-cells c = search needs
 
-add-rows : tie.Need-add-rows Inv-loop μ-loop
-add-rows c = search needs
+add-cells : tie.Need-add-cells Inv-loop μ-loop
+add-cells c = search needs
 
-mul-rows-2 : tie.Need-mul-rows-2 Inv-loop μ-loop
-mul-rows-2 c = search needs
+mul-cells-2 : tie.Need-mul-cells-2 Inv-loop μ-loop
+mul-cells-2 c = search needs
 
-slice-write-rows : tie.Need-slice-write-rows Inv-loop μ-loop
-slice-write-rows c = search needs
+slice-write-cells : tie.Need-slice-write-cells Inv-loop μ-loop
+slice-write-cells c = search needs
 
 add-j : tie.Need-add-j Inv-loop μ-loop
 add-j c = search needs
@@ -61,7 +58,7 @@ loop-again c =
       search needs,
       search needs,
       ap₂ (λ (l : List ℕ) (v : ℕ). set l (a .row * rowCells + k .loop .j) v) (k .loop .inv .2) (c .word-at .ensures .0)
-          ∙ put-more (a .row * rowCells) f (k .loop .j) (a .rows .now),
+          ∙ put-more (a .row * rowCells) f (k .loop .j) (a .cells .now),
     )
 
 same-length : tie.Need-same-length Inv-loop μ-loop
@@ -72,10 +69,10 @@ returns c =
     let k = c .before in
     let a = k .before .before .before .args in
     let e : k .loop .j ≡ a .count = omega arith in
-    k .loop .inv .2 ∙ ap (λ (n : ℕ). put (a .row * rowCells) (λ i. numberAt (a .bytes .now) (a .from + 4 * i) 4) n (a .rows .now)) e
+    k .loop .inv .2 ∙ ap (λ (n : ℕ). put (a .row * rowCells) (λ i. numberAt (a .bytes .now) (a .from + 4 * i) 4) n (a .cells .now)) e
 
-pub put-row-spec : {M : Type 1} → statement M
-put-row-spec =
+pub put-ids-spec : {M : Type 1} → statement M
+put-ids-spec =
     tie.close
     (tie.spec
     Inv-loop
@@ -84,10 +81,10 @@ put-row-spec =
     mul-word-at
     add-word-at
     word-at-requires
-    mul-rows
-    add-rows
-    mul-rows-2
-    slice-write-rows
+    mul-cells
+    add-cells
+    mul-cells-2
+    slice-write-cells
     add-j
     loop-less
     loop-again

@@ -1,23 +1,21 @@
--- `cluster_record::taking::copy_cells` meets its contract. The loop's invariant: the first cells are copied, the others are as lent.
+-- `cells::copy` meets its contract. The loop's invariant: the first cells are copied, the others are as lent.
 -- Assumes nothing.
 use Prim.Native.Nat.{ℕ, _≤_, _-_}
 use mathlib.Core.Path.{_≡_, ap, _∙_}
 use mathlib.Core.List.{List, _++_}
 use lib.ListN.{length, drop, getD, set}
 use Rattle.sums.specs.TermsSums.{tab}
 use Rattle.cells.proofs.Cells.{tab-none, tab-more, tab-getD}
 use borrow.Author.Needs.{needs}
 use native.Mathlib.Omega.{arith}
-use Rattle.cluster_record.proofs.taking.copy_cells.Statement.{statement}
-use Rattle.cluster_record.proofs.taking.copy_cells.Tie as tie
-use Rattle.cluster_record.proofs.taking.copy_cells.Reads as reads
-use Rattle.cluster_record.proofs.taking.copy_cells.Lts as lts
+use Rattle.cells.proofs.copy.Statement.{statement}
+use Rattle.cells.proofs.copy.Tie as tie
 
 abbrev Inv-loop : tie.InvT-loop
-Inv-loop cells to₀ i₀ to i = (i ≤ 2048) × (length to ≡ length to₀) × (to ≡ tab (λ k. getD cells k 0) i ++ drop i to₀)
+Inv-loop cells to₀ i₀ to i = (i ≤ length cells) × (length to ≡ length to₀) × (to ≡ tab (λ k. getD cells k 0) i ++ drop i to₀)
 
 abbrev μ-loop : tie.MeasureT-loop
-μ-loop cells to₀ i₀ to i = 2048 - i
+μ-loop cells to₀ i₀ to i = length cells - i
 
 loop-holds : tie.Need-loop-holds Inv-loop μ-loop
 loop-holds c = (search needs, search needs, tab-none _ _)
@@ -52,14 +50,13 @@ same-length c = search needs
 returns : tie.Need-returns Inv-loop μ-loop
 returns c =
     let a = c .before .before .args in
-    let e : c .before .loop .i ≡ 2048 = omega arith in
-    let d : 2048 ≡ length (a .cells .now) = omega arith in
+    let e : c .before .loop .i ≡ length (a .cells .now) = omega arith in
     c .before .loop .inv .2
     ∙ (ap (λ (n : ℕ). tab (λ k. getD (a .cells .now) k 0) n ++ drop n (a .to .now)) e
-    ∙ ap (λ (l : List ℕ). l ++ drop 2048 (a .to .now)) (ap (tab (λ k. getD (a .cells .now) k 0)) d ∙ tab-getD (a .cells .now) 0))
+    ∙ ap (λ (l : List ℕ). l ++ drop (length (a .cells .now)) (a .to .now)) (tab-getD (a .cells .now) 0))
 
-pub copy-cells-spec : {M : Type 1} → statement M
-copy-cells-spec =
+pub copy-spec : {M : Type 1} → statement M
+copy-spec =
     tie.close
     (tie.spec
     Inv-loop
