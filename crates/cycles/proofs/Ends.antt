@@ -1,7 +1,7 @@
 -- From one level down to the end of the search or to the next level: the ways that grow, the first node that closes a cycle, and the walk back
 -- around that cycle.
 -- Assumes nothing.
-use Prim.Native.Nat.{ℕ, zero, suc, _+_, _-_, _*_, _≤_, _<_, _^_}
+use Prim.Native.Nat.{ℕ, zero, suc, _+_, _-_, _*_, _≤_, _<_, _^_, max}
 use mathlib.Core.Path.{_≡_, refl, sym, ap, ap₂, _∙_, subst}
 use mathlib.Core.Bool.{Bool, true, false, cond, _&&_}
 use mathlib.Core.List.{List}
@@ -14,7 +14,7 @@ use lib.ListN.{getD, take, drop}
 use lib.Seq.{getD-take, getD-drop}
 use borrow.Author.Tests.{lt-ltb, le-ltb}
 use Rattle.cluster.specs.Terms.{mostNodes}
-use Rattle.sums.specs.ModelSums.{firstFrom}
+use Rattle.sums.specs.ModelSums.{is, firstFrom}
 use Rattle.sums.proofs.Sum.{lt-or-ge}
 use Rattle.cells.specs.ModelCells.{put}
 use Rattle.cells.proofs.Cells.{put-cong}
@@ -27,7 +27,7 @@ use Rattle.sums.proofs.Tests.{true-or-false}
 use Rattle.exchange.proofs.Search.{open-next, Closing, closing, way-next, way-stays, back-next, back-fell, back-node}
 use Rattle.sums.proofs.First.{first-lt, first-cong, first-is-none, first-some, first-none, first-cases}
 use Rattle.cycles.specs.ModelFound.{endLength, endWalk}
-use Rattle.cycles.specs.ModelTurns.{Settled, before, longer, returned, closer, trail, trailLength}
+use Rattle.cycles.specs.ModelTurns.{Settled, behind, returned, closer, trail, trailLength}
 use Rattle.cycles.proofs.States.{State, Next}
 
 -- One level down from level k, with all that the cells hold: the state before, the next level, and the row of the nodes that the fallen came from.
@@ -92,40 +92,41 @@ module _ {G : Graph} {k set mask : ℕ} {next table dist next₀ ways table₀ r
   pub row-node : (v : ℕ) → v < n → memberOf set v ≡ true → getD row v 0 < mostNodes
   row-node v l e = omega (arith, row-from v l (sym (T .down .marks v l) ∙ e), from-node G (suc k) v (T .below) l)
 
-  before-is : (v x : ℕ) → v < n → x < mostNodes → fell G (suc k) v ≡ true → bit (before row ways v) x ≡ way G k (levels.from G (suc k) v) x
-  unfolding before
-  before-is v x l m e =
-      ap (λ (i : ℕ). bit (getD ways i 0) x) (row-from v l e) ∙ T .state .ways (levels.from G (suc k) v) x (from-node G (suc k) v (T .below) l) m
+  behind-is : (v x : ℕ) → v < n → x < mostNodes → fell G (suc k) v ≡ true → bit (behind row ways v) x ≡ way G k (levels.from G (suc k) v) x
+  unfolding behind
+  behind-is v x l m e =
+      bit-with (getD ways (getD row v 0) 0) (getD row v 0) x m
+      ∙ (ap (λ (i : ℕ). max (bit (getD ways i 0) x) (is i x)) (row-from v l e)
+      ∙ omega (arith, T .state .ways (levels.from G (suc k) v) x (from-node G (suc k) v (T .below) l) m))
 
-  -- A node that fell is on the way that its own grows from if it closes a cycle.
+  -- A node that fell is behind itself if it closes a cycle.
   closes-is : (v : ℕ) → v < n → returned set row ways v ≡ closes G (suc k) v
   unfolding closes memberOf returned
   closes-is v l = ⊎-elim yes no (true-or-false (fell G (suc k) v))
     where
       yes : fell G (suc k) v ≡ true → returned set row ways v ≡ closes G (suc k) v
-      yes e = ap₂ _&&_ (T .down .marks v l) (ap (λ (i : ℕ). eqb i 1) (before-is v v l (omega arith) e))
+      yes e = ap₂ _&&_ (T .down .marks v l) (ap (λ (i : ℕ). eqb i 1) (behind-is v v l (omega arith) e))
 
       no : fell G (suc k) v ≡ false → returned set row ways v ≡ closes G (suc k) v
       no e =
-          ap (λ (b : Bool). b && memberOf (before row ways v) v) (T .down .marks v l ∙ e)
+          ap (λ (b : Bool). b && memberOf (behind row ways v) v) (T .down .marks v l ∙ e)
           ∙ ap (λ (b : Bool). b && eqb (way G k (levels.from G (suc k) v) v) 1) (sym e)
 
   closer-is : closer n set row ways ≡ firstFrom (closes G (suc k)) n 0
   unfolding closer
   closer-is = first-cong (returned set row ways) (closes G (suc k)) n 0 (λ j a b. closes-is j (omega arith))
 
-  grown-is : (grown : List ℕ) → Settled (bit set) (longer row ways) ways grown → (v x : ℕ) → v < n → x < mostNodes → bit (getD grown v 0) x ≡ way G (suc k) v x
-  unfolding longer
+  grown-is : (grown : List ℕ) → Settled (bit set) (behind row ways) ways grown → (v x : ℕ) → v < n → x < mostNodes → max (is v x) (bit (getD grown v 0) x) ≡ way G (suc k) v x
   grown-is grown g v x l m = ⊎-elim yes no (true-or-false (fell G (suc k) v))
     where
-      yes : fell G (suc k) v ≡ true → bit (getD grown v 0) x ≡ way G (suc k) v x
+      yes : fell G (suc k) v ≡ true → max (is v x) (bit (getD grown v 0) x) ≡ way G (suc k) v x
       yes e =
-          ap (λ (i : ℕ). bit i x) (g .taken v (omega arith) (member-true set v (T .down .marks v l ∙ e)))
-          ∙ omega (arith, bit-with (before row ways v) v x m, before-is v x l m e, way-next G k v x)
+          ap (λ (i : ℕ). max (is v x) (bit i x)) (g .taken v (omega arith) (member-true set v (T .down .marks v l ∙ e)))
+          ∙ omega (arith, behind-is v x l m e, way-next G k v x)
 
-      no : fell G (suc k) v ≡ false → bit (getD grown v 0) x ≡ way G (suc k) v x
+      no : fell G (suc k) v ≡ false → max (is v x) (bit (getD grown v 0) x) ≡ way G (suc k) v x
       no e =
-          ap (λ (i : ℕ). bit i x) (g .left v (omega arith) (member-false set v (T .down .marks v l ∙ e)))
+          ap (λ (i : ℕ). max (is v x) (bit i x)) (g .left v (omega arith) (member-false set v (T .down .marks v l ∙ e)))
           ∙ (T .state .ways v x l m ∙ sym (way-stays G k v x (T .below) e))
 
   -- Where none closes a cycle, the search goes on.
@@ -136,7 +137,7 @@ module _ {G : Graph} {k set mask : ℕ} {next table dist next₀ ways table₀ r
       (le-ltb (firstFrom (closes G (suc k)) n 0) n (omega (arith, closer-is)))
 
   -- And the cells hold the next level.
-  pub state-on : (grown : List ℕ) → n ≤ closer n set row ways → Settled (bit set) (longer row ways) ways grown → State G (k + 1) set next next grown table
+  pub state-on : (grown : List ℕ) → n ≤ closer n set row ways → Settled (bit set) (behind row ways) ways grown → State G (k + 1) set next next grown table
   state-on grown c g =
       subst (λ (i : ℕ). State G i set next next grown table) (sym (add-one k))
       (record {

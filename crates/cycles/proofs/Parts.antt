@@ -1,4 +1,4 @@
--- The ways that grow node by node, and the trace back step by step.
+-- The nodes behind the fallen, one after the other, and the trace back step by step.
 -- Assumes nothing.
 use Prim.Native.Nat.{ℕ, _+_, _-_, _*_, _≤_, _<_}
 use mathlib.Core.Path.{_≡_, refl, sym, ap, _∙_, subst}
@@ -17,20 +17,16 @@ use Rattle.sums.proofs.Sum.{lt-or-ge, eq-or-ne, is-ne}
 use Rattle.sets.specs.ModelBits.{bit, memberOf, withOf}
 use Rattle.sets.proofs.Laws.{bit-zero, bit-true, bit-false}
 use Rattle.sums.specs.ModelSums.{firstFrom}
-use Rattle.cycles.specs.ModelTurns.{Nodes, before, longer, returned, closer, trail, trailLength}
+use Rattle.cycles.specs.ModelTurns.{Nodes, behind, returned, closer, trail, trailLength}
 use Rattle.cycles.proofs.Visits.{Visit, visit-node, visit-member, visit-below, visit-before, visit-after}
 use Rattle.sums.proofs.First.{first-cases, first-is-none, first-hit, first-miss, first-end}
 
 -- ---- ways
 
--- The way that is read for v, and what it grows to.
-pub before-read : (row way : List ℕ) (v : ℕ) → getD way (getD row v 0) 0 ≡ before row way v
-unfolding before
-before-read row way v = refl
-
-pub longer-with : (row way : List ℕ) (v : ℕ) → withOf (getD way (getD row v 0) 0) v ≡ longer row way v
-unfolding before longer
-longer-with row way v = refl
+-- The nodes behind v, as they are read and made.
+pub behind-with : (row way : List ℕ) (v w : ℕ) → w ≡ withOf (getD way (getD row v 0) 0) (getD row v 0) → w ≡ behind row way v
+unfolding behind
+behind-with row way v w e = e
 
 -- The first number that passes a test, where none before it does.
 first-is : (t : ℕ → Bool) (n v : ℕ) → v < n → t v ≡ true → ((j : ℕ) → j < v → t j ≡ false) → firstFrom t n 0 ≡ v
@@ -48,12 +44,12 @@ module _ (fell : ℕ) (row way : List ℕ) where
   -- At first all that fell are left.
   pub open-start : Open fell row way fell
   unfolding returned
-  open-start v l e = ap (λ (b : Bool). b && memberOf (before row way v) v) (bit-false fell v e)
+  open-start v l e = ap (λ (b : Bool). b && memberOf (behind row way v) v) (bit-false fell v e)
 
-  module _ {left v rest : ℕ} (o : Visit fell left v rest) (w : ℕ) (at-way : w ≡ before row way v) (h : Open fell row way left) where
+  module _ {left v rest : ℕ} (o : Visit fell left v rest) (w : ℕ) (at-way : w ≡ behind row way v) (h : Open fell row way left) where
     returned-if : memberOf w v ≡ returned fell row way v
     unfolding returned
-    returned-if = ap (λ (i : ℕ). memberOf i v) at-way ∙ ap (λ (b : Bool). b && memberOf (before row way v) v) (sym (bit-true fell v (visit-member o)))
+    returned-if = ap (λ (i : ℕ). memberOf i v) at-way ∙ ap (λ (b : Bool). b && memberOf (behind row way v) v) (sym (bit-true fell v (visit-member o)))
 
     -- The next one closes none.
     pub open-more : memberOf w v ≡ false → Open fell row way rest

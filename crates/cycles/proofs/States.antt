@@ -1,22 +1,21 @@
 -- What a search holds at a level, and how a sweep, the ways that grow and the trace back lead from it to the next level or to the end.
 -- Assumes nothing.
-use Prim.Native.Nat.{ℕ, zero, suc, _+_, _*_, _≤_, _<_}
+use Prim.Native.Nat.{ℕ, zero, suc, _+_, _*_, _≤_, _<_, max}
 use mathlib.Core.Path.{_≡_, refl, sym, ap, _∙_, subst}
 use mathlib.Core.Bool.{Bool, true, false}
 use mathlib.Core.List.{List}
 use mathlib.Core.Logic.{⊎-elim}
-use native.Mathlib.Nat.{mul-one, zero-add}
+use native.Mathlib.Nat.{mul-one}
 use native.Mathlib.Numerals.{add-one}
 use native.Mathlib.Omega.{arith}
 use lib.Dec.{eqb}
-use lib.ListN.{length, getD}
+use lib.ListN.{getD}
 use Rattle.cluster.specs.Terms.{mostNodes}
 use Rattle.sums.specs.TermsSums.{one-if}
+use Rattle.sums.specs.ModelSums.{is}
 use Rattle.sums.proofs.Sum.{lt-or-ge}
-use Rattle.cells.specs.ModelCells.{put}
-use Rattle.cells.proofs.Cells.{getD-put-in}
-use Rattle.sets.specs.ModelBits.{bit, memberOf, withOf, belowOf}
-use Rattle.sets.proofs.Laws.{bit-zero, bit-true, bit-below, bit-below-not, bit-with}
+use Rattle.sets.specs.ModelBits.{bit, memberOf, belowOf}
+use Rattle.sets.proofs.Laws.{bit-zero, bit-true, bit-below, bit-below-not}
 use Rattle.exchange.specs.ModelLevels as levels
 use Rattle.exchange.specs.ModelLevels.{Graph, Fall, relax, scan, level, fell}
 use Rattle.exchange.proofs.Levels.{level-skip, dist-room, dist-le, fell-lt}
@@ -36,14 +35,14 @@ scan-cong G on on' d d' v (suc m) p q e =
 
 -- ---- a level in cells
 
--- Level k, in the cells of a search: the distances twice, the set of the nodes that fell, the ways as sets, and in the rows of all levels up to
--- it the nodes that the fallen came from. Up to it no node closes a cycle.
+-- Level k, in the cells of a search: the distances twice, the set of the nodes that fell, the nodes behind each on its way, and in the rows of all
+-- levels up to it the nodes that the fallen came from. Up to it no node closes a cycle.
 pub record State (G : Graph) (k mask : ℕ) (dist next way table : List ℕ) : Type 0 where
   pub dists : (v : ℕ) → v < G .N → getD dist v 0 ≡ levels.dist G k v
   pub nexts : (v : ℕ) → v < G .N → getD next v 0 ≡ levels.dist G k v
   pub marks : (v : ℕ) → v < G .N → memberOf mask v ≡ fell G k v
   pub nodes : Nodes (G .N) mask
-  pub ways : (v x : ℕ) → v < G .N → x < mostNodes → bit (getD way v 0) x ≡ levels.way G k v x
+  pub ways : (v x : ℕ) → v < G .N → x < mostNodes → max (is v x) (bit (getD way v 0) x) ≡ levels.way G k v x
   pub rows : (j v : ℕ) → 1 ≤ j → j ≤ k → v < G .N → fell G j v ≡ true → getD table (j * mostNodes + v) 0 ≡ levels.from G j v
   pub still-open : Open G k
 
@@ -95,22 +94,16 @@ module _ (arcs : List ℕ) (n k mask : ℕ) (dist next way table : List ℕ) (sm
 -- ---- level 0
 
 -- Before the first level the cells hold level 0.
-pub state-start : (arcs : List ℕ) (n mask : ℕ) (dist next way₀ way table : List ℕ) → n ≤ mostNodes → mostNodes ≤ length way₀ → mask ≡ belowOf n
-    → ((v : ℕ) → v < n → getD dist v 0 ≡ n) → ((v : ℕ) → v < n → getD next v 0 ≡ n) → way ≡ put 0 (λ v. withOf 0 v) mostNodes way₀
-    → State (graphOf arcs n) 0 mask dist next way table
+pub state-start : (arcs : List ℕ) (n mask : ℕ) (dist next way table : List ℕ) → n ≤ mostNodes → mask ≡ belowOf n → ((v : ℕ) → v < n → getD dist v 0 ≡ n)
+    → ((v : ℕ) → v < n → getD next v 0 ≡ n) → ((v : ℕ) → v < n → getD way v 0 ≡ 0) → State (graphOf arcs n) 0 mask dist next way table
 unfolding level fell levels.way
-state-start arcs n mask dist next way₀ way table small h em ed en ew =
+state-start arcs n mask dist next way table small em ed en ew =
     record {
       dists = λ v l. ed v l ∙ sym (mul-one n);
       nexts = λ v l. en v l ∙ sym (mul-one n);
       marks = λ v l. ap (λ (i : ℕ). memberOf i v) em ∙ bit-true (belowOf n) v (bit-below n v (omega arith) l);
       nodes = λ v m g. ap (λ (i : ℕ). bit i v) em ∙ bit-below-not n v g;
-      ways = λ v x l m. ap (λ (i : ℕ). bit i x) (cell v l) ∙ omega (arith, bit-with 0 v x m, bit-zero x);
+      ways = λ v x l m. omega (arith, ap (λ (i : ℕ). bit i x) (ew v l), bit-zero x);
       rows = λ j v a b l e. absurd (omega arith);
       still-open = open-zero (graphOf arcs n);
     }
-  where
-    cell : (v : ℕ) → v < n → getD way v 0 ≡ withOf 0 v
-    cell v l =
-        ap (λ (g : List ℕ). getD g v 0) ew
-        ∙ (ap (λ (i : ℕ). getD (put 0 (λ v. withOf 0 v) mostNodes way₀) i 0) (sym (zero-add v)) ∙ getD-put-in 0 (λ v. withOf 0 v) mostNodes way₀ v 0 (omega arith) (omega arith))

@@ -64,19 +64,15 @@ pub record Descended (arcs : List ℕ) (n k mask : ℕ) (d next table₀ table :
   pub kept : (i : ℕ) → i < (k + 1) * mostNodes → getD table i 0 ≡ getD table₀ i 0
   pub nodes : Nodes n fell
 
--- The way of the node that v came from.
-unfoldable pub before : List ℕ → List ℕ → ℕ → ℕ
-before row way v = getD way (getD row v 0) 0
+-- The nodes behind v on its way, where it fell: the node that it came from, and those behind that one.
+unfoldable pub behind : List ℕ → List ℕ → ℕ → ℕ
+behind row way v = withOf (getD way (getD row v 0) 0) (getD row v 0)
 
--- The way of v, where it fell: that of the node it came from, and v.
-unfoldable pub longer : List ℕ → List ℕ → ℕ → ℕ
-longer row way v = withOf (before row way v) v
-
--- Whether v fell and is on the way that its own grows from.
+-- Whether v fell and is behind itself.
 unfoldable pub returned : ℕ → List ℕ → List ℕ → ℕ → Bool
-returned fell row way v = memberOf fell v && memberOf (before row way v) v
+returned fell row way v = memberOf fell v && memberOf (behind row way v) v
 
--- The first node that its way comes to again; n where there is none.
+-- The first node that is behind itself; n where there is none.
 unfoldable pub closer : ℕ → ℕ → List ℕ → List ℕ → ℕ
 closer n fell row way = firstFrom (returned fell row way) n 0
 

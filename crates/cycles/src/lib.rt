@@ -5,11 +5,11 @@ ghost use Prim.Native.Nat.{ℕ, _+_, _≤_, _<_};
 ghost use lib.ListN.{length, getD};
 ghost use Rattle.cells.specs.ModelCells.{put};
 ghost use Rattle.cluster.specs.Terms.{mostNodes};
-ghost use Rattle.sets.specs.ModelBits.{bit, memberOf, withOf};
+ghost use Rattle.sets.specs.ModelBits.{bit, memberOf};
 ghost use Rattle.exchange.specs.ModelLevels.{relax, outcome};
 ghost use Rattle.cycles.specs.ModelFound.{endLength, endWalk, foundLength, foundWalk};
 ghost use Rattle.cycles.specs.ModelGraph.{arcCells, walkCells, tableCells, graphOf};
-ghost use Rattle.cycles.specs.ModelTurns.{offered, Settled, Joined, AtMost, Nodes, Turns, Swept, Descended, closer, longer, trail, trailLength};
+ghost use Rattle.cycles.specs.ModelTurns.{offered, Settled, Joined, AtMost, Nodes, Turns, Swept, Descended, behind, closer, trail, trailLength};
 use cluster::Cluster;
 
 // The most nodes of a graph, as nodes are numbered.
@@ -154,22 +154,23 @@ fn descend(
     sets::meet(swept, sets::below(n))
 }
 
-// The first node, of those that fell, that its way comes to again; n where there is none, and then grown has the ways of the fallen with one level more.
+// The first node, of those that fell, that is behind itself on its way; n where there is none, and then grown has the nodes behind each that fell.
 fn close(n: u32, fell: u32, row: &[u32], way: &[u32], grown: &mut [u32]) -> u32
     requires { ⌜ (n ≤ mostNodes) × (mostNodes ≤ length (now row)) × (mostNodes ≤ length (now way)) × (mostNodes ≤ length (now grown)) × Nodes n fell × ((v : ℕ) → v < n → memberOf fell v ≡ true → getD (now row) v 0 < mostNodes) ⌝ }
     ensures first { λ r. ⌜ r ≡ closer n fell (now (row .entry)) (now (way .entry)) ⌝ }
-    ensures grows { λ r. ⌜ (r ≡ n → Settled (bit fell) (longer (now (row .entry)) (now (way .entry))) (now (grown .entry)) (now (grown .exit))) ⌝ }
+    ensures grows { λ r. ⌜ (r ≡ n → Settled (bit fell) (behind (now (row .entry)) (now (way .entry))) (now (grown .entry)) (now (grown .exit))) ⌝ }
 {
     let mut left = fell;
     while left != 0 {
         let v = sets::least(left);
         let i = v as usize;
         left = sets::without(left, v);
-        let w = way[row[i] as usize];
+        let from = row[i];
+        let w = sets::with(way[from as usize], from);
         if sets::member(w, v) {
             return v;
         }
-        grown[i] = sets::with(w, v);
+        grown[i] = w;
     }
     n
 }
@@ -193,18 +194,6 @@ fn trace(table: &[u32], k: u32, v: u32, walk: &mut [u32]) -> u32
     t
 }
 
-// Fills in the way of each node at level 0: the node itself.
-fn begin(way: &mut [u32])
-    requires { ⌜ mostNodes ≤ length (now way) ⌝ }
-    ensures { λ _. ⌜ now (way .exit) ≡ put 0 (λ v. withOf 0 v) mostNodes (now (way .entry)) ⌝ }
-{
-    let mut v = 0;
-    while v < NODES {
-        way[v as usize] = sets::with(0, v);
-        v += 1;
-    }
-}
-
 // The search, level by level.
 fn search(arcs: &[u32], n: u32, walk: &mut [u32]) -> u32
     requires { ⌜ (1 ≤ n) × (n ≤ mostNodes) × (arcCells ≤ length (now arcs)) × (walkCells ≤ length (now walk)) ⌝ }
@@ -212,10 +201,11 @@ fn search(arcs: &[u32], n: u32, walk: &mut [u32]) -> u32
 {
     let mut dist = [n; Cluster::NODES];
     let mut next = [n; Cluster::NODES];
+    // For each distance below n the set of the nodes that stand there or below: at first all stand at n.
     let mut atmost = [0u32; Cluster::NODES];
+    // For each node the set of the nodes behind it on its way: at first there are none.
     let mut way = [0u32; Cluster::NODES];
-    begin(&mut way);
-    let mut grown = way;
+    let mut grown = [0u32; Cluster::NODES];
     let mut table = [0u32; TABLE];
     let mut mask = sets::below(n);
     let mut k = 0;

@@ -1,7 +1,7 @@
--- `cycles::close` meets its contract. The nodes that are not left close no cycle, and their ways have grown.
+-- `cycles::close` meets its contract. The nodes that are not left close no cycle, and the nodes behind them are written.
 -- Assumes nothing.
-use Prim.Native.Nat.{_≤_, _<_, _-_}
-use mathlib.Core.Path.{_≡_, sym, _∙_}
+use Prim.Native.Nat.{_<_, _-_}
+use mathlib.Core.Path.{_≡_, refl, sym, _∙_}
 use native.Mathlib.Omega.{arith}
 use borrow.Author.Needs.{needs}
 use lib.ListN.{length, getD, length-set}
@@ -9,16 +9,16 @@ use Rattle.cluster.specs.Terms.{mostNodes}
 use Rattle.sets.specs.ModelBits.{bit, countOf}
 use Rattle.sets.proofs.Laws.{bit-true}
 use Rattle.sets.proofs.Scan.{Left, left-all}
-use Rattle.cycles.specs.ModelTurns.{Settled, longer}
+use Rattle.cycles.specs.ModelTurns.{Settled, behind}
+use Rattle.cycles.proofs.Rows.{length-kept}
 use Rattle.cycles.proofs.Visits.{Visit, visit-node, visit-member, visit-below, visit-less, visit-rest, settled-start, settled-more, settled-end}
-use Rattle.cycles.proofs.Parts.{Open, open-start, open-more, closer-hit, closer-none, before-read, longer-with}
+use Rattle.cycles.proofs.Parts.{Open, open-start, open-more, closer-hit, closer-none, behind-with}
 use Rattle.cycles.proofs.close.Statement.{statement}
 use Rattle.cycles.proofs.close.Tie as tie
 
 abbrev Inv-loop : tie.InvT-loop
 Inv-loop n fell row way grown₀ left₀ grown left =
-    (n ≤ mostNodes) × (mostNodes ≤ length row) × (mostNodes ≤ length way) × (mostNodes ≤ length grown₀) × (length grown ≡ length grown₀) × Left fell left × Open fell row way left
-    × Settled (λ v. bit fell v - bit left v) (longer row way) grown₀ grown
+    (length grown ≡ length grown₀) × Left fell left × Open fell row way left × Settled (λ v. bit fell v - bit left v) (behind row way) grown₀ grown
 
 abbrev μ-loop : tie.MeasureT-loop
 μ-loop n fell row way grown₀ left₀ grown left = countOf left
@@ -26,7 +26,7 @@ abbrev μ-loop : tie.MeasureT-loop
 loop-holds : tie.Need-loop-holds Inv-loop μ-loop
 loop-holds c =
     let a = c .before .before .before .args in
-    (search needs, search needs, search needs, search needs, search needs, left-all (a .fell) (search needs), open-start (a .fell) (a .row .now) (a .way .now), settled-start (a .fell) (longer (a .row .now) (a .way .now)) (a .grown .now))
+    (refl, left-all (a .fell) (search needs), open-start (a .fell) (a .row .now) (a .way .now), settled-start (a .fell) (behind (a .row .now) (a .way .now)) (a .grown .now))
 
 least-requires : tie.Need-least-requires Inv-loop μ-loop
 least-requires c κs = search needs
@@ -42,13 +42,13 @@ at : (c : tie.After-without Inv-loop μ-loop)
     Visit (l .before .before .before .before .args .fell) (l .loop .left) (c .before .least .result) (c .without .result)
 at c =
     let l = c .before .before .before in
-    record { some = c .before .before .loop-test .taken; scan = l .loop .inv .5; at-least = c .before .least .ensures; at-rest = c .without .ensures }
+    record { some = c .before .before .loop-test .taken; scan = l .loop .inv .1; at-least = c .before .least .ensures; at-rest = c .without .ensures }
 
-mul-w : tie.Need-mul-w Inv-loop μ-loop
-mul-w c = search needs
+mul-from : tie.Need-mul-from Inv-loop μ-loop
+mul-from c = search needs
 
-shared-slice-read-w : tie.Need-shared-slice-read-w Inv-loop μ-loop
-shared-slice-read-w c = omega (arith, visit-node (at (c .before)))
+shared-slice-read-from : tie.Need-shared-slice-read-from Inv-loop μ-loop
+shared-slice-read-from c = omega (arith, visit-node (at (c .before)))
 
 -- Where the next one came from is a node.
 from : (c : tie.After-without Inv-loop μ-loop)
@@ -57,36 +57,36 @@ from c =
     let t = c .before .before .before .before .before .before .before in
     t .pre .5 (c .before .least .result) (visit-below (at c) (t .args .n) (t .pre .4)) (bit-true (t .args .fell) (c .before .least .result) (visit-member (at c)))
 
-cast-w : tie.Need-cast-w Inv-loop μ-loop
-cast-w c = omega (arith, from (c .before))
+cast-with : tie.Need-cast-with Inv-loop μ-loop
+cast-with c = omega (arith, from (c .before))
 
-mul-w-2 : tie.Need-mul-w-2 Inv-loop μ-loop
-mul-w-2 c = omega (arith, from (c .before))
+mul-with : tie.Need-mul-with Inv-loop μ-loop
+mul-with c = omega (arith, from (c .before))
 
-shared-slice-read-w-2 : tie.Need-shared-slice-read-w-2 Inv-loop μ-loop
-shared-slice-read-w-2 c = omega (arith, from (c .before .before))
+shared-slice-read-with : tie.Need-shared-slice-read-with Inv-loop μ-loop
+shared-slice-read-with c = omega (arith, from (c .before .before))
+
+with-requires : tie.Need-with-requires Inv-loop μ-loop
+with-requires c κs = search needs
 
 member-requires : tie.Need-member-requires Inv-loop μ-loop
 member-requires c κs = search needs
 
 same-length : tie.Need-same-length Inv-loop μ-loop
-same-length c = search needs
+same-length c = c .before .before .before .before .before .before .before .before .loop .inv .0
 
 returns : tie.Need-returns Inv-loop μ-loop
 returns c =
     let m = c .before in
-    let o = m .before .before .before in
+    let w = m .before in
+    let o = w .before .before .before in
     let l = o .before .before .before in
     let t = l .before .before .before .before in
     let a = t .args in
-    let v = o .before .least .result in (
-      closer-hit (a .fell) (a .row .now) (a .way .now) (at o) (getD (a .way .now) (getD (a .row .now) v 0) 0) (before-read (a .row .now) (a .way .now) v) (l .loop .inv .6) (a .n) (t .pre .4)
-          (sym (m .member .ensures) ∙ c .if1 .taken),
+    let e = behind-with (a .row .now) (a .way .now) (o .before .least .result) (w .with .result) (w .with .ensures) in (
+      closer-hit (a .fell) (a .row .now) (a .way .now) (at o) (w .with .result) e (l .loop .inv .2) (a .n) (t .pre .4) (sym (m .member .ensures) ∙ c .if1 .taken),
       λ e. absurd (omega (arith, e, visit-below (at o) (a .n) (t .pre .4))),
     )
-
-with-requires : tie.Need-with-requires Inv-loop μ-loop
-with-requires c κs = search needs
 
 mul-grown : tie.Need-mul-grown Inv-loop μ-loop
 mul-grown c = search needs
@@ -99,33 +99,29 @@ loop-less c = visit-less (at (c .before .before .before .before .before))
 
 loop-again : tie.Need-loop-again Inv-loop μ-loop
 loop-again c =
-    let m = c .before .before in
-    let o = m .before .before .before in
+    let m = c .before in
+    let w = m .before in
+    let o = w .before .before .before in
     let l = o .before .before .before in
-    let a = l .before .before .before .before .args in
-    let v = o .before .least .result in (
-      search needs,
-      search needs,
-      search needs,
-      search needs,
-      simp length-set (search needs),
+    let t = l .before .before .before .before in
+    let a = t .args in
+    let e = behind-with (a .row .now) (a .way .now) (o .before .least .result) (w .with .result) (w .with .ensures) in (
+      simp length-set (l .loop .inv .0),
       visit-rest (at o),
-      open-more (a .fell) (a .row .now) (a .way .now) (at o) (getD (a .way .now) (getD (a .row .now) v 0) 0) (before-read (a .row .now) (a .way .now) v) (l .loop .inv .6)
-          (sym (m .member .ensures) ∙ c .before .if1 .left),
-      settled-more (at o) (longer (a .row .now) (a .way .now)) (c .with .result) (a .grown .now) (l .loop .grown) (omega arith) (c .with .ensures ∙ longer-with (a .row .now) (a .way .now) v)
-          (l .loop .inv .7),
+      open-more (a .fell) (a .row .now) (a .way .now) (at o) (w .with .result) e (l .loop .inv .2) (sym (m .member .ensures) ∙ c .if1 .left),
+      settled-more (at o) (behind (a .row .now) (a .way .now)) (w .with .result) (a .grown .now) (l .loop .grown) (length-kept (l .loop .inv .0) (t .pre .3)) e (l .loop .inv .3),
     )
 
 same-length-2 : tie.Need-same-length-2 Inv-loop μ-loop
-same-length-2 c = search needs
+same-length-2 c = c .before .loop .inv .0
 
 returns-2 : tie.Need-returns-2 Inv-loop μ-loop
 returns-2 c =
     let l = c .before in
     let a = l .before .before .before .before .args in
     let z = c .loop-test .left in (
-      closer-none (a .fell) (a .row .now) (a .way .now) (a .n) (l .loop .left) (l .loop .inv .0) z (l .loop .inv .6),
-      λ _. settled-end (a .fell) (l .loop .left) (longer (a .row .now) (a .way .now)) (a .grown .now) (l .loop .grown) z (l .loop .inv .7),
+      closer-none (a .fell) (a .row .now) (a .way .now) (a .n) (l .loop .left) (l .before .before .before .before .pre .0) z (l .loop .inv .2),
+      λ _. settled-end (a .fell) (l .loop .left) (behind (a .row .now) (a .way .now)) (a .grown .now) (l .loop .grown) z (l .loop .inv .3),
     )
 
 pub close-spec : {M : Type 1} → statement M
@@ -138,15 +134,15 @@ close-spec =
     least-requires
     cast-i
     without-requires
-    mul-w
-    shared-slice-read-w
-    cast-w
-    mul-w-2
-    shared-slice-read-w-2
+    mul-from
+    shared-slice-read-from
+    cast-with
+    mul-with
+    shared-slice-read-with
+    with-requires
     member-requires
     same-length
     returns
-    with-requires
     mul-grown
     slice-write-grown
     loop-less

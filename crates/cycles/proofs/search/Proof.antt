@@ -5,13 +5,13 @@ use mathlib.Core.Path.{_≡_, refl, sym, ap, _∙_, subst}
 use native.Mathlib.Omega.{arith}
 use borrow.Author.Needs.{needs}
 use mathlib.Core.List.{List}
-use lib.ListN.{length, take, drop, getD-replicate}
+use lib.ListN.{length, take, drop, replicate, getD-replicate}
 use Rattle.cluster.specs.Terms.{mostNodes}
 use Rattle.sets.specs.ModelBits.{bit}
 use Rattle.exchange.specs.ModelLevels.{Cycle, outcome, search-from}
 use Rattle.cycles.specs.ModelGraph.{tableCells, walkCells, arcCells, graphOf}
 use Rattle.cycles.specs.ModelFound.{endWalk}
-use Rattle.cycles.specs.ModelTurns.{Settled, AtMost, closer, longer}
+use Rattle.cycles.specs.ModelTurns.{Settled, AtMost, behind, closer}
 use Rattle.cycles.proofs.Offers.{stand-start}
 use Rattle.cycles.proofs.States.{State, state-start, state-room, state-next}
 use Rattle.cycles.proofs.Ends.{Turning, part-row, ends-still, ends-closed, search-spent, search-start, closer-le, search-still, row-node, search-on, state-on, search-closed, trail-closes, trail-node, trail-walk, trail-length}
@@ -28,32 +28,27 @@ Inv-loop arcs n walk₀ dist₀ next₀ atmost₀ way₀ grown₀ table₀ mask�
 abbrev μ-loop : tie.MeasureT-loop
 μ-loop arcs n walk₀ dist₀ next₀ atmost₀ way₀ grown₀ table₀ mask₀ k₀ walk dist next atmost way grown table mask k = n - k
 
-slice-aggregate-begin : tie.Need-slice-aggregate-begin Inv-loop μ-loop
-slice-aggregate-begin c = search needs
-
-begin-requires : tie.Need-begin-requires Inv-loop μ-loop
-begin-requires c κs = search needs
-
 below-requires : tie.Need-below-requires Inv-loop μ-loop
 below-requires c κs = search needs
 
 loop-holds : tie.Need-loop-holds Inv-loop μ-loop
 loop-holds c =
-    let b = c .before .before in
-    let a = b .before .before .before .before .args in
-    let s : a .n ≤ mostNodes = omega arith in (
+    let t = c .before .before .before in
+    let a = t .args in
+    let s = t .pre .1 in (
       search needs,
       s,
-      search needs,
-      search needs,
+      t .pre .2,
+      t .pre .3,
       refl,
       refl,
       refl,
-      search needs,
+      refl,
       refl,
       refl,
       search-start (graphOf (a .arcs .now) (a .n)),
-      state-start (a .arcs .now) (a .n) (c .below .result) _ _ _ (b .begin .last .0) _ s (omega arith) (c .below .ensures) (λ v h. getD-replicate mostNodes v (a .n) 0 (omega arith)) (λ v h. getD-replicate mostNodes v (a .n) 0 (omega arith)) (b .begin .ensures),
+      state-start (a .arcs .now) (a .n) (c .below .result) (replicate mostNodes (a .n)) (replicate mostNodes (a .n)) (replicate mostNodes 0) (replicate tableCells 0) s (c .below .ensures)
+          (λ v h. getD-replicate mostNodes v (a .n) 0 (level-lt v (a .n) h s)) (λ v h. getD-replicate mostNodes v (a .n) 0 (level-lt v (a .n) h s)) (λ v h. getD-replicate mostNodes v 0 0 (level-lt v (a .n) h s)),
       refl,
       stand-start (a .n) s,
     )
@@ -71,11 +66,11 @@ slice-aggregate-descend-4 : tie.Need-slice-aggregate-descend-4 Inv-loop μ-loop
 slice-aggregate-descend-4 c = sym (c .before .before .before .before .before .loop .inv .12)
 
 -- Within a turn, the level is below n.
-inside : (c : tie.In-loop Inv-loop μ-loop) → c .before .loop .k < c .before .before .before .before .before .before .before .before .args .n
+inside : (c : tie.In-loop Inv-loop μ-loop) → c .before .loop .k < c .before .before .before .before .before .args .n
 inside c = let t = c .loop-test .taken in omega arith
 
 low : (c : tie.In-loop Inv-loop μ-loop) → c .before .loop .k < mostNodes
-low c = level-lt (c .before .loop .k) (c .before .before .before .before .before .before .before .before .args .n) (inside c) (c .before .loop .inv .1)
+low c = level-lt (c .before .loop .k) (c .before .before .before .before .before .args .n) (inside c) (c .before .loop .inv .1)
 
 table-long : (c : tie.After-descend Inv-loop μ-loop) → length (c .descend .last .1 .1 .1 .1 .1 .1 .0) ≡ tableCells
 table-long c = c .descend .kept .1 .1 .1 .1 .1 .1 .0 ∙ c .before .before .before .before .before .before .loop .inv .9
@@ -84,7 +79,7 @@ descend-requires : tie.Need-descend-requires Inv-loop μ-loop
 descend-requires c κs =
     let l = c .before .before .before .before .before in
     let i = l .loop .inv in
-    let a = l .before .before .before .before .before .before .before .args in
+    let a = l .before .before .before .before .args in
     let b = inside (c .before .before .before .before) in (
       low (c .before .before .before .before),
       i .1,
@@ -103,13 +98,13 @@ same-length c = ap length (c .before .before .before .before .before .before .be
 
 turn : (c : tie.After-descend Inv-loop μ-loop)
     → let l = c .before .before .before .before .before .before in
-    let a = l .before .before .before .before .before .before .before .args in
+    let a = l .before .before .before .before .args in
     let i = (l .loop .k + 1) * mostNodes in
     Turning (graphOf (a .arcs .now) (a .n)) (l .loop .k) (c .descend .result) (l .loop .mask) (c .descend .last .1 .1 .1 .1 .1 .0) (c .descend .last .1 .1 .1 .1 .1 .1 .0)
     (l .loop .dist) (l .loop .next) (l .loop .way) (l .loop .table) (take (i + mostNodes - i) (drop i (c .descend .last .1 .1 .1 .1 .1 .1 .0)))
 turn c =
     let l = c .before .before .before .before .before .before in
-    let a = l .before .before .before .before .before .before .before .args in
+    let a = l .before .before .before .before .args in
     let t = c .descend .last .1 .1 .1 .1 .1 .1 .0 in
     let s = l .loop .inv .1 in
     let b = inside (c .before .before .before .before .before) in
@@ -125,7 +120,7 @@ returns : tie.Need-returns Inv-loop μ-loop
 returns c =
     let d = c .before .before .before .before in
     let l = d .before .before .before .before .before .before in
-    let a = l .before .before .before .before .before .before .before .args in
+    let a = l .before .before .before .before .args in
     let G = graphOf (a .arcs .now) (a .n) in
     ends-still G (outcome G) (l .loop .k) (a .walk .now) (l .loop .walk) (l .loop .inv .10 ∙ search-still (turn d) (c .if1 .taken)) (l .loop .inv .4)
 
@@ -199,7 +194,7 @@ returns-2 c =
     let k = t .before .before .before .before .before in
     let d = k .before .before .before .before .before .before .before .before .before in
     let l = d .before .before .before .before .before .before in
-    let a = l .before .before .before .before .before .before .before .args in
+    let a = l .before .before .before .before .args in
     let G = graphOf (a .arcs .now) (a .n) in
     let v = k .close .result in
     let i = k .close .ensures .0 in
@@ -220,7 +215,7 @@ loop-again c =
     let d = k .before .before .before .before .before .before .before .before .before in
     let l = d .before .before .before .before .before .before in
     let v = l .loop .inv in
-    let a = l .before .before .before .before .before .before .before .args in
+    let a = l .before .before .before .before .args in
     let i = (l .loop .k + 1) * mostNodes in
     let row = take (i + mostNodes - i) (drop i (d .descend .last .1 .1 .1 .1 .1 .1 .0)) in
     let z = k .before .before .before .before .before .if1 .left in
@@ -240,7 +235,7 @@ loop-again c =
       table-long d,
       v .10 ∙ search-on (turn d) z (d .descend .ok) (w .0),
       state-on (turn d) (k .close .last .1 .1 .1 .1 .0) (w .0)
-          (subst (λ (x : List ℕ). Settled (bit (d .descend .result)) (longer row (l .loop .way)) x (k .close .last .1 .1 .1 .1 .0)) e (k .close .ensures .1 (w .1))),
+          (subst (λ (x : List ℕ). Settled (bit (d .descend .result)) (behind row (l .loop .way)) x (k .close .last .1 .1 .1 .1 .0)) e (k .close .ensures .1 (w .1))),
       d .descend .kept .1 .1 .1 .1 .1 .1 .1 .0 ∙ v .12,
       d .descend .ensures .1,
     )
@@ -251,7 +246,7 @@ same-length-3 c = ap length (c .before .loop .inv .4)
 returns-3 : tie.Need-returns-3 Inv-loop μ-loop
 returns-3 c =
     let l = c .before in
-    let a = l .before .before .before .before .before .before .before .args in
+    let a = l .before .before .before .before .args in
     let G = graphOf (a .arcs .now) (a .n) in
     ends-still G (outcome G) (l .loop .k) (a .walk .now) (l .loop .walk) (l .loop .inv .10 ∙ search-spent G (l .loop .k) (c .loop-test .left)) (l .loop .inv .4)
 
@@ -261,8 +256,6 @@ search-spec =
     (tie.spec
     Inv-loop
     μ-loop
-    slice-aggregate-begin
-    begin-requires
     below-requires
     loop-holds
     slice-aggregate-descend

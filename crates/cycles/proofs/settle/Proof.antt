@@ -1,21 +1,21 @@
 -- `cycles::settle` meets its contract. The cells of the members that are not left hold what they shall.
 -- Assumes nothing.
-use Prim.Native.Nat.{_≤_, _-_}
+use Prim.Native.Nat.{_-_}
 use mathlib.Core.Path.{_≡_, refl}
 use native.Mathlib.Omega.{arith}
 use borrow.Author.Needs.{needs}
 use lib.ListN.{length, length-set}
-use Rattle.cluster.specs.Terms.{mostNodes}
 use Rattle.sets.specs.ModelBits.{bit, countOf}
 use Rattle.sets.proofs.Scan.{Left, left-all}
 use Rattle.cycles.specs.ModelTurns.{Settled}
+use Rattle.cycles.proofs.Rows.{length-kept}
 use Rattle.cycles.proofs.Visits.{Visit, visit-node, visit-less, visit-rest, settled-start, settled-more, settled-end}
 use Rattle.cycles.proofs.settle.Statement.{statement}
 use Rattle.cycles.proofs.settle.Tie as tie
 
 abbrev Inv-loop : tie.InvT-loop
 Inv-loop s c u next₀ row₀ left₀ next row left =
-    (length next ≡ length next₀) × (length row ≡ length row₀) × (mostNodes ≤ length next₀) × (mostNodes ≤ length row₀) × Left s left
+    (length next ≡ length next₀) × (length row ≡ length row₀) × Left s left
     × Settled (λ v. bit s v - bit left v) (λ _. c) next₀ next × Settled (λ v. bit s v - bit left v) (λ _. u) row₀ row
 
 abbrev μ-loop : tie.MeasureT-loop
@@ -24,7 +24,7 @@ abbrev μ-loop : tie.MeasureT-loop
 loop-holds : tie.Need-loop-holds Inv-loop μ-loop
 loop-holds c =
     let a = c .before .before .args in
-    (search needs, search needs, search needs, search needs, left-all (a .s) (search needs), settled-start (a .s) (λ _. a .c) (a .next .now), settled-start (a .s) (λ _. a .u) (a .row .now))
+    (refl, refl, left-all (a .s) (search needs), settled-start (a .s) (λ _. a .c) (a .next .now), settled-start (a .s) (λ _. a .u) (a .row .now))
 
 least-requires : tie.Need-least-requires Inv-loop μ-loop
 least-requires c κs = search needs
@@ -40,7 +40,7 @@ at : (c : tie.After-without Inv-loop μ-loop)
     Visit (l .before .before .before .args .s) (l .loop .left) (c .before .least .result) (c .without .result)
 at c =
     let l = c .before .before .before in
-    record { some = c .before .before .loop-test .taken; scan = l .loop .inv .4; at-least = c .before .least .ensures; at-rest = c .without .ensures }
+    record { some = c .before .before .loop-test .taken; scan = l .loop .inv .2; at-least = c .before .least .ensures; at-rest = c .without .ensures }
 
 mul-next : tie.Need-mul-next Inv-loop μ-loop
 mul-next c = search needs
@@ -59,27 +59,27 @@ loop-less c = visit-less (at c)
 
 loop-again : tie.Need-loop-again Inv-loop μ-loop
 loop-again c =
-    let i = c .before .before .before .loop .inv in (
-      simp length-set (search needs),
-      simp length-set (search needs),
-      search needs,
-      search needs,
+    let l = c .before .before .before in
+    let i = l .loop .inv in
+    let p = l .before .before .before .pre in (
+      simp length-set (i .0),
+      simp length-set (i .1),
       visit-rest (at c),
-      settled-more (at c) _ _ _ _ (omega arith) refl (i .5),
-      settled-more (at c) _ _ _ _ (omega arith) refl (i .6),
+      settled-more (at c) _ _ _ _ (length-kept (i .0) (p .0)) refl (i .3),
+      settled-more (at c) _ _ _ _ (length-kept (i .1) (p .1)) refl (i .4),
     )
 
 same-length : tie.Need-same-length Inv-loop μ-loop
-same-length c = search needs
+same-length c = c .before .loop .inv .0
 
 same-length-2 : tie.Need-same-length-2 Inv-loop μ-loop
-same-length-2 c = search needs
+same-length-2 c = c .before .loop .inv .1
 
 returns : tie.Need-returns Inv-loop μ-loop
 returns c =
     let l = c .before in
     let a = l .before .before .before .args in
-    (settled-end (a .s) (l .loop .left) (λ _. a .c) (a .next .now) (l .loop .next) (c .loop-test .left) (l .loop .inv .5), settled-end (a .s) (l .loop .left) (λ _. a .u) (a .row .now) (l .loop .row) (c .loop-test .left) (l .loop .inv .6))
+    (settled-end (a .s) (l .loop .left) (λ _. a .c) (a .next .now) (l .loop .next) (c .loop-test .left) (l .loop .inv .3), settled-end (a .s) (l .loop .left) (λ _. a .u) (a .row .now) (l .loop .row) (c .loop-test .left) (l .loop .inv .4))
 
 pub settle-spec : {M : Type 1} → statement M
 settle-spec =

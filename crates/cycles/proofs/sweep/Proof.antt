@@ -1,13 +1,11 @@
 -- `cycles::sweep` meets its contract: the members of the mask that are not left have been looked at.
 -- Assumes nothing.
-use Prim.Native.Nat.{_≤_, _<_, _^_}
+use Prim.Native.Nat.{_<_}
 use mathlib.Core.Path.{_≡_, refl, _∙_}
 use native.Mathlib.Omega.{arith}
 use borrow.Author.Needs.{needs}
 use lib.ListN.{length}
-use Rattle.cluster.specs.Terms.{mostNodes}
-use Rattle.cycles.specs.ModelGraph.{arcCells}
-use Rattle.sets.specs.ModelBits.{maskBits, countOf}
+use Rattle.sets.specs.ModelBits.{countOf}
 use Rattle.cycles.specs.ModelTurns.{AtMost}
 use Rattle.cycles.proofs.Rows.{length-kept, distance-most}
 use Rattle.cycles.proofs.Visits.{Visit, visit-node, visit-below, visit-less, passed-left}
@@ -17,8 +15,7 @@ use Rattle.cycles.proofs.sweep.Tie as tie
 
 abbrev Inv-loop : tie.InvT-loop
 Inv-loop arcs n mask dist next₀ row₀ atmost₀ fell₀ left₀ next row atmost fell left =
-    (length next ≡ length next₀) × (length row ≡ length row₀) × (length atmost ≡ length atmost₀) × (mostNodes ≤ length next₀) × (mostNodes ≤ length row₀) × (mostNodes ≤ length atmost₀)
-    × (n ≤ mostNodes) × (arcCells ≤ length arcs) × (mostNodes ≤ length dist) × (fell < 2 ^ maskBits) × AtMost n next atmost × Sweeping arcs n mask dist next row fell left
+    (length next ≡ length next₀) × (length row ≡ length row₀) × (length atmost ≡ length atmost₀) × AtMost n next atmost × Sweeping arcs n mask dist next row fell left
 
 abbrev μ-loop : tie.MeasureT-loop
 μ-loop arcs n mask dist next₀ row₀ atmost₀ fell₀ left₀ next row atmost fell left = countOf left
@@ -31,13 +28,6 @@ loop-holds c =
       refl,
       refl,
       refl,
-      p .3,
-      p .4,
-      p .5,
-      p .0,
-      p .1,
-      p .2,
-      omega arith,
       p .6,
       sweep-start (a .arcs .now) (a .n) (a .mask) (a .dist .now) (a .next .now) (a .row .now) (search needs) (λ v l. p .8 v l .2),
     )
@@ -53,7 +43,7 @@ at : (c : tie.After-without Inv-loop μ-loop)
     Visit (l .before .before .before .before .before .before .args .mask) (l .loop .left) (c .before .least .result) (c .without .result)
 at c =
     let l = c .before .before .before in
-    record { some = c .before .before .loop-test .taken; scan = passed-left (l .loop .inv .11 .passed); at-least = c .before .least .ensures; at-rest = c .without .ensures }
+    record { some = c .before .before .loop-test .taken; scan = passed-left (l .loop .inv .4 .passed); at-least = c .before .least .ensures; at-rest = c .without .ensures }
 
 -- The next member is a node below n.
 node : (c : tie.After-without Inv-loop μ-loop) → c .before .least .result < c .before .before .before .before .before .before .before .before .before .args .n
@@ -75,7 +65,7 @@ look-requires c κs =
     let t = l .before .before .before .before .before .before in
     let p = t .pre .8 (w .before .least .result) (node w) in
     let i = l .loop .inv in
-    (t .pre .0, t .pre .1, visit-node (at w), p .0, distance-most _ _ (p .1) (t .pre .0), length-kept (i .0) (i .3), length-kept (i .1) (i .4), length-kept (i .2) (i .5), i .10)
+    (t .pre .0, t .pre .1, visit-node (at w), p .0, distance-most _ _ (p .1) (t .pre .0), length-kept (i .0) (t .pre .3), length-kept (i .1) (t .pre .4), length-kept (i .2) (t .pre .5), i .3)
 
 loop-less : tie.Need-loop-less Inv-loop μ-loop
 loop-less c = visit-less (at (c .before .before .before .before .before .before .before .before .before .before .before))
@@ -90,15 +80,8 @@ loop-again c =
       k .look .kept .1 .1 .1 .1 .1 .0 ∙ i .0,
       k .look .kept .1 .1 .1 .1 .1 .1 .0 ∙ i .1,
       k .look .kept .1 .1 .1 .1 .1 .1 .1 .0 ∙ i .2,
-      i .3,
-      i .4,
-      i .5,
-      i .6,
-      i .7,
-      i .8,
-      k .look .ok,
       k .look .ensures .1,
-      sweep-more (i .11) (w .before .least .result) (w .without .result) (k .look .result) (k .look .last .1 .1 .1 .1 .1 .0) (k .look .last .1 .1 .1 .1 .1 .1 .0)
+      sweep-more (i .4) (w .before .least .result) (w .without .result) (k .look .result) (k .look .last .1 .1 .1 .1 .1 .0) (k .look .last .1 .1 .1 .1 .1 .1 .0)
           (at w) (node w) (t .pre .0) (λ v h. t .pre .8 v h .1) (k .look .ensures .0),
     )
 
@@ -114,7 +97,7 @@ same-length-3 c = c .before .loop .inv .2
 returns : tie.Need-returns Inv-loop μ-loop
 returns c =
     let l = c .before in
-    (sweep-end (l .loop .inv .11) (c .loop-test .left) (l .loop .inv .6), l .loop .inv .10)
+    (sweep-end (l .loop .inv .4) (c .loop-test .left) (l .before .before .before .before .before .before .pre .0), l .loop .inv .3)
 
 pub sweep-spec : {M : Type 1} → statement M
 sweep-spec =
