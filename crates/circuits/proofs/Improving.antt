@@ -1,38 +1,38 @@
--- From a cycle of the exchange graph to a better layout: the test for exchanges is right, the partitions that are looked up are witnesses of the
--- graph's arcs, and the rows after the exchanges are the layout that the circuit leads to.
+-- From a circuit of the rows to a better layout: the test for exchanges is right, the partitions that are looked up are witnesses of the graph's
+-- arcs, a walk whose arcs stand is a circuit again, and the rows after the exchanges are the layout that the circuit leads to.
 -- Assumes nothing.
-use Prim.Native.Nat.{ℕ, suc, _+_, _^_, _≤_, _<_}
+use Prim.Native.Nat.{ℕ, suc, _+_, _-_, _*_, _^_, _≤_, _<_}
 use mathlib.Core.Path.{_≡_, refl, sym, ap, ap₂, _∙_, subst}
-use mathlib.Core.Bool.{Bool, true, false, _&&_, not, and-eq-true-iff, true≢false, cond}
+use mathlib.Core.Bool.{Bool, true, _&&_, not, and-eq-true-iff, true≢false}
 use mathlib.Core.List.{List}
-use mathlib.Core.Logic.{inl, inr}
+use mathlib.Core.Logic.{inl, inr, ⊎-elim}
 use native.Mathlib.Omega.{arith}
 use lib.Dec.{eqb, ltb}
 use lib.ListN.{length, getD}
-use borrow.Author.Tests.{eqb-true, eq-eqb, lt-ltb, le-ltb, not-true}
-use Rattle.cluster.specs.Terms.{bufferRows, mostNodes}
-use Rattle.sums.proofs.Sum.{sum-cong}
+use borrow.Author.Tests.{eqb-true, eq-eqb, ltb-true, not-true}
+use Rattle.sums.specs.TermsSums.{everyTo}
+use Rattle.sums.proofs.Sum.{lt-or-ge, sum-cong}
+use Rattle.sums.proofs.Tests.{both, every-at}
 use Rattle.sets.specs.ModelBits.{bit, memberOf, belowOf, bitsAt}
 use Rattle.sets.proofs.Laws.{bit-le, member-true, member-false, bit-true, bit-false}
 use Rattle.exchange.specs.ModelRow.{Within, Exchange, copies}
 use Rattle.exchange.specs.ModelLevels.{Cycle, back, cycleLength, outcome, IsCycle}
 use Rattle.exchange.specs.ModelCircuit.{cost, Allowed, Better}
-use Rattle.exchange.specs.ModelUncross.{Walk, Round, Right, improved}
-use Rattle.exchange.specs.ModelJoin.{ExchangeGraph, cycleWalk, nextLayout}
+use Rattle.exchange.specs.ModelUncross.{Walk, Round, Right, improved, walk-costs}
+use Rattle.exchange.specs.ModelJoin.{ExchangeGraph}
 use Rattle.sums.proofs.First.{First, first-cases}
 use Rattle.exchange.proofs.Search.{outcome-cycle}
-use Rattle.exchange.proofs.Circuit.{cost-row, cost-store}
+use Rattle.exchange.proofs.Circuit.{cost-row, cost-store, ends}
 use Rattle.exchange.proofs.Uncross.{uncross-circuit, improved-better}
-use Rattle.exchange.proofs.Walk.{improved-same}
 use Rattle.exchange.proofs.Join.{graph-circuit}
 use Rattle.exchange.proofs.Agreeing.{SameLayout, better-cong}
 use Rattle.swaps.specs.ModelSwaps.{targetsOf}
 use Rattle.swaps.specs.ModelMates.{Mates}
 use Rattle.swaps.proofs.Fitting.{target-valid, valid-target}
-use Rattle.cycles.specs.ModelGraph.{arcCells, graphOf, arcOf, weightOf}
-use Rattle.walks.specs.ModelWalks.{okOf, suitsOf, suitsAt, witnessOf}
-use Rattle.circuits.specs.ModelCircuits.{cycleOf, freedOf, walkedOf, turnedOf}
-use Rattle.circuits.proofs.Steps.{length-exchanged}
+use Rattle.cycles.specs.ModelGraph.{graphOf, arcOf, weightOf}
+use Rattle.walks.specs.ModelWalks.{okOf, suitsOf, suitsAt, witnessOf, roomAt, renewedAt, renewed, standsAt, stands}
+use Rattle.walks.proofs.Renewing.{nextFrom, renewed-row, renewed-store, stands-row, stands-store}
+use Rattle.circuits.specs.ModelCircuits.{cycleOf, freedOf, turnedOf}
 use Rattle.circuits.proofs.Exchanging.{walked-bit, walked-small}
 
 -- ---- the test of a partition
@@ -58,43 +58,43 @@ module _ (mates : List ℕ) (all z row old w u v : ℕ) where
   unfolding suitsOf
   has-suits a b c d = rw (bit-true row u a, bit-false row v b, eq-eqb (1 + bit old u) (w + bit old v) c, d)
 
--- ---- any rows
+-- ---- a walk by itself
 
-module _ (rows former : List ℕ) (P : ℕ) (mates arcs : List ℕ) (all z : ℕ) (nodes : List ℕ) (m : ℕ) where
-  -- What holds of the rows as they are and of the rows after any exchanges holds of the rows after a turn.
-  turned-cases : (Q : List ℕ → Type 0) → Q rows → Q (walkedOf P (freedOf rows former P mates arcs all z nodes m) rows)
-      → Q (turnedOf rows former P mates arcs all z nodes m)
-  unfolding turnedOf
-  turned-cases Q a b =
-      go (ltb mostNodes m) (go (ltb bufferRows P) (go (ltb (length rows) P) (go (ltb (length former) P) (go (ltb (length arcs) arcCells) (or (ltb m (length nodes)))))))
-    where
-      go : (t : Bool) {l : List ℕ} → Q l → Q (cond t rows l)
-      go true h = a
-      go false h = h
+-- A closed simple walk over nodes below N that gains, whatever the rows are.
+pub record Ring (P N : ℕ) (former : List ℕ) (w : Walk) : Type 0 where
+  pub nodes : (i : ℕ) → i ≤ w .len → w .node i < N
+  pub closed : w .node (w .len) ≡ w .node 0
+  pub distinct : (i j : ℕ) → i < j → j < w .len → w .node i ≡ w .node j → ⊥
+  pub gains : walk-costs P 1 (bitsAt former) w < w .len * 1
 
-      or : (t : Bool) → Q (cond t (walkedOf P (freedOf rows former P mates arcs all z nodes m) rows) rows)
-      or true = b
-      or false = a
+-- A circuit of any layout is one.
+pub round-ring : (P N R Z : ℕ) (zone cap : ℕ → ℕ) (former : List ℕ) (free S : ℕ → ℕ → ℕ) (w : Walk)
+    → Round P N R Z 1 zone cap (bitsAt former) free S w → Ring P N former w
+round-ring P N R Z zone cap former free S w c =
+    record {
+      nodes = λ i l. ⊎-elim (λ h. node i h .1) (λ h. last i l h) (lt-or-ge i (w .len));
+      closed = c .closed;
+      distinct = c .distinct;
+      gains = c .gains;
+    }
+  where
+    node : (i : ℕ) → i < w .len → (w .node (suc i) < N) × (w .node i < N)
+    node = ends P N R Z 1 zone cap (bitsAt former) free S (w .len) (w .node) (w .partition) c
 
-  -- The rows stay as many.
-  pub turned-length : length (turnedOf rows former P mates arcs all z nodes m) ≡ length rows
-  turned-length =
-      let w = freedOf rows former P mates arcs all z nodes m in
-      turned-cases (λ l. length l ≡ length rows) refl (length-exchanged P (w .node) (w .partition) rows (w .len))
+    last : (i : ℕ) → i ≤ w .len → w .len ≤ i → w .node i < N
+    last i l h =
+        let e : i ≡ w .len = omega arith in
+        omega (arith, ap (w .node) e, c .closed, node 0 (omega (arith, c .gains)) .1)
 
 -- ---- in planning
 
 -- N nodes in zones, of which mates tells the sets; the first P rows are a layout within the caps, of nodes below N; every pair is free.
-module _ (P N R Z : ℕ) (zone cap : ℕ → ℕ) (free : ℕ → ℕ → ℕ) (loose : (p b : ℕ) → free p b ≡ 1) (rows former mates arcs : List ℕ)
+module _ (P N R Z : ℕ) (zone cap : ℕ → ℕ) (free : ℕ → ℕ → ℕ) (loose : (p b : ℕ) → free p b ≡ 1) (rows former mates : List ℕ)
     (M : Mates N zone mates) (small : (p : ℕ) → p < P → getD rows p 0 < 2 ^ N) (s : Within P N R Z zone cap (bitsAt rows))
   where
     -- The test for exchanges.
     abbrev ok : ℕ → ℕ → ℕ → Bool
     ok = okOf rows mates (belowOf N) Z
-
-    -- The partitions that are looked up.
-    abbrev wit : ℕ → ℕ → ℕ
-    wit = witnessOf rows former P mates arcs (belowOf N) Z
 
     -- The test for exchanges is right.
     pub ok-right : Right P N R Z zone free (bitsAt rows) ok
@@ -122,9 +122,115 @@ module _ (P N R Z : ℕ) (zone cap : ℕ → ℕ) (free : ℕ → ℕ → ℕ) (
     light : (p b : ℕ) → bitsAt former p b ≤ 1
     light p b = bit-le (getD former p 0) b
 
+    -- A partition that suits at a weight allows the exchange, which costs that much there.
+    suits-right : (u v r c : ℕ) → u < N → v < N → r < P → suitsAt rows former mates (belowOf N) Z c u v r ≡ true
+        → Allowed P N R Z zone cap free (bitsAt rows) r u v × (cost P 1 (bitsAt former) r u v ≡ c)
+    unfolding okOf
+    suits-right u v r c l k i e =
+        let h = suits-has mates (belowOf N) Z (getD rows r 0) (getD former r 0) c u v e in
+        (inl (i, ok-right .sound r u v i l k (h .0) (h .1) (h .3)), omega (arith, h .2, cost-row P 1 (bitsAt former) light r u v i))
+
+    -- ---- a circuit of the rows
+
+    module _ (w : Walk) (c : Round P N R Z 1 zone cap (bitsAt former) free (bitsAt rows) w) (a : P ≤ length rows) where
+      -- The rows after its exchanges, and what is left of it.
+      abbrev new : List ℕ
+      new = turnedOf rows former P mates (belowOf N) Z w
+
+      abbrev left : Walk
+      left = freedOf rows former P mates (belowOf N) Z w
+
+      freed : Round P N R Z 1 zone cap (bitsAt former) free (bitsAt rows) left
+      freed = uncross-circuit P N R Z 1 zone cap (bitsAt former) free (bitsAt rows) ok ok-right light (w .len) w (omega arith) c .0
+
+      -- What is left of it is a closed simple walk that gains.
+      pub freed-ring : Ring P N former left
+      freed-ring = round-ring P N R Z zone cap former free (bitsAt rows) left freed
+
+      -- The rows are the layout that the circuit leads to.
+      turned-improved : SameLayout P N (improved P 1 (bitsAt former) ok w (bitsAt rows)) (bitsAt new)
+      unfolding improved
+      turned-improved p l t k = sym (walked-bit P N R Z 1 zone cap (bitsAt former) free rows left a freed p l t (omega (arith, M .few)))
+
+      -- They are rows of nodes below N.
+      pub turned-small : (p : ℕ) → p < P → getD new p 0 < 2 ^ N
+      turned-small p l = walked-small P N R Z 1 zone cap (bitsAt former) free rows left a freed p l (M .few) (small p l)
+
+      -- They are a better layout.
+      pub turned-better : Better P N R Z 1 zone cap (bitsAt former) free (bitsAt rows) (bitsAt new)
+      turned-better =
+          better-cong P N R Z 1 zone cap (bitsAt former) free (bitsAt rows) (improved P 1 (bitsAt former) ok w (bitsAt rows)) (bitsAt rows) (bitsAt new)
+          (λ p l t k. refl) turned-improved
+          (improved-better P N R Z 1 zone cap (bitsAt former) free (bitsAt rows) ok ok-right (M .inside) light s w c)
+
+    -- ---- a walk again
+
+    module _ (caps : List ℕ) (capped : (b : ℕ) → b < N → getD caps b 0 ≡ cap b) where
+      -- An arc that stands is allowed at its new partition, at the cost that it had.
+      again-right : (q u v : ℕ) → u < N → v < N → standsAt rows former P mates (belowOf N) Z caps q u v ≡ true
+          → Allowed P N R Z zone cap free (bitsAt rows) (renewedAt rows former P mates (belowOf N) Z q u v) u v
+          × (cost P 1 (bitsAt former) (renewedAt rows former P mates (belowOf N) Z q u v) u v ≡ cost P 1 (bitsAt former) q u v)
+      unfolding roomAt
+      again-right q u v l k e =
+          ⊎-elim
+          (λ h. subst Right (sym (renewed-row rows former P mates (belowOf N) Z q u v h))
+          (row h (ltb-true (next) P (sym (stands-row rows former P mates (belowOf N) Z caps q u v h) ∙ e))
+          (first-cases (suitsAt rows former mates (belowOf N) Z (cost P 1 (bitsAt former) q u v) u v) (P - q) q)))
+          (λ h. subst Right (sym (renewed-store rows former P mates (belowOf N) Z q u v h))
+          (store h (sym (stands-store rows former P mates (belowOf N) Z caps q u v h) ∙ e)))
+          (lt-or-ge q P)
+        where
+          Right : ℕ → Type 0
+          Right r = Allowed P N R Z zone cap free (bitsAt rows) r u v × (cost P 1 (bitsAt former) r u v ≡ cost P 1 (bitsAt former) q u v)
+
+          next : ℕ
+          next = nextFrom rows former P mates (belowOf N) Z q u v
+
+          row : q < P → next < P → First (suitsAt rows former mates (belowOf N) Z (cost P 1 (bitsAt former) q u v) u v) (P - q) q next → Right next
+          row h i (inl f) = suits-right u v next (cost P 1 (bitsAt former) q u v) l k i (f .2)
+          row h i (inr f) = absurd (omega (arith, f .0))
+
+          store : P ≤ q → roomAt rows P caps u ≡ true → Right P
+          store h r = (
+            inr (refl, l, k, omega (arith, ltb-true (copies P (bitsAt rows) u) (getD caps u 0) r, capped u l)),
+            omega (arith, cost-store P 1 (bitsAt former) light q u v h, cost-store P 1 (bitsAt former) light P u v (omega arith)),
+          )
+
+      -- A closed simple walk that gains, and whose arcs stand in the rows, is a circuit of them again.
+      pub again-round : (w : Walk) → Ring P N former w → stands rows former P mates (belowOf N) Z caps w ≡ true
+          → Round P N R Z 1 zone cap (bitsAt former) free (bitsAt rows) (renewed rows former P mates (belowOf N) Z w)
+      unfolding stands
+      again-round w r e =
+          record {
+            closed = r .closed;
+            distinct = r .distinct;
+            arcs = λ i l. at i l .0;
+            gains = omega (
+              arith,
+              sum-cong (w .len)
+                  (λ i. cost P 1 (bitsAt former) (renewedAt rows former P mates (belowOf N) Z (w .partition i) (w .node (suc i)) (w .node i)) (w .node (suc i)) (w .node i))
+                  (λ i. cost P 1 (bitsAt former) (w .partition i) (w .node (suc i)) (w .node i)) (λ i l. at i l .1),
+              r .gains,
+            );
+          }
+        where
+          arc : ℕ → Bool
+          arc i = standsAt rows former P mates (belowOf N) Z caps (w .partition i) (w .node (suc i)) (w .node i)
+
+          at : (i : ℕ) → i < w .len
+              → Allowed P N R Z zone cap free (bitsAt rows) (renewedAt rows former P mates (belowOf N) Z (w .partition i) (w .node (suc i)) (w .node i)) (w .node (suc i)) (w .node i)
+              × (cost P 1 (bitsAt former) (renewedAt rows former P mates (belowOf N) Z (w .partition i) (w .node (suc i)) (w .node i)) (w .node (suc i)) (w .node i)
+              ≡ cost P 1 (bitsAt former) (w .partition i) (w .node (suc i)) (w .node i))
+          at i l =
+              again-right (w .partition i) (w .node (suc i)) (w .node i) (r .nodes (suc i) l) (r .nodes i (omega arith))
+              (every-at (w .len) i arc (both (ltb 0 (w .len)) (everyTo (w .len) arc) e .1) l)
+
+    -- ---- a cycle of the graph
+
     -- The cells of arcs are an exchange graph of the rows: each exchange has an arc that weighs no more, a node with room has one to each node,
     -- and each arc is allowed in some partition, or over the store, at what it weighs.
     module _
+        (arcs : List ℕ)
         (exchanges :
         (p a b : ℕ) → p < P → Exchange N R Z zone free (bitsAt rows) p a b
         → (arcOf arcs a b ≡ 1) × (weightOf arcs a b + bitsAt former p b ≤ 1 + bitsAt former p a))
@@ -133,14 +239,15 @@ module _ (P N R Z : ℕ) (zone cap : ℕ → ℕ) (free : ℕ → ℕ → ℕ) (
         (u v : ℕ) → u < N → v < N → arcOf arcs u v ≡ 1
         → (q : ℕ) × (Allowed P N R Z zone cap free (bitsAt rows) q u v × (cost P 1 (bitsAt former) q u v ≡ weightOf arcs u v)))
       where
+        -- The partitions that are looked up.
+        abbrev wit : ℕ → ℕ → ℕ
+        wit = witnessOf rows former P mates arcs (belowOf N) Z
+
         -- The first partition that suits an arc, or P, allows it, and the arc costs there what it weighs.
         first-right : (u v r : ℕ) → u < N → v < N → arcOf arcs u v ≡ 1 → First (suitsAt rows former mates (belowOf N) Z (weightOf arcs u v) u v) P 0 r
             → Allowed P N R Z zone cap free (bitsAt rows) r u v × (cost P 1 (bitsAt former) r u v ≡ weightOf arcs u v)
         unfolding okOf
-        first-right u v r l k a (inl f) =
-            let h = suits-has mates (belowOf N) Z (getD rows r 0) (getD former r 0) (weightOf arcs u v) u v (f .2) in
-            let i : r < P = omega (arith, f .1) in
-            (inl (i, ok-right .sound r u v i l k (h .0) (h .1) (h .3)), omega (arith, h .2, cost-row P 1 (bitsAt former) light r u v i))
+        first-right u v r l k a (inl f) = suits-right u v r (weightOf arcs u v) l k (omega (arith, f .1)) (f .2)
         first-right u v r l k a (inr f) = none (there u v l k a .0) (there u v l k a .1 .0) (there u v l k a .1 .1)
           where
             none : (q : ℕ) → Allowed P N R Z zone cap free (bitsAt rows) q u v → cost P 1 (bitsAt former) q u v ≡ weightOf arcs u v
@@ -174,64 +281,15 @@ module _ (P N R Z : ℕ) (zone cap : ℕ → ℕ) (free : ℕ → ℕ → ℕ) (
         witness-graph =
             record { nodes = refl; shift = refl; exchanges = exchanges; room = room; witness = λ u v l k a. witness-right u v l k a }
 
-        -- The rows after the exchanges of a cycle over the nodes of a list.
-        module _ (nodes : List ℕ) (m : ℕ) (c : IsCycle (graphOf arcs N) m (λ t. getD nodes t 0)) (many : P ≤ bufferRows) (a : P ≤ length rows) (b : P ≤ length former)
-            (d : arcCells ≤ length arcs) (e : m < length nodes)
-          where
-            abbrev new : List ℕ
-            new = turnedOf rows former P mates arcs (belowOf N) Z nodes m
+        -- A cycle over the nodes of a list, each arc at its witness, is a circuit of the rows.
+        pub cycle-round : (nodes : List ℕ) (m : ℕ) → IsCycle (graphOf arcs N) m (λ t. getD nodes t 0)
+            → Round P N R Z 1 zone cap (bitsAt former) free (bitsAt rows) (cycleOf rows former P mates arcs (belowOf N) Z nodes m)
+        cycle-round nodes m c =
+            graph-circuit P N R Z 1 zone cap (bitsAt former) free (bitsAt rows) (graphOf arcs N) wit witness-graph m (λ t. getD nodes t 0) c
 
-            abbrev walkThere : Walk
-            walkThere = freedOf rows former P mates arcs (belowOf N) Z nodes m
-
-            new-walked : new ≡ walkedOf P walkThere rows
-            unfolding turnedOf
-            new-walked =
-                rw (
-                  le-ltb mostNodes m (omega (arith, c .few, M .few)),
-                  le-ltb bufferRows P many,
-                  le-ltb (length rows) P a,
-                  le-ltb (length former) P b,
-                  le-ltb (length arcs) arcCells d,
-                  lt-ltb m (length nodes) e,
-                )
-
-            round : Round P N R Z 1 zone cap (bitsAt former) free (bitsAt rows) (cycleOf rows former P mates arcs (belowOf N) Z nodes m)
-            round = graph-circuit P N R Z 1 zone cap (bitsAt former) free (bitsAt rows) (graphOf arcs N) wit witness-graph m (λ t. getD nodes t 0) c
-
-            freed : Round P N R Z 1 zone cap (bitsAt former) free (bitsAt rows) walkThere
-            freed =
-                uncross-circuit P N R Z 1 zone cap (bitsAt former) free (bitsAt rows) ok ok-right light m (cycleOf rows former P mates arcs (belowOf N) Z nodes m)
-                (omega arith) round
-                .0
-
-            -- They are the layout that the circuit leads to.
-            pub turned-improved : SameLayout P N (improved P 1 (bitsAt former) ok (cycleOf rows former P mates arcs (belowOf N) Z nodes m) (bitsAt rows)) (bitsAt new)
-            unfolding improved
-            turned-improved p l t k =
-                sym
-                (ap (λ (r : List ℕ). bitsAt r p t) new-walked
-                ∙ walked-bit P N R Z 1 zone cap (bitsAt former) free rows walkThere a freed p l t (omega (arith, M .few)))
-
-            -- They are rows of nodes below N.
-            pub turned-small : (p : ℕ) → p < P → getD new p 0 < 2 ^ N
-            turned-small p l =
-                subst (λ (r : List ℕ). getD r p 0 < 2 ^ N) (sym new-walked)
-                (walked-small P N R Z 1 zone cap (bitsAt former) free rows walkThere a freed p l (M .few) (small p l))
-
-            -- They are a better layout.
-            pub turned-better : Better P N R Z 1 zone cap (bitsAt former) free (bitsAt rows) (bitsAt new)
-            turned-better =
-                better-cong P N R Z 1 zone cap (bitsAt former) free (bitsAt rows)
-                (improved P 1 (bitsAt former) ok (cycleOf rows former P mates arcs (belowOf N) Z nodes m) (bitsAt rows)) (bitsAt rows) (bitsAt new)
-                (λ p l t k. refl) turned-improved
-                (improved-better P N R Z 1 zone cap (bitsAt former) free (bitsAt rows) ok ok-right (M .inside) light s
-                (cycleOf rows former P mates arcs (belowOf N) Z nodes m) round)
-
-        -- The rows after the exchanges of the cycle that the search ends with, where the list holds its way back.
+        -- The cycle that the search ends with, where the list holds its way back.
         module _ (some : 1 ≤ N) (k v : ℕ) (o : outcome (graphOf arcs N) ≡ Cycle k v) (nodes : List ℕ)
-            (held : (t : ℕ) → t ≤ cycleLength (graphOf arcs N) k v → getD nodes t 0 ≡ back (graphOf arcs N) k v t) (many : P ≤ bufferRows) (a : P ≤ length rows)
-            (b : P ≤ length former) (d : arcCells ≤ length arcs) (e : cycleLength (graphOf arcs N) k v < length nodes)
+            (held : (t : ℕ) → t ≤ cycleLength (graphOf arcs N) k v → getD nodes t 0 ≡ back (graphOf arcs N) k v t)
           where
             abbrev m : ℕ
             m = cycleLength (graphOf arcs N) k v
@@ -255,19 +313,3 @@ module _ (P N R Z : ℕ) (zone cap : ℕ → ℕ) (free : ℕ → ℕ → ℕ) (
                         (λ i l. ap₂ (weightOf arcs) (held (suc i) l) (held i (omega arith))),
                   );
                 }
-
-            -- They are the next layout.
-            pub turned-next : SameLayout P N (nextLayout P 1 (bitsAt former) ok (graphOf arcs N) wit (bitsAt rows) (Cycle k v))
-                (bitsAt (turnedOf rows former P mates arcs (belowOf N) Z nodes m))
-            unfolding nextLayout cycleWalk
-            turned-next p l t h =
-                improved-same P 1 (bitsAt former) ok
-                {w = cycleWalk (graphOf arcs N) wit k v}
-                {u = cycleOf rows former P mates arcs (belowOf N) Z nodes m}
-                record {
-                  lens = refl;
-                  nodes = λ i g. sym (held i g);
-                  partitions = λ i g. ap₂ wit (sym (held (suc i) g)) (sym (held i (omega arith)));
-                }
-                (bitsAt rows) p t
-                ∙ turned-improved nodes m held-cycle many a b d e p l t h

@@ -1,8 +1,8 @@
 -- The steps of the loops, over plain lists and numbers: cells that are written or shifted, parts of a walk, and the exchanges of a walk.
 -- Assumes nothing.
-use Prim.Native.Nat.{ℕ, zero, suc, _+_, _-_, _/_, _^_, _≤_, _<_}
+use Prim.Native.Nat.{ℕ, zero, suc, _+_, _-_, _*_, _/_, _^_, _≤_, _<_}
 use mathlib.Core.Path.{_≡_, refl, sym, ap, _∙_, subst}
-use mathlib.Core.Bool.{Bool, true, false, cond}
+use mathlib.Core.Bool.{Bool, true, false, cond, _&&_, and-true, and-false}
 use mathlib.Core.List.{List}
 use mathlib.Core.Logic.{⊎-elim}
 use native.Mathlib.Nat.{mul-one, zero-add}
@@ -12,18 +12,20 @@ use lib.Dec.{ltb}
 use lib.ListN.{length, getD, set, length-set}
 use lib.Seq.{getD-set-same, getD-set-other}
 use borrow.Author.Tests.{lt-ltb, le-ltb}
+use Rattle.sums.specs.TermsSums.{everyTo}
 use Rattle.sums.proofs.Sum.{lt-or-ge}
+use Rattle.sums.proofs.Tests.{every-cong, every-fails}
 use Rattle.cluster.specs.Terms.{bufferRows}
 use Rattle.sets.specs.ModelBits.{maskBits, bit, withOf, withoutOf, bitsAt}
 use Rattle.sets.proofs.Laws.{bit-high, bit-with, bit-with-same}
 use Rattle.swaps.specs.ModelBlocks.{blockRows, ChangedIn}
 use Rattle.cells.specs.ModelCells.{put}
 use Rattle.cells.proofs.Cells.{put-more, length-put, getD-put-in, getD-put-out}
-use Rattle.exchange.specs.ModelUncross.{Walk, Same, partner, firstCrossed, inner, outer, split, uncross}
+use Rattle.exchange.specs.ModelUncross.{Walk, Same, partner, firstCrossed, inner, outer, walk-costs, split, uncross}
 use Rattle.exchange.proofs.Uncross.{skip-low, skip-high, wrap-low, wrap-end, first-pair}
 use Rattle.exchange.proofs.Walk.{uncross-stop, uncross-go, uncross-same, same-trans}
-use Rattle.walks.specs.ModelWalks.{okOf, witnessOf, walkIn, innerGains}
-use Rattle.circuits.specs.ModelCircuits.{witnessIn, cycleOf, freedOf, exchanged, walkedOf}
+use Rattle.walks.specs.ModelWalks.{okOf, witnessOf, walkIn, innerGains, renewedAt, renewed, standsAt, stands}
+use Rattle.circuits.specs.ModelCircuits.{witnessIn, cycleOf, freedOf, exchanged, walkedOf, turnedOf}
 
 -- ---- cells
 
@@ -138,6 +140,25 @@ module _ (P : ℕ) (g : ℕ → ℕ → ℕ) (ok : ℕ → ℕ → ℕ → Bool)
   unfolding uncross
   free-end n w l s = let e : n ≡ 0 = omega arith in subst (λ (k : ℕ). Same v (uncross k P 1 g ok w)) e s
 
+-- Of a walk with arcs some are left.
+pub uncross-some : (P : ℕ) (g : ℕ → ℕ → ℕ) (ok : ℕ → ℕ → ℕ → Bool) (n : ℕ) (w : Walk) → 0 < w .len → 0 < uncross n P 1 g ok w .len
+unfolding uncross
+uncross-some P g ok zero w l = l
+uncross-some P g ok (suc n) w l =
+    ⊎-elim
+    (λ a. let d = first-pair P ok w a in
+    subst (λ (u : Walk). 0 < u .len) (sym (uncross-go P 1 g ok n w a))
+    (uncross-some P g ok n (split P 1 g w (firstCrossed P ok w) (partner P ok w (firstCrossed P ok w))) (part-some (firstCrossed P ok w) (partner P ok w (firstCrossed P ok w)) (d .0) (d .1))))
+    (λ b. subst (λ (u : Walk). 0 < u .len) (sym (uncross-stop P 1 g ok (suc n) w b)) l)
+    (lt-or-ge (firstCrossed P ok w) (w .len))
+  where
+    part-some : (i j : ℕ) → i < j → j < w .len → 0 < split P 1 g w i j .len
+    part-some i j a b = unfold split in go (ltb (walk-costs P 1 g (inner w i j)) ((j - i) * 1))
+      where
+        go : (t : Bool) → 0 < cond t (inner w i j) (outer w i j) .len
+        go true = omega arith
+        go false = omega arith
+
 -- ---- the exchanges of a walk
 
 module _ (P : ℕ) (y q : ℕ → ℕ) (rows : List ℕ) where
@@ -186,23 +207,94 @@ exchanged-same P s rows zero l = refl
 exchanged-same P s rows (suc i) l =
     rw (s .partitions i l, s .nodes i (omega arith), s .nodes (suc i) l, exchanged-same P s rows i (omega arith))
 
--- The rows after the exchanges of a walk that is loaded into cells and freed there.
-module _ (rows former : List ℕ) (P : ℕ) (mates arcs : List ℕ) (all z : ℕ) (nodes : List ℕ) (m : ℕ) where
-  pub loaded : (ys qs y₀ q₀ : List ℕ) → ys ≡ put 0 (λ t. getD nodes t 0) (m + 1) y₀ → m + 1 ≤ length y₀
-      → qs ≡ put 0 (witnessIn nodes rows former P mates arcs all z) m q₀ → m ≤ length q₀
-      → Same (cycleOf rows former P mates arcs all z nodes m) (walkIn m ys qs)
-  loaded ys qs y₀ q₀ e a f b =
+pub walked-same : (P : ℕ) {w u : Walk} → Same w u → (rows : List ℕ) → walkedOf P w rows ≡ walkedOf P u rows
+walked-same P {w} {u} s rows =
+    exchanged-same P s rows (w .len) (omega arith) ∙ ap (λ (k : ℕ). exchanged P (u .node) (u .partition) k rows) (s .lens)
+
+-- ---- a turn
+
+module _ (rows former : List ℕ) (P : ℕ) (mates : List ℕ) (all z : ℕ) where
+  -- Walks that are the same are so when freed, and lead to the same rows.
+  pub freed-same : {w u : Walk} → Same w u → Same (freedOf rows former P mates all z w) (freedOf rows former P mates all z u)
+  freed-same {w} {u} s =
+      subst (λ (k : ℕ). Same (freedOf rows former P mates all z w) (uncross k P 1 (bitsAt former) (okOf rows mates all z) u)) (s .lens)
+      (uncross-same P 1 (bitsAt former) (okOf rows mates all z) (w .len) s)
+
+  pub turned-same : {w u : Walk} → Same w u → turnedOf rows former P mates all z w ≡ turnedOf rows former P mates all z u
+  turned-same s = walked-same P (freed-same s) rows
+
+  -- A walk without arcs stays, and so do the rows.
+  pub freed-none : (w : Walk) → w .len ≡ 0 → freedOf rows former P mates all z w ≡ w
+  unfolding uncross
+  freed-none w e = ap (λ (k : ℕ). uncross k P 1 (bitsAt former) (okOf rows mates all z) w) e
+
+  pub turned-none : (w : Walk) → w .len ≡ 0 → turnedOf rows former P mates all z w ≡ rows
+  unfolding exchanged
+  turned-none w e = ap (λ (u : Walk). walkedOf P u rows) (freed-none w e) ∙ ap (λ (k : ℕ). exchanged P (w .node) (w .partition) k rows) e
+
+  -- The rows stay as many.
+  pub turned-length : (w : Walk) → length (turnedOf rows former P mates all z w) ≡ length rows
+  turned-length w = let u = freedOf rows former P mates all z w in length-exchanged P (u .node) (u .partition) rows (u .len)
+
+-- ---- a walk in cells
+
+-- The walk of a cycle that is loaded into cells.
+pub loaded : (rows former : List ℕ) (P : ℕ) (mates arcs : List ℕ) (all z : ℕ) (nodes : List ℕ) (m : ℕ) (ys qs y₀ q₀ : List ℕ)
+    → ys ≡ put 0 (λ t. getD nodes t 0) (m + 1) y₀ → m + 1 ≤ length y₀ → qs ≡ put 0 (witnessIn nodes rows former P mates arcs all z) m q₀ → m ≤ length q₀
+    → Same (cycleOf rows former P mates arcs all z nodes m) (walkIn m ys qs)
+loaded rows former P mates arcs all z nodes m ys qs y₀ q₀ e a f b =
+    record {
+      lens = refl;
+      nodes = λ t l. sym (ap (λ (s : List ℕ). getD s t 0) e ∙ getD-first (λ t. getD nodes t 0) (m + 1) y₀ t (omega arith) a);
+      partitions = λ t l.
+          ap (λ (k : ℕ). witnessOf rows former P mates arcs all z (getD nodes k 0) (getD nodes t 0)) (sym (add-one t))
+          ∙ sym (ap (λ (s : List ℕ). getD s t 0) f ∙ getD-first (witnessIn nodes rows former P mates arcs all z) m q₀ t l b);
+    }
+
+-- New partitions for the arcs of a walk in cells, arc by arc: qs holds those of the first t arcs.
+module _ (rows former : List ℕ) (P : ℕ) (mates : List ℕ) (all z : ℕ) (caps ys q₀ : List ℕ) where
+  -- The new partition of the arc t, and whether it stands.
+  abbrev pub renewedIn : ℕ → ℕ
+  renewedIn t = renewedAt rows former P mates all z (getD q₀ t 0) (getD ys (t + 1) 0) (getD ys t 0)
+
+  abbrev pub standsIn : ℕ → Bool
+  standsIn t = standsAt rows former P mates all z caps (getD q₀ t 0) (getD ys (t + 1) 0) (getD ys t 0)
+
+  module _ (qs : List ℕ) (t : ℕ) (e : qs ≡ put 0 renewedIn t q₀) where
+    -- The arc t is still at its old partition.
+    still : getD qs t 0 ≡ getD q₀ t 0
+    still = ap (λ (s : List ℕ). getD s t 0) e ∙ getD-put-out 0 renewedIn t q₀ t 0 (λ j l f. omega arith)
+
+    -- What was found of it is of the walk as it was.
+    pub stands-at : (b : Bool) → b ≡ standsAt rows former P mates all z caps (getD qs t 0) (getD ys (t + 1) 0) (getD ys t 0) → standsIn t ≡ b
+    stands-at b h = sym (h ∙ ap (λ (q : ℕ). standsAt rows former P mates all z caps q (getD ys (t + 1) 0) (getD ys t 0)) still)
+
+    pub renewed-at : (r : ℕ) → r ≡ renewedAt rows former P mates all z (getD qs t 0) (getD ys (t + 1) 0) (getD ys t 0) → r ≡ renewedIn t
+    renewed-at r h = h ∙ ap (λ (q : ℕ). renewedAt rows former P mates all z q (getD ys (t + 1) 0) (getD ys t 0)) still
+
+  every-arc : (m : ℕ)
+      → everyTo m standsIn ≡ everyTo m (λ t. standsAt rows former P mates all z caps (getD q₀ t 0) (getD ys (suc t) 0) (getD ys t 0))
+  every-arc m =
+      every-cong m standsIn (λ t. standsAt rows former P mates all z caps (getD q₀ t 0) (getD ys (suc t) 0) (getD ys t 0))
+      (λ t l. ap (λ (k : ℕ). standsAt rows former P mates all z caps (getD q₀ t 0) (getD ys k 0) (getD ys t 0)) (add-one t))
+
+  -- An arc does not stand.
+  pub renew-fails : (m t : ℕ) → t < m → standsIn t ≡ false → false ≡ stands rows former P mates all z caps (walkIn m ys q₀)
+  unfolding stands
+  renew-fails m t l e = sym (ap (λ (b : Bool). ltb 0 m && b) (sym (every-arc m) ∙ every-fails m t standsIn l e) ∙ and-false (ltb 0 m))
+
+  -- All stand.
+  pub renew-stands : (m : ℕ) → everyTo m standsIn ≡ true → ltb 0 m ≡ stands rows former P mates all z caps (walkIn m ys q₀)
+  unfolding stands
+  renew-stands m e = sym (ap (λ (b : Bool). ltb 0 m && b) (sym (every-arc m) ∙ e) ∙ and-true (ltb 0 m))
+
+  pub renew-made : (m : ℕ) (qs : List ℕ) → qs ≡ put 0 renewedIn m q₀ → m ≤ length q₀
+      → Same (renewed rows former P mates all z (walkIn m ys q₀)) (walkIn m ys qs)
+  renew-made m qs e b =
       record {
         lens = refl;
-        nodes = λ t l. sym (ap (λ (s : List ℕ). getD s t 0) e ∙ getD-first (λ t. getD nodes t 0) (m + 1) y₀ t (omega arith) a);
+        nodes = λ t l. refl;
         partitions = λ t l.
-            ap (λ (k : ℕ). witnessOf rows former P mates arcs all z (getD nodes k 0) (getD nodes t 0)) (sym (add-one t))
-            ∙ sym (ap (λ (s : List ℕ). getD s t 0) f ∙ getD-first (witnessIn nodes rows former P mates arcs all z) m q₀ t l b);
+            ap (λ (k : ℕ). renewedAt rows former P mates all z (getD q₀ t 0) (getD ys k 0) (getD ys t 0)) (sym (add-one t))
+            ∙ sym (ap (λ (s : List ℕ). getD s t 0) e ∙ getD-first renewedIn m q₀ t l b);
       }
-
-  pub turned-in : (w u : Walk) → Same (cycleOf rows former P mates arcs all z nodes m) w → Same (uncross m P 1 (bitsAt former) (okOf rows mates all z) w) u
-      → walkedOf P u rows ≡ walkedOf P (freedOf rows former P mates arcs all z nodes m) rows
-  turned-in w u s t =
-      let r = same-trans (uncross-same P 1 (bitsAt former) (okOf rows mates all z) m s) t in
-      let v = freedOf rows former P mates arcs all z nodes m in
-      sym (exchanged-same P r rows (v .len) (omega arith) ∙ ap (λ (k : ℕ). exchanged P (u .node) (u .partition) k rows) (r .lens))

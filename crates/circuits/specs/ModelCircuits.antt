@@ -2,23 +2,21 @@
 -- Assumes nothing.
 use Prim.Native.Nat.{ℕ, zero, suc, _+_}
 use mathlib.Core.List.{List}
-use lib.ListN.{length, getD, set}
+use lib.ListN.{getD, set}
 use lib.Dec.{ltb}
 use mathlib.Core.Bool.{cond}
-use Rattle.cluster.specs.Terms.{bufferRows, mostNodes}
-use Rattle.cycles.specs.ModelGraph.{arcCells}
 use Rattle.sets.specs.ModelBits.{bitsAt, withOf, withoutOf}
 use Rattle.exchange.specs.ModelUncross.{Walk, walk, uncross}
 unfoldable pub use Rattle.walks.specs.ModelWalks.{okOf, witnessOf}
 
-module _ (rows former : List ℕ) (P : ℕ) (mates arcs : List ℕ) (all z : ℕ) where
-  -- The walk over the nodes of a cycle of m arcs, each at its witness.
-  abbrev pub cycleOf : List ℕ → ℕ → Walk
-  cycleOf nodes m = walk m (λ t. getD nodes t 0) (λ t. witnessOf rows former P mates arcs all z (getD nodes (suc t) 0) (getD nodes t 0))
+-- The walk over the nodes of a cycle of m arcs, each at its witness.
+abbrev pub cycleOf : List ℕ → List ℕ → ℕ → List ℕ → List ℕ → ℕ → ℕ → List ℕ → ℕ → Walk
+cycleOf rows former P mates arcs all z nodes m =
+    walk m (λ t. getD nodes t 0) (λ t. witnessOf rows former P mates arcs all z (getD nodes (suc t) 0) (getD nodes t 0))
 
-  -- That walk, freed of crossed pairs.
-  abbrev pub freedOf : List ℕ → ℕ → Walk
-  freedOf nodes m = uncross m P 1 (bitsAt former) (okOf rows mates all z) (cycleOf nodes m)
+-- A walk, freed of crossed pairs.
+abbrev pub freedOf : List ℕ → List ℕ → ℕ → List ℕ → ℕ → ℕ → Walk → Walk
+freedOf rows former P mates all z w = uncross (w .len) P 1 (bitsAt former) (okOf rows mates all z) w
 
 -- The witness of the arc t over the nodes of a walk.
 abbrev pub witnessIn : List ℕ → List ℕ → List ℕ → ℕ → List ℕ → List ℕ → ℕ → ℕ → ℕ → ℕ
@@ -35,12 +33,6 @@ exchanged P y q (suc i) rows =
 abbrev pub walkedOf : ℕ → Walk → List ℕ → List ℕ
 walkedOf P w rows = exchanged P (w .node) (w .partition) (w .len) rows
 
--- The rows after the exchanges of a cycle that is freed of crossed pairs; the rows as they are, where a list is too short or there is too much.
-unfoldable pub turnedOf : List ℕ → List ℕ → ℕ → List ℕ → List ℕ → ℕ → ℕ → List ℕ → ℕ → List ℕ
-turnedOf rows former P mates arcs all z nodes m =
-    cond (ltb mostNodes m) rows
-    (cond (ltb bufferRows P) rows
-    (cond (ltb (length rows) P) rows
-    (cond (ltb (length former) P) rows
-    (cond (ltb (length arcs) arcCells) rows
-    (cond (ltb m (length nodes)) (walkedOf P (freedOf rows former P mates arcs all z nodes m) rows) rows)))))
+-- The rows after the exchanges of a walk that is freed of crossed pairs.
+abbrev pub turnedOf : List ℕ → List ℕ → ℕ → List ℕ → ℕ → ℕ → Walk → List ℕ
+turnedOf rows former P mates all z w = walkedOf P (freedOf rows former P mates all z w) rows

@@ -1,22 +1,21 @@
 // From a cycle of the exchange graph to the exchanges in the rows: each arc gets a partition in which it is an exchange, the circuit is freed of
-// crossed pairs, and its exchanges are made. A row is a set of nodes.
+// crossed pairs, and its exchanges are made. A circuit that was turned may stand again in the new rows, at other partitions. A row is a set of nodes;
+// a walk of m arcs is two slices, its m + 1 nodes and the partitions of its arcs.
 ghost use mathlib.Core.Path.{_≡_};
+ghost use mathlib.Core.Bool.{true};
 ghost use Prim.Native.Nat.{_+_, _-_, _≤_, _<_};
 ghost use lib.ListN.{length, getD};
 ghost use Rattle.cells.specs.ModelCells.{put};
 ghost use Rattle.cluster.specs.Terms.{mostNodes, bufferRows};
-ghost use Rattle.exchange.specs.ModelUncross.{split, uncross, Same};
+ghost use Rattle.exchange.specs.ModelUncross.{split, Same};
 ghost use Rattle.sets.specs.ModelBits.{bitsAt};
 ghost use Rattle.swaps.specs.ModelBlocks.{ChangedIn};
-ghost use Rattle.walks.specs.ModelWalks.{okOf, walkIn};
-ghost use Rattle.circuits.specs.ModelCircuits.{witnessIn, freedOf, walkedOf, turnedOf};
-use cluster::Cluster;
+ghost use Rattle.walks.specs.ModelWalks.{walkIn, renewed, stands};
+ghost use Rattle.circuits.specs.ModelCircuits.{cycleOf, freedOf, walkedOf, turnedOf};
 
-// The most nodes, as nodes are numbered.
-const NODES: u32 = Cluster::NODES as u32;
-
-// The nodes of a walk into y, and the witnesses of its arcs into q.
-fn load(
+// The cycle of m arcs over the nodes of `walk` (arc i goes from walk[i + 1] to walk[i]) into y and q, each arc at its witness. `arcs` holds the
+// exchange graph.
+pub fn load(
     y: &mut [u32],
     q: &mut [u32],
     walk: &[u32],
@@ -30,10 +29,9 @@ fn load(
     z: u32,
 )
     requires { ⌜ (m < length (now y)) × (m ≤ length (now q)) × (m < length (now walk)) × (partitions ≤ bufferRows) ⌝ }
-    ensures { λ _. ⌜ (now (y .exit) ≡ put 0 (λ t. getD (now (walk .entry)) t 0) (m + 1) (now (y .entry)))
-        × (now (q .exit)
-        ≡ put 0 (witnessIn (now (walk .entry)) (now (rows .entry)) (now (former .entry)) partitions (now (mates .entry)) (now (arcs .entry)) all z) m
-        (now (q .entry))) ⌝ }
+    ensures { λ _. ⌜ (length (now (y .exit)) ≡ length (now (y .entry))) × (length (now (q .exit)) ≡ length (now (q .entry)))
+        × Same (cycleOf (now (rows .entry)) (now (former .entry)) partitions (now (mates .entry)) (now (arcs .entry)) all z (now (walk .entry)) m)
+        (walkIn m (now (y .exit)) (now (q .exit))) ⌝ }
 {
     let mut t = 0;
     while t < m {
@@ -52,6 +50,50 @@ fn load(
         t += 1;
     }
     y[m] = walk[m];
+}
+
+// New partitions for the arcs of the walk, in the rows that its exchanges led to: each from its last one on, at the cost that it had. Whether all
+// were found is answered; where one was not, q holds nothing of use.
+pub fn renew(
+    y: &[u32],
+    q: &mut [u32],
+    m: usize,
+    rows: &[u32],
+    former: &[u32],
+    partitions: usize,
+    mates: &[u32],
+    caps: &[u32],
+    all: u32,
+    z: u32,
+) -> bool
+    requires { ⌜ (m < length (now y)) × (m ≤ length (now q)) × (partitions ≤ bufferRows) ⌝ }
+    ensures { λ r. ⌜ (length (now (q .exit)) ≡ length (now (q .entry)))
+        × (r ≡ stands (now (rows .entry)) (now (former .entry)) partitions (now (mates .entry)) all z (now (caps .entry)) (walkIn m (now (y .entry)) (now (q .entry))))
+        × (r ≡ true
+        → Same (renewed (now (rows .entry)) (now (former .entry)) partitions (now (mates .entry)) all z (walkIn m (now (y .entry)) (now (q .entry))))
+        (walkIn m (now (y .entry)) (now (q .exit)))) ⌝ }
+{
+    let mut t = 0;
+    while t < m {
+        let arc = walks::renewed(
+            rows,
+            former,
+            partitions,
+            mates,
+            caps,
+            all,
+            z,
+            q[t],
+            y[t + 1],
+            y[t],
+        );
+        if !arc.stands {
+            return false;
+        }
+        q[t] = arc.partition as u32;
+        t += 1;
+    }
+    0 < m
 }
 
 // The n cells from `start` on give way to those that stand k further on.
@@ -106,7 +148,7 @@ fn free(
 ) -> usize
     requires { ⌜ (m ≤ mostNodes) × (m < length (now y)) × (m ≤ length (now q)) ⌝ }
     ensures { λ r. ⌜ (r ≤ m) × (length (now (y .exit)) ≡ length (now (y .entry))) × (length (now (q .exit)) ≡ length (now (q .entry)))
-        × Same (uncross m partitions 1 (bitsAt (now (former .entry))) (okOf (now (rows .entry)) (now (mates .entry)) all z) (walkIn m (now (y .entry)) (now (q .entry))))
+        × Same (freedOf (now (rows .entry)) (now (former .entry)) partitions (now (mates .entry)) all z (walkIn m (now (y .entry)) (now (q .entry))))
         (walkIn r (now (y .exit)) (now (q .exit))) ⌝ }
 {
     let mut len = m;
@@ -143,79 +185,33 @@ fn make(rows: &mut [u32], partitions: usize, y: &[u32], q: &[u32], m: usize) -> 
     changed
 }
 
-// The cycle of the m arcs over the nodes of `walk`, where all lengths are right. The blocks of the changed rows are answered.
-fn turn_all(
-    rows: &mut [u32],
-    former: &[u32],
-    partitions: usize,
-    mates: &[u32],
-    arcs: &[u32],
-    all: u32,
-    z: u32,
-    walk: &[u32],
-    m: usize,
-) -> u32
-    requires { ⌜ (m ≤ mostNodes) × (partitions ≤ bufferRows) × (partitions ≤ length (now rows)) × (m < length (now walk)) ⌝ }
-    ensures { λ r. ⌜ (now (rows .exit)
-        ≡ walkedOf partitions
-        (freedOf (now (rows .entry)) (now (former .entry)) partitions (now (mates .entry)) (now (arcs .entry)) all z (now (walk .entry)) m)
-        (now (rows .entry))) × ChangedIn r (now (rows .entry)) (now (rows .exit)) ⌝ }
-{
-    let mut y = [0u32; cycles::WALK];
-    let mut q = [0u32; cycles::WALK];
-    load(
-        &mut y,
-        &mut q,
-        walk,
-        m,
-        rows,
-        former,
-        partitions,
-        mates,
-        arcs,
-        all,
-        z,
-    );
-    let n = free(&mut y, &mut q, m, rows, former, partitions, mates, all, z);
-    make(rows, partitions, &y, &q, n)
+// What is left of a walk that was turned: how many arcs, and the blocks of the rows that its turn changed.
+pub struct Turned {
+    pub len: usize,
+    pub changed: u32,
 }
 
-// The exchanges of a cycle of m arcs over the nodes of `walk` (arc i goes from walk[i + 1] to walk[i]), freed of crossed pairs, are made in the
-// rows. `arcs` holds the exchange graph. The blocks of the changed rows are answered. Where a slice is too short, or there are more arcs than nodes or
-// more partitions than a layout has, the rows are kept.
+// The exchanges of the walk, freed of crossed pairs, are made in the rows. What is left of the walk stays in y and q.
 pub fn turn(
+    y: &mut [u32],
+    q: &mut [u32],
+    m: usize,
     rows: &mut [u32],
     former: &[u32],
     partitions: usize,
     mates: &[u32],
-    arcs: &[u32],
     all: u32,
     z: u32,
-    walk: &[u32],
-    m: u32,
-) -> u32
-    ensures { λ r. ⌜ (now (rows .exit)
-        ≡ turnedOf (now (rows .entry)) (now (former .entry)) partitions (now (mates .entry)) (now (arcs .entry)) all z (now (walk .entry)) m)
-        × ChangedIn r (now (rows .entry)) (now (rows .exit)) ⌝ }
+) -> Turned
+    requires { ⌜ (m ≤ mostNodes) × (m < length (now y)) × (m ≤ length (now q)) × (partitions ≤ length (now rows)) × (partitions ≤ bufferRows) ⌝ }
+    ensures { λ r. ⌜ (r .len ≤ m) × (length (now (y .exit)) ≡ length (now (y .entry))) × (length (now (q .exit)) ≡ length (now (q .entry)))
+        × (now (rows .exit)
+        ≡ turnedOf (now (rows .entry)) (now (former .entry)) partitions (now (mates .entry)) all z (walkIn m (now (y .entry)) (now (q .entry))))
+        × Same (freedOf (now (rows .entry)) (now (former .entry)) partitions (now (mates .entry)) all z (walkIn m (now (y .entry)) (now (q .entry))))
+        (walkIn (r .len) (now (y .exit)) (now (q .exit)))
+        × ChangedIn (r .changed) (now (rows .entry)) (now (rows .exit)) ⌝ }
 {
-    if NODES < m {
-        return 0;
-    }
-    if Cluster::PARTITIONS < partitions {
-        return 0;
-    }
-    if rows.len() < partitions {
-        return 0;
-    }
-    if former.len() < partitions {
-        return 0;
-    }
-    if arcs.len() < cycles::ARCS {
-        return 0;
-    }
-    let n = m as usize;
-    if walk.len() <= n {
-        return 0;
-    }
-    turn_all(rows, former, partitions, mates, arcs, all, z, walk, n)
+    let n = free(y, q, m, rows, former, partitions, mates, all, z);
+    let changed = make(rows, partitions, y, q, n);
+    Turned { len: n, changed }
 }

@@ -181,13 +181,15 @@ module _ (former : List ℕ) (P : ℕ) (mates : List ℕ) (all z : ℕ) (few : P
           getD-drop (blockRows * b) rows t 0
           ∙ (sym (er (blockRows * b + t) (omega arith)) ∙ sym (getD-drop (blockRows * b) new t 0))
 
-  -- Where all blocks are right and rows change, the blocks of no changed row stay right.
-  pub kept-changed : (rows new kept : List ℕ) (m : ℕ) → Kept rows former P mates all z 0 kept → ChangedIn m rows new → Kept new former P mates all z m kept
-  kept-changed rows new kept m K C =
+  -- Where rows change, the blocks that were right and have no changed row stay right.
+  pub kept-changed : (rows new kept : List ℕ) (stale m : ℕ) → Kept rows former P mates all z stale kept → ChangedIn m rows new
+      → Kept new former P mates all z (unionOf stale m) kept
+  kept-changed rows new kept stale m K C =
       record {
         long = K .long;
         fresh = λ b h e.
-            block-same rows new kept kept b (λ p d. C .others p (ap (bit m) d ∙ e)) (λ i d. refl) (K .fresh b h (bit-zero b));
+            let u : max (bit stale b) (bit m b) ≡ 0 = sym (bit-union stale m b (omega arith)) ∙ e in
+            block-same rows new kept kept b (λ p d. C .others p (ap (bit m) d ∙ omega arith)) (λ i d. refl) (K .fresh b h (omega arith));
       }
 
   -- A stale block that is filled anew is stale no more.

@@ -1,31 +1,33 @@
--- The machine of improvements over any ground, from any good first rows: an improvement keeps rows good and gains 1 to N in agreement, and where
--- there is none, no rows within the caps agree more with the former ones. What nodes, zones and caps stand for is left to whoever plans with it.
+-- The machine of improvements over any ground, from any good first rows: an improvement keeps states good and gains 1 to N in agreement, whether the
+-- last walk is turned again or a cycle that was found; and where there is none, no rows within the caps agree more with the former ones. What nodes,
+-- zones and caps stand for is left to whoever plans with it.
 -- Assumes nothing.
 use Prim.Native.Nat.{ℕ, zero, suc, _+_, _*_, _^_, _≤_, _<_, min}
 use mathlib.Core.Path.{_≡_, refl, sym, ap, _∙_, subst}
-use mathlib.Core.Bool.{Bool, true, false, not, cond, false≢true}
+use mathlib.Core.Bool.{Bool, true, false, not, cond}
 use mathlib.Core.List.{List}
 use mathlib.Core.Logic.{inl, inr, ⊎-elim}
 use native.Mathlib.Omega.{arith}
 use native.Mathlib.Nat.{mul-one, mul-zero, one-mul, zero-mul, zero-add}
 use lib.Dec.{eqb}
 use lib.ListN.{length, getD, drop, replicate, length-replicate, length-append}
-use borrow.Author.Tests.{ne-eqb, le-leb}
+use borrow.Author.Tests.{eq-eqb, eqb-true, le-leb, not-true, not-false}
 use Rattle.sums.specs.TermsSums.{sumTo, tab}
 use Rattle.sums.proofs.Sum.{lt-or-ge, sum-cong, sum-zero}
 use Rattle.sums.proofs.Tests.{true-or-false}
 use Rattle.sets.specs.ModelBits.{maskBits, bit, bitsAt, meetOf, belowOf, countOf}
 use Rattle.sets.proofs.Laws.{bit-le, bit-lt, bit-high, bit-meet, meet-lt, count-sum}
 use Rattle.cells.specs.ModelCells.{put}
-use Rattle.cells.proofs.Cells.{length-put, getD-put-in, length-tab}
+use Rattle.cells.proofs.Cells.{getD-put-in, length-tab}
 use Rattle.exchange.specs.ModelRow.{Within, Exchange, copies, weigh}
 use Rattle.exchange.specs.ModelLevels.{Graph, Outcome, Potential, Cycle, outcome, back, cycleLength, IsCycle}
 use Rattle.exchange.specs.ModelCircuit.{cost, Allowed, Better}
-use Rattle.exchange.specs.ModelJoin.{ExchangeGraph, improves}
+use Rattle.exchange.specs.ModelUncross.{Walk, Round}
+use Rattle.exchange.specs.ModelJoin.{ExchangeGraph}
 use Rattle.exchange.proofs.Prices.{weigh-le}
 use Rattle.exchange.proofs.Search.{outcome-cycle}
 use Rattle.exchange.proofs.Circuit.{cost-row, cost-store}
-use Rattle.exchange.proofs.Join.{join-potential, no-gain}
+use Rattle.exchange.proofs.Join.{join-potential, no-circuit}
 use Rattle.cluster.specs.Terms.{mostNodes, bufferRows}
 use Rattle.swaps.specs.ModelMates.{Mates}
 use Rattle.graph.specs.ModelArcs.{arcsOf, cellOf}
@@ -33,10 +35,13 @@ use Rattle.graph.proofs.Members.{any}
 use Rattle.graph.proofs.Exchanges.{graph-exchange, graph-room, graph-witness}
 use Rattle.cycles.specs.ModelGraph.{walkCells, arcCells, graphOf, arcOf, weightOf}
 use Rattle.cycles.specs.ModelFound.{searchable, endLength, endWalk, foundLength, foundWalk}
-use Rattle.circuits.specs.ModelCircuits.{turnedOf, okOf, witnessOf}
-use Rattle.circuits.proofs.Improving.{ok-right, witness-graph, turned-length, held-cycle, turned-small, turned-better}
-use Rattle.improve.specs.ModelImprove.{arcsIn, cycleIn, improvesIn, nextIn, ranIn, agreementIn}
-use Rattle.improve.proofs.Runs.{run-keeps, run-ends}
+use Rattle.walks.specs.ModelWalks.{okOf, witnessOf, renewed, stands}
+use Rattle.walks.proofs.Renewing.{stands-some}
+use Rattle.circuits.specs.ModelCircuits.{cycleOf}
+use Rattle.circuits.proofs.Steps.{turned-length}
+use Rattle.circuits.proofs.Improving.{Ring, ok-right, witness-graph, cycle-round, held-cycle, again-round, freed-ring, turned-small, turned-better}
+use Rattle.improve.specs.ModelImprove.{State, begun, arcsIn, cycleIn, foundIn, soughtIn, turnedIn, improvesIn, nextIn, ranIn, agreementIn}
+use Rattle.improve.proofs.Runs.{not-both, run-keeps, run-ends}
 
 -- What a run stands on: the zones of the nodes in the slice of mates, the caps in cells, and a former row for each of the partitions.
 pub record Ground (P N R Z : ℕ) (zone cap : ℕ → ℕ) (former mates caps : List ℕ) : Type 0 where
@@ -51,6 +56,11 @@ pub record Good (P N R Z : ℕ) (zone cap : ℕ → ℕ) (rows : List ℕ) : Typ
   pub long : P ≤ length rows
   pub small : (p : ℕ) → p < P → getD rows p 0 < 2 ^ N
   pub within : Within P N R Z zone cap (bitsAt rows)
+
+-- A good state: good rows, and a last walk that, where it has arcs, is closed and simple and gains.
+pub record GoodState (P N R Z : ℕ) (zone cap : ℕ → ℕ) (former : List ℕ) (s : State) : Type 0 where
+  pub good : Good P N R Z zone cap (s .rows)
+  pub ring : 0 < s .last .len → Ring P N former (s .last)
 
 module _ {P N R Z : ℕ} {zone cap : ℕ → ℕ} {former mates caps : List ℕ} (G : Ground P N R Z zone cap former mates caps) where
   light : (p b : ℕ) → bitsAt former p b ≤ 1
@@ -131,7 +141,7 @@ module _ {P N R Z : ℕ} {zone cap : ℕ → ℕ} {former mates caps : List ℕ}
 
     -- The masks of the rows are their exchange graph.
     pub the-graph : ExchangeGraph P N R Z 1 zone cap (bitsAt former) any (bitsAt rows) graph witness
-    the-graph = witness-graph P N R Z zone cap any (λ p b. refl) rows former mates arcs (G .zones) (g .small) (g .within) exchanges room there
+    the-graph = witness-graph P N R Z zone cap any (λ p b. refl) rows former mates (G .zones) (g .small) (g .within) arcs exchanges room there
 
     -- There is a node, since there are copies.
     some : 1 ≤ N
@@ -149,33 +159,25 @@ module _ {P N R Z : ℕ} {zone cap : ℕ → ℕ} {former mates caps : List ℕ}
     unfolding cycleIn foundLength
     found = ap (λ (b : Bool). cond b (endLength graph (outcome graph)) 0) can-search
 
-    -- The rows can be improved where the search of the graph ends with a cycle.
-    improves-is : improvesIn former P mates caps N Z rows ≡ improves (outcome graph)
-    unfolding improvesIn endLength improves
-    improves-is = ap (λ (n : ℕ). not (eqb n 0)) found ∙ go (outcome graph) refl
+    -- Where a cycle is found, the search of the graph ended with it ..
+    found-cycle : (cycleIn former P mates caps N Z rows ≡ 0 → ⊥) → (k : ℕ) × (v : ℕ) × (outcome graph ≡ Cycle k v)
+    unfolding endLength
+    found-cycle n = go (outcome graph) refl
       where
-        go : (o : Outcome) → outcome graph ≡ o → not (eqb (endLength graph o) 0) ≡ improves o
-        go (Potential k) h = refl
-        go (Cycle k v) h =
-            ap not (ne-eqb (cycleLength graph k v) 0 (λ z. omega (arith, z, outcome-cycle graph k v some h .cycle .some)))
+        go : (o : Outcome) → outcome graph ≡ o → (k : ℕ) × (v : ℕ) × (outcome graph ≡ Cycle k v)
+        go (Potential k) h = absurd (n (found ∙ ap (endLength graph) h))
+        go (Cycle k v) h = (k, v, h)
 
-    pub improves-cycle : improvesIn former P mates caps N Z rows ≡ true → (k : ℕ) × (v : ℕ) × (outcome graph ≡ Cycle k v)
-    unfolding improves
-    improves-cycle e = go (outcome graph) refl (sym improves-is ∙ e)
+    -- .. and where none is, with a potential.
+    found-none : cycleIn former P mates caps N Z rows ≡ 0 → (k : ℕ) × (outcome graph ≡ Potential k)
+    unfolding endLength
+    found-none e = go (outcome graph) refl
       where
-        go : (o : Outcome) → outcome graph ≡ o → improves o ≡ true → (k : ℕ) × (v : ℕ) × (outcome graph ≡ Cycle k v)
-        go (Potential k) h e = absurd (false≢true e)
-        go (Cycle k v) h e = (k, v, h)
+        go : (o : Outcome) → outcome graph ≡ o → (k : ℕ) × (outcome graph ≡ Potential k)
+        go (Potential k) h = (k, h)
+        go (Cycle k v) h = absurd (omega (arith, e, found, ap (endLength graph) h, outcome-cycle graph k v some h .cycle .some))
 
-    pub stays-potential : improvesIn former P mates caps N Z rows ≡ false → (k : ℕ) × (outcome graph ≡ Potential k)
-    unfolding improves
-    stays-potential e = go (outcome graph) refl (sym improves-is ∙ e)
-      where
-        go : (o : Outcome) → outcome graph ≡ o → improves o ≡ false → (k : ℕ) × (outcome graph ≡ Potential k)
-        go (Potential k) h e = (k, h)
-        go (Cycle k v) h e = absurd (false≢true (sym e))
-
-    -- ---- one improvement
+    -- ---- the cycle that is found
 
     module _ (k v : ℕ) (o : outcome graph ≡ Cycle k v) where
       abbrev m : ℕ
@@ -199,93 +201,145 @@ module _ {P N R Z : ℕ} {zone cap : ℕ → ℕ} {former mates caps : List ℕ}
           ∙ (ap (λ (j : ℕ). getD (put 0 (back graph k v) (m + 1) (replicate walkCells 0)) j 0) (sym (zero-add i))
           ∙ getD-put-in 0 (back graph k v) (m + 1) (replicate walkCells 0) i 0 (omega arith) (omega (arith, short)))
 
-      nodes-long : m < length nodes
-      nodes-long = omega (arith, short, ap length walked, length-put 0 (back graph k v) (m + 1) (replicate walkCells 0))
-
       cycle : IsCycle graph m (λ i. getD nodes i 0)
       cycle =
-          held-cycle P N R Z zone cap any (λ p b. refl) rows former mates arcs (G .zones) (g .small) (g .within) exchanges room there some k v o nodes held
-          (G .partitions .1) (g .long) (G .rows) arcs-long nodes-long
+          held-cycle P N R Z zone cap any (λ p b. refl) rows former mates (G .zones) (g .small) (g .within) arcs exchanges room there some k v o nodes held
 
-      turned : nextIn former P mates caps N Z rows ≡ turnedOf rows former P mates arcs (belowOf N) Z nodes m
-      unfolding nextIn endLength
-      turned =
-          ap (turnedOf rows former P mates arcs (belowOf N) Z nodes) (found ∙ ap (endLength graph) o)
+      -- Its walk is a circuit of the rows.
+      found-round : Round P N R Z 1 zone cap (bitsAt former) any (bitsAt rows) (foundIn former P mates caps N Z rows)
+      unfolding foundIn endLength
+      found-round =
+          subst (λ (x : ℕ). Round P N R Z 1 zone cap (bitsAt former) any (bitsAt rows) (cycleOf rows former P mates arcs (belowOf N) Z nodes x))
+          (sym (found ∙ ap (endLength graph) o))
+          (cycle-round P N R Z zone cap any (λ p b. refl) rows former mates (G .zones) (g .small) (g .within) arcs exchanges room there nodes m cycle)
 
-      better : Better P N R Z 1 zone cap (bitsAt former) any (bitsAt rows) (bitsAt (nextIn former P mates caps N Z rows))
-      better =
-          subst (λ (x : List ℕ). Better P N R Z 1 zone cap (bitsAt former) any (bitsAt rows) (bitsAt x)) (sym turned)
-          (turned-better P N R Z zone cap any (λ p b. refl) rows former mates arcs (G .zones) (g .small) (g .within) exchanges room there nodes m cycle
-          (G .partitions .1) (g .long) (G .rows) arcs-long nodes-long)
+    -- ---- one improvement
 
-      good : Good P N R Z zone cap (nextIn former P mates caps N Z rows)
-      good =
+    -- A circuit of the rows is turned.
+    module _ (w : Walk) (c : Round P N R Z 1 zone cap (bitsAt former) any (bitsAt rows) w) where
+      turned-better-rows : Better P N R Z 1 zone cap (bitsAt former) any (bitsAt rows) (bitsAt (turnedIn former P mates caps N Z rows w .rows))
+      unfolding turnedIn
+      turned-better-rows =
+          turned-better P N R Z zone cap any (λ p b. refl) rows former mates (G .zones) (g .small) (g .within) w c (g .long)
+
+      turned-good : GoodState P N R Z zone cap former (turnedIn former P mates caps N Z rows w)
+      unfolding turnedIn
+      turned-good =
           record {
-            long = omega (arith, g .long, ap length turned, turned-length rows former P mates arcs (belowOf N) Z nodes m);
-            small = λ p l.
-                subst (λ (x : List ℕ). getD x p 0 < 2 ^ N) (sym turned)
-                (turned-small P N R Z zone cap any (λ p b. refl) rows former mates arcs (G .zones) (g .small) (g .within) exchanges room there nodes m
-                cycle (G .partitions .1) (g .long) (G .rows) arcs-long nodes-long p l);
-            within = better .within;
+            good = record {
+              long = omega (arith, g .long, turned-length rows former P mates (belowOf N) Z w);
+              small = turned-small P N R Z zone cap any (λ p b. refl) rows former mates (G .zones) (g .small) (g .within) w c (g .long);
+              within = turned-better-rows .within;
+            };
+            ring = λ l. freed-ring P N R Z zone cap any (λ p b. refl) rows former mates (G .zones) (g .small) (g .within) w c (g .long);
           }
+
+  -- ---- the walk to turn next
+
+  module _ (s : State) (h : GoodState P N R Z zone cap former s) where
+    -- A walk to turn is a circuit of the rows: the last one again, or a cycle that was found.
+    pub sought-round : improvesIn former P mates caps N Z s ≡ true
+        → Round P N R Z 1 zone cap (bitsAt former) any (bitsAt (s .rows)) (soughtIn former P mates caps N Z (s .rows) (s .last))
+    unfolding improvesIn soughtIn foundIn
+    sought-round = go (stands (s .rows) former P mates (belowOf N) Z caps (s .last)) refl
+      where
+        again : Walk
+        again = renewed (s .rows) former P mates (belowOf N) Z (s .last)
+
+        other : Walk
+        other = foundIn former P mates caps N Z (s .rows)
+
+        go : (b : Bool) → stands (s .rows) former P mates (belowOf N) Z caps (s .last) ≡ b → not (eqb (cond b again other .len) 0) ≡ true
+            → Round P N R Z 1 zone cap (bitsAt former) any (bitsAt (s .rows)) (cond b again other)
+        go true e n =
+            again-round P N R Z zone cap any (λ p b. refl) (s .rows) former mates (G .zones) (h .good .small) (h .good .within) caps (G .capped) (s .last)
+            (h .ring (stands-some (s .rows) former P mates (belowOf N) Z caps (s .last) e)) e
+        go false e n =
+            let w = found-cycle (s .rows) (h .good) (λ q. not-both (eqb (cycleIn former P mates caps N Z (s .rows)) 0) (eq-eqb (cycleIn former P mates caps N Z (s .rows)) 0 q) (not-true (eqb (cycleIn former P mates caps N Z (s .rows)) 0) n)) in
+            found-round (s .rows) (h .good) (w .0) (w .1) (w .2)
+
+    -- Where there is none, no cycle was found.
+    sought-none : improvesIn former P mates caps N Z s ≡ false → cycleIn former P mates caps N Z (s .rows) ≡ 0
+    unfolding improvesIn soughtIn foundIn
+    sought-none = go (stands (s .rows) former P mates (belowOf N) Z caps (s .last)) refl
+      where
+        again : Walk
+        again = renewed (s .rows) former P mates (belowOf N) Z (s .last)
+
+        other : Walk
+        other = foundIn former P mates caps N Z (s .rows)
+
+        go : (b : Bool) → stands (s .rows) former P mates (belowOf N) Z caps (s .last) ≡ b → not (eqb (cond b again other .len) 0) ≡ false
+            → cycleIn former P mates caps N Z (s .rows) ≡ 0
+        go true e n =
+            absurd (omega (arith, stands-some (s .rows) former P mates (belowOf N) Z caps (s .last) e, eqb-true (s .last .len) 0 (not-false (eqb (s .last .len) 0) n)))
+        go false e n = eqb-true (cycleIn former P mates caps N Z (s .rows)) 0 (not-false (eqb (cycleIn former P mates caps N Z (s .rows)) 0) n)
 
   -- ---- the machine
 
-  -- An improvement keeps rows good.
-  pub next-good : (rows : List ℕ) → Good P N R Z zone cap rows → improvesIn former P mates caps N Z rows ≡ true
-      → Good P N R Z zone cap (nextIn former P mates caps N Z rows)
-  next-good rows g e = let w = improves-cycle rows g e in good rows g (w .0) (w .1) (w .2)
+  -- The beginning of a run is good with its rows.
+  pub begun-good : (rows : List ℕ) → Good P N R Z zone cap rows → GoodState P N R Z zone cap former (begun rows)
+  begun-good rows g = record { good = g; ring = λ l. absurd (omega arith) }
+
+  -- An improvement keeps states good.
+  pub next-good : (s : State) → GoodState P N R Z zone cap former s → improvesIn former P mates caps N Z s ≡ true
+      → GoodState P N R Z zone cap former (nextIn former P mates caps N Z s)
+  unfolding nextIn
+  next-good s h e = turned-good (s .rows) (h .good) (soughtIn former P mates caps N Z (s .rows) (s .last)) (sought-round s h e)
 
   -- It gains at least 1 and at most N in agreement.
-  pub next-gains : (rows : List ℕ) → Good P N R Z zone cap rows → improvesIn former P mates caps N Z rows ≡ true
-      → (agreementIn rows former P + 1 ≤ agreementIn (nextIn former P mates caps N Z rows) former P)
-      × (agreementIn (nextIn former P mates caps N Z rows) former P ≤ agreementIn rows former P + N)
-  next-gains rows g e =
-      let w = improves-cycle rows g e in
-      let b = better rows g (w .0) (w .1) (w .2) in
-      let x = agreement-weighs rows g in
-      let y = agreement-weighs (nextIn former P mates caps N Z rows) (next-good rows g e) in
+  pub next-gains : (s : State) → GoodState P N R Z zone cap former s → improvesIn former P mates caps N Z s ≡ true
+      → (agreementIn (s .rows) former P + 1 ≤ agreementIn (nextIn former P mates caps N Z s .rows) former P)
+      × (agreementIn (nextIn former P mates caps N Z s .rows) former P ≤ agreementIn (s .rows) former P + N)
+  unfolding nextIn
+  next-gains s h e =
+      let b = turned-better-rows (s .rows) (h .good) (soughtIn former P mates caps N Z (s .rows) (s .last)) (sought-round s h e) in
+      let x = agreement-weighs (s .rows) (h .good) in
+      let y = agreement-weighs (nextIn former P mates caps N Z s .rows) (next-good s h e .good) in
       (omega (arith, b .more), omega (arith, b .most, mul-one N))
 
   -- Where there is none, no rows within the caps have more agreement.
-  pub none-heavier : (rows : List ℕ) → Good P N R Z zone cap rows → improvesIn former P mates caps N Z rows ≡ false
-      → (T : ℕ → ℕ → ℕ) → Within P N R Z zone cap T → weigh P N (bitsAt former) T ≤ agreementIn rows former P
-  none-heavier rows g e T w =
-      let d = stays-potential rows g e in
+  pub none-heavier : (s : State) → GoodState P N R Z zone cap former s → improvesIn former P mates caps N Z s ≡ false
+      → (T : ℕ → ℕ → ℕ) → Within P N R Z zone cap T → weigh P N (bitsAt former) T ≤ agreementIn (s .rows) former P
+  none-heavier s h e T w =
+      let rows = s .rows in
+      let g = h .good in
+      let d = found-none rows g (sought-none s h e) in
       omega (
         arith,
         agreement-weighs rows g,
         join-potential P N R Z 1 zone cap (bitsAt former) any (bitsAt rows) (graph rows g) (witness rows g) (the-graph rows g)
-            (okOf rows mates (belowOf N) Z)
-            (ok-right P N R Z zone cap any (λ p b. refl) rows former mates (arcs rows g) (G .zones) (g .small) (g .within)) (some rows g)
+            (okOf rows mates (belowOf N) Z) (ok-right P N R Z zone cap any (λ p b. refl) rows former mates (G .zones) (g .small) (g .within)) (some rows g)
             (G .zones .inside) light (λ p b. omega arith) (g .within) (d .0) (d .1) T w (λ p l b k z. absurd (omega (arith, z))),
       )
 
   -- Without former copies there is nothing to improve, and nothing is shared.
-  pub none-former : (rows : List ℕ) → Good P N R Z zone cap rows → ((p b : ℕ) → p < P → b < N → bitsAt former p b ≡ 0)
-      → (improvesIn former P mates caps N Z rows ≡ false) × (agreementIn rows former P ≡ 0)
+  pub none-former : (s : State) → GoodState P N R Z zone cap former s → ((p b : ℕ) → p < P → b < N → bitsAt former p b ≡ 0)
+      → (improvesIn former P mates caps N Z s ≡ false) × (agreementIn (s .rows) former P ≡ 0)
   unfolding weigh
-  none-former rows g none = (
+  none-former s h none = (
     ⊎-elim
         (λ e.
-        let w = improves-cycle rows g e in
+        let w = soughtIn former P mates caps N Z (s .rows) (s .last) in
         absurd
-        (no-gain P N R Z 1 zone cap (bitsAt former) any (bitsAt rows) (graph rows g) (witness rows g) (the-graph rows g) (some rows g) none (w .0) (w .1) (w .2)))
-        (λ e. e) (true-or-false (improvesIn former P mates caps N Z rows)),
-    agreement-weighs rows g
-        ∙ sum-zero P (λ p. sumTo N (λ b. bitsAt rows p b * bitsAt former p b))
-        (λ p l. sum-zero N (λ b. bitsAt rows p b * bitsAt former p b)
-        (λ b k. ap (λ (x : ℕ). bitsAt rows p b * x) (none p b l k) ∙ mul-zero (bitsAt rows p b))),
+        (no-circuit P N R Z 1 zone cap (bitsAt former) any (bitsAt (s .rows)) (w .len) (w .node) (w .partition) none (sought-round s h e)))
+        (λ e. e) (true-or-false (improvesIn former P mates caps N Z s)),
+    agreement-weighs (s .rows) (h .good)
+        ∙ sum-zero P (λ p. sumTo N (λ b. bitsAt (s .rows) p b * bitsAt former p b))
+        (λ p l. sum-zero N (λ b. bitsAt (s .rows) p b * bitsAt former p b)
+        (λ b k. ap (λ (x : ℕ). bitsAt (s .rows) p b * x) (none p b l k) ∙ mul-zero (bitsAt (s .rows) p b))),
   )
 
-  -- A run from good rows ends in good rows ..
-  pub run-good : (start : List ℕ) → Good P N R Z zone cap start → (a : ℕ) → Good P N R Z zone cap (ranIn former P mates caps N Z a start .state)
+  -- A run from good rows ends in a good state ..
+  pub run-good : (start : List ℕ) → Good P N R Z zone cap start → (a : ℕ) → GoodState P N R Z zone cap former (ranIn former P mates caps N Z a start .state)
   unfolding ranIn
-  run-good start g a = run-keeps (improvesIn former P mates caps N Z) (nextIn former P mates caps N Z) (Good P N R Z zone cap) next-good a start g
+  run-good start g a =
+      run-keeps (improvesIn former P mates caps N Z) (nextIn former P mates caps N Z) (GoodState P N R Z zone cap former) next-good a (begun start) (begun-good start g)
 
   -- .. and is finished by an improvement for each copy.
   pub run-finishes : (start : List ℕ) → Good P N R Z zone cap start → (a : ℕ) → P * R ≤ a → ranIn former P mates caps N Z a start .finished ≡ true
   unfolding ranIn
   run-finishes start g a l =
-      run-ends (improvesIn former P mates caps N Z) (nextIn former P mates caps N Z) (Good P N R Z zone cap) next-good (λ x. agreementIn x former P) (P * R)
-      (λ x h e. next-gains x h e .0) agreement-le a start g (omega arith)
+      run-ends (improvesIn former P mates caps N Z) (nextIn former P mates caps N Z) (GoodState P N R Z zone cap former) next-good
+      (λ x. agreementIn (x .rows) former P) (P * R) (λ x h e. next-gains x h e .0) (λ x h. agreement-le (x .rows) (h .good)) a (begun start)
+      (begun-good start g) (omega arith)

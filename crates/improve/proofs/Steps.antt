@@ -1,85 +1,119 @@
--- What the functions of improvement rest on, over plain lists and numbers: one step, the run's turns, the sum of shared pairs.
+-- What the functions of improvement rest on, over plain lists and numbers: the walk to turn next, one step, the run's turns, the sum of shared pairs.
 -- Assumes nothing.
-use Prim.Native.Nat.{ℕ, suc, _+_, _-_, _^_, _≤_, _<_}
+use Prim.Native.Nat.{ℕ, zero, suc, _+_, _-_, _^_, _≤_, _<_}
 use mathlib.Core.Path.{_≡_, refl, sym, ap, ap₂, _∙_, subst}
 use mathlib.Core.Bool.{Bool, true, false, not, cond, _&&_}
 use mathlib.Core.List.{List}
+use mathlib.Core.Logic.{⊎-elim}
 use native.Mathlib.Omega.{arith}
 use native.Mathlib.Numerals.{add-one}
 use native.Mathlib.Nat.{sub-zero}
-use lib.Dec.{eqb}
+use lib.Dec.{eqb, leb}
 use lib.ListN.{length, getD, replicate}
-use borrow.Author.Tests.{eq-eqb, ne-eqb}
-use Rattle.cycles.specs.ModelGraph.{walkCells, arcCells}
+use borrow.Author.Tests.{eq-eqb, ne-eqb, eqb-true, leb-true, not-false}
 use Rattle.sums.specs.TermsSums.{sumTo}
-use Rattle.sets.specs.ModelBits.{maskBits, belowOf, countOf, meetOf}
+use Rattle.sums.proofs.Sum.{eq-or-ne}
+use Rattle.sums.proofs.Tests.{both}
+use Rattle.sets.specs.ModelBits.{maskBits, bitsAt, belowOf, countOf, meetOf}
 use Rattle.sets.proofs.Laws.{count-le, meet-lt}
+use Rattle.cluster.specs.Terms.{mostNodes}
+use Rattle.exchange.specs.ModelLevels.{Outcome, Potential, Cycle, outcome}
+use Rattle.exchange.specs.ModelUncross.{Walk, Same}
+use Rattle.exchange.proofs.Search.{outcome-cycle}
+use Rattle.exchange.proofs.Walk.{same-refl, same-trans}
 use Rattle.graph.specs.ModelArcs.{arcsOf}
-use Rattle.cycles.specs.ModelFound.{foundLength, foundWalk}
-use Rattle.circuits.specs.ModelCircuits.{turnedOf}
-use Rattle.circuits.proofs.Improving.{turned-length}
-use Rattle.improve.specs.ModelRun.{Ran, later, run}
-use Rattle.improve.specs.ModelImprove.{arcsIn, cycleIn, improvesIn, nextIn, steppedIn, ranIn, agreementIn}
+use Rattle.cycles.specs.ModelGraph.{walkCells, arcCells, graphOf}
+use Rattle.cycles.specs.ModelFound.{searchable, endLength, foundLength, foundWalk}
+use Rattle.walks.specs.ModelWalks.{okOf, walkIn, renewed, stands}
+use Rattle.walks.proofs.Renewing.{renewed-same, stands-same}
+use Rattle.circuits.specs.ModelCircuits.{cycleOf, freedOf, turnedOf}
+use Rattle.circuits.proofs.Steps.{freed-same, turned-same, freed-none, turned-none, uncross-some}
+use Rattle.improve.specs.ModelRun.{Ran, later, after, run}
+use Rattle.improve.specs.ModelImprove.{State, begun, arcsIn, cycleIn, foundIn, soughtIn, turnedIn, improvesIn, nextIn, steppedIn, ranIn, agreementIn}
 
--- ---- one step
+-- ---- the walk to turn next
 
-module _ (rows former : List ℕ) (P : ℕ) (mates caps : List ℕ) (n z : ℕ) (all : ℕ) (arcs walk : List ℕ) (m : ℕ)
-    (e-all : all ≡ belowOf n) (e-arcs : arcs ≡ arcsOf rows former P mates caps all z (replicate arcCells 0))
-    (e-m : m ≡ foundLength arcs n (replicate walkCells 0)) (e-walk : walk ≡ foundWalk arcs n (replicate walkCells 0))
+module _ (former : List ℕ) (P : ℕ) (mates caps : List ℕ) (n z : ℕ) (rows : List ℕ) where
+  module _ (all : ℕ) (e-all : all ≡ belowOf n) (w u : Walk) (b : Bool) (e : b ≡ stands rows former P mates all z caps w) where
+    -- Whether the last walk stands.
+    the-test : stands rows former P mates (belowOf n) z caps w ≡ b
+    the-test = sym (e ∙ ap (λ (x : ℕ). stands rows former P mates x z caps w) e-all)
+
+    -- Where it does, it is turned again.
+    pub sought-again : b ≡ true → Same (renewed rows former P mates all z w) u → Same (soughtIn former P mates caps n z rows w) u
+    unfolding soughtIn
+    sought-again y s = rw (the-test ∙ y) (subst (λ (x : ℕ). Same (renewed rows former P mates x z w) u) e-all s)
+
+    -- Else the cycle that is found in the graph is.
+    pub sought-found : b ≡ false → (arcs nodes : List ℕ) (m : ℕ) → arcs ≡ arcsOf rows former P mates caps all z (replicate arcCells 0)
+        → m ≡ foundLength arcs n (replicate walkCells 0) → nodes ≡ foundWalk arcs n (replicate walkCells 0)
+        → Same (cycleOf rows former P mates arcs all z nodes m) u → Same (soughtIn former P mates caps n z rows w) u
+    unfolding soughtIn foundIn cycleIn arcsIn
+    sought-found y arcs nodes m e-arcs e-m e-nodes s =
+        rw (the-test ∙ y)
+        (subst (λ (v : Walk). Same v u)
+        ((λ i. cycleOf rows former P mates arcs all z (e-nodes i) (e-m i))
+        ∙ (λ i. cycleOf rows former P mates (the-arcs i) (e-all i) z (foundWalk (the-arcs i) n (replicate walkCells 0)) (foundLength (the-arcs i) n (replicate walkCells 0))))
+        s)
+      where
+        the-arcs : arcs ≡ arcsOf rows former P mates caps (belowOf n) z (replicate arcCells 0)
+        the-arcs = e-arcs ∙ ap (λ (x : ℕ). arcsOf rows former P mates caps x z (replicate arcCells 0)) e-all
+
+  -- It goes by the entries of the last walk up to its length.
+  sought-same : {w u : Walk} → Same w u → Same (soughtIn former P mates caps n z rows w) (soughtIn former P mates caps n z rows u)
+  unfolding soughtIn
+  sought-same {w} {u} s =
+      subst (λ (b : Bool). Same (cond (test w) (again w) (foundIn former P mates caps n z rows)) (cond b (again u) (foundIn former P mates caps n z rows)))
+      (stands-same rows former P mates (belowOf n) z caps s) (go (test w))
+    where
+      test : Walk → Bool
+      test v = stands rows former P mates (belowOf n) z caps v
+
+      again : Walk → Walk
+      again v = renewed rows former P mates (belowOf n) z v
+
+      go : (b : Bool) → Same (cond b (again w) (foundIn former P mates caps n z rows)) (cond b (again u) (foundIn former P mates caps n z rows))
+      go true = renewed-same rows former P mates (belowOf n) z s
+      go false = same-refl (foundIn former P mates caps n z rows)
+
+  -- ---- one step
+
+  module _ (w v u : Walk) (s : Same (soughtIn former P mates caps n z rows w) v) (allowed : Bool) where
+    -- The walk to turn next is turned ..
+    pub step-made : allowed ≡ true → (all : ℕ) → all ≡ belowOf n → (new : List ℕ) → new ≡ turnedOf rows former P mates all z v
+        → Same (freedOf rows former P mates all z v) u
+        → (new ≡ steppedIn former P mates caps n z allowed rows w .rows) × Same (steppedIn former P mates caps n z allowed rows w .last) u
+    unfolding steppedIn turnedIn
+    step-made y all e new f t =
+        rw y (
+          f ∙ (ap (λ (x : ℕ). turnedOf rows former P mates x z v) e ∙ sym (turned-same rows former P mates (belowOf n) z s)),
+          same-trans (freed-same rows former P mates (belowOf n) z s) (subst (λ (x : ℕ). Same (freedOf rows former P mates x z v) u) e t),
+        )
+
+    -- .. or only told.
+    pub step-kept : allowed ≡ false → (rows ≡ steppedIn former P mates caps n z allowed rows w .rows) × Same (steppedIn former P mates caps n z allowed rows w .last) v
+    unfolding steppedIn
+    step-kept y = rw y (refl, s)
+
+-- The cycle that is found has no more arcs than there may be nodes.
+pub found-few : (arcs : List ℕ) (n : ℕ) (walk : List ℕ) (m : ℕ) → m ≡ foundLength arcs n walk → m ≤ mostNodes
+unfolding foundLength
+found-few arcs n walk m h = subst (λ (k : ℕ). k ≤ mostNodes) (sym h) (go (searchable arcs n walk) refl)
   where
-    the-arcs : arcs ≡ arcsIn former P mates caps n z rows
-    unfolding arcsIn
-    the-arcs = e-arcs ∙ ap (λ (x : ℕ). arcsOf rows former P mates caps x z (replicate arcCells 0)) e-all
+    some : searchable arcs n walk ≡ true → (1 ≤ n) × (n ≤ mostNodes)
+    some e =
+        unfold searchable in
+        let a = both (leb 1 n) (leb n mostNodes && (leb arcCells (length arcs) && leb walkCells (length walk))) e in
+        let b = both (leb n mostNodes) (leb arcCells (length arcs) && leb walkCells (length walk)) (a .1) in
+        (leb-true 1 n (a .0), leb-true n mostNodes (b .0))
 
-    the-length : m ≡ cycleIn former P mates caps n z rows
-    unfolding cycleIn
-    the-length = e-m ∙ ap (λ (l : List ℕ). foundLength l n (replicate walkCells 0)) the-arcs
+    ends : (o : Outcome) → outcome (graphOf arcs n) ≡ o → 1 ≤ n → endLength (graphOf arcs n) o ≤ n
+    ends (Potential k) e l = unfold endLength in omega arith
+    ends (Cycle k v) e l = unfold endLength in outcome-cycle (graphOf arcs n) k v l e .cycle .few
 
-    -- Without a cycle nothing can be improved.
-    pub step-none : m ≡ 0 → (allowed : Bool) → (false ≡ improvesIn former P mates caps n z rows) × (rows ≡ steppedIn former P mates caps n z allowed rows)
-    unfolding improvesIn steppedIn
-    step-none e allowed =
-        let q : false ≡ not (eqb (cycleIn former P mates caps n z rows) 0) = sym (ap not (eq-eqb (cycleIn former P mates caps n z rows) 0 (sym the-length ∙ e))) in
-        (q, ap (λ (b : Bool). cond (b && allowed) (nextIn former P mates caps n z rows) rows) q)
-
-    -- With a cycle they can; where it is allowed, they are.
-    module _ (some : m ≡ 0 → ⊥) where
-      can : true ≡ not (eqb (cycleIn former P mates caps n z rows) 0)
-      can = sym (ap not (ne-eqb (cycleIn former P mates caps n z rows) 0 (λ q. some (the-length ∙ q))))
-
-      pub step-made : (allowed : Bool) → allowed ≡ true → (new : List ℕ) → new ≡ turnedOf rows former P mates arcs all z walk m
-          → (true ≡ improvesIn former P mates caps n z rows) × (new ≡ steppedIn former P mates caps n z allowed rows)
-      unfolding improvesIn steppedIn nextIn
-      step-made allowed w new e = (
-        can,
-        e
-            ∙ (ap₂ (λ (l : List ℕ) (x : ℕ). turnedOf rows former P mates l x z walk m) the-arcs e-all
-            ∙ (ap₂ (λ (l : List ℕ) (x : ℕ). turnedOf rows former P mates (arcsIn former P mates caps n z rows) (belowOf n) z l x)
-            (e-walk ∙ ap (λ (l : List ℕ). foundWalk l n (replicate walkCells 0)) the-arcs) the-length
-            ∙ ap₂ (λ (b d : Bool). cond (b && d) (nextIn former P mates caps n z rows) rows) can (sym w))),
-      )
-
-      pub step-kept : (allowed : Bool) → allowed ≡ false
-          → (true ≡ improvesIn former P mates caps n z rows) × (rows ≡ steppedIn former P mates caps n z allowed rows)
-      unfolding improvesIn steppedIn
-      step-kept allowed w = (can, ap₂ (λ (b d : Bool). cond (b && d) (nextIn former P mates caps n z rows) rows) can (sym w))
-
--- A step keeps the number of rows.
-stepped-length : (former : List ℕ) (P : ℕ) (mates caps : List ℕ) (n z : ℕ) (allowed : Bool) (rows : List ℕ)
-    → length (steppedIn former P mates caps n z allowed rows) ≡ length rows
-unfolding steppedIn nextIn
-stepped-length former P mates caps n z allowed rows = go (improvesIn former P mates caps n z rows && allowed)
-  where
-    go : (b : Bool) → length (cond b (nextIn former P mates caps n z rows) rows) ≡ length rows
-    go true =
-        turned-length rows former P mates (arcsIn former P mates caps n z rows) (belowOf n) z
-        (foundWalk (arcsIn former P mates caps n z rows) n (replicate walkCells 0)) (cycleIn former P mates caps n z rows)
-    go false = refl
-
--- So the rows after it are as many as at the beginning.
-pub stepped-long : (former : List ℕ) (P : ℕ) (mates caps : List ℕ) (n z : ℕ) (allowed : Bool) (first rows new : List ℕ) → length rows ≡ length first
-    → new ≡ steppedIn former P mates caps n z allowed rows → length new ≡ length first
-stepped-long former P mates caps n z allowed first rows new l e = ap length e ∙ (stepped-length former P mates caps n z allowed rows ∙ l)
+    go : (b : Bool) → searchable arcs n walk ≡ b → cond b (endLength (graphOf arcs n) (outcome (graphOf arcs n))) 0 ≤ mostNodes
+    go true e = omega (arith, some e, ends (outcome (graphOf arcs n)) refl (some e .0))
+    go false e = omega arith
 
 -- ---- the run
 
@@ -90,6 +124,14 @@ later-none r = λ i. record { state = r .state; finished = r .finished; steps = 
     zero-steps n = omega arith
 
 module _ {A : Type 0} (improves : A → Bool) (next : A → A) where
+  -- One improvement more is the last one.
+  after-next : (i : ℕ) (s : A) → after improves next (i + 1) s ≡ next (after improves next i s)
+  unfolding after
+  after-next zero s = refl
+  after-next (suc i) s =
+      ap (λ (k : ℕ). after improves next k s) (add-one (suc i))
+      ∙ (ap (λ (k : ℕ). after improves next k (next s)) (sym (add-one i)) ∙ after-next i (next s))
+
   -- While the allowance lasts, an improvement goes on, and its lack ends the run.
   pub run-on : (a i : ℕ) (s : A) → i < a → improves s ≡ true
       → later i (run improves next (a - i) s) ≡ later (i + 1) (run improves next (a - (i + 1)) (next s))
@@ -127,52 +169,154 @@ module _ {A : Type 0} (improves : A → Bool) (next : A → A) where
       none : i + 0 ≡ i
       none = omega arith
 
--- The turns of the run over rows, as code makes them: each is told by what a step answered and left.
-module _ (former : List ℕ) (P : ℕ) (mates caps : List ℕ) (n z a : ℕ) (start : List ℕ) where
-  abbrev ran : Ran (List ℕ)
-  ran = ranIn former P mates caps n z a start
+-- Blank cells are a walk without arcs.
+pub blank-walk : (start : List ℕ) → Same (begun start .last) (walkIn 0 (replicate walkCells 0) (replicate walkCells 0))
+blank-walk start =
+    record {
+      lens = refl;
+      nodes = λ t l. let e : 0 ≡ t = omega arith in ap (λ (k : ℕ). getD (replicate walkCells 0) k 0) e;
+      partitions = λ t l. absurd (omega arith);
+    }
 
-  pub ran-begins : ran ≡ later 0 (ranIn former P mates caps n z (a - 0) start)
-  ran-begins =
-      later-none ran ∙ ap (λ (k : ℕ). later 0 (ranIn former P mates caps n z k start)) (sym (sub-zero a))
+-- Cells that hold a state.
+pub record Holds (s : State) (rows : List ℕ) (w : Walk) : Type 0 where
+  pub rows-are : rows ≡ s .rows
+  pub last-is : Same (s .last) w
 
-  module _ (i : ℕ) (rows : List ℕ) (inv : ran ≡ later i (ranIn former P mates caps n z (a - i) rows)) (r : Bool)
-      (e : r ≡ improvesIn former P mates caps n z rows)
-    where
-      -- An improvement was made: the run goes on from the new rows.
-      pub ran-on : i < a → (new : List ℕ) → new ≡ steppedIn former P mates caps n z true rows → r ≡ true
-          → ran ≡ later (i + 1) (ranIn former P mates caps n z (a - (i + 1)) new)
-      unfolding ranIn steppedIn
-      ran-on l new s y =
-          inv
-          ∙ (run-on (improvesIn former P mates caps n z) (nextIn former P mates caps n z) a i rows l (sym e ∙ y)
-          ∙ ap (λ (x : List ℕ). later (i + 1) (ranIn former P mates caps n z (a - (i + 1)) x))
-          (sym (s ∙ ap (λ (b : Bool). cond (b && true) (nextIn former P mates caps n z rows) rows) (sym e ∙ y))))
+module _ (former : List ℕ) (P : ℕ) (mates caps : List ℕ) (n z : ℕ) where
+  -- What a step from cells that hold a state tells of it, and leaves.
+  module _ (s : State) (rows : List ℕ) (w : Walk) (h : Holds s rows w) (new : List ℕ) (u : Walk) where
+    abbrev next : Walk
+    next = soughtIn former P mates caps n z rows w
+
+    abbrev left : Walk
+    left = freedOf rows former P mates (belowOf n) z next
+
+    sought : Same (soughtIn former P mates caps n z (s .rows) (s .last)) next
+    sought =
+        subst (λ (r : List ℕ). Same (soughtIn former P mates caps n z (s .rows) (s .last)) (soughtIn former P mates caps n z r w)) (sym (h .rows-are))
+        (sought-same former P mates caps n z (s .rows) (h .last-is))
+
+    improves-is : (k : ℕ) → eqb k 0 ≡ eqb (next .len) 0 → improvesIn former P mates caps n z s ≡ not (eqb k 0)
+    unfolding improvesIn
+    improves-is k e = ap (λ (m : ℕ). not (eqb m 0)) (sought .lens) ∙ ap not (sym e)
+
+    -- The walk to turn next, where it is only told.
+    pub look-improves : Same (steppedIn former P mates caps n z false rows w .last) u → improvesIn former P mates caps n z s ≡ not (eqb (u .len) 0)
+    unfolding steppedIn
+    look-improves t = improves-is (u .len) (ap (λ (m : ℕ). eqb m 0) (sym (t .lens)))
+
+    pub look-keeps : new ≡ steppedIn former P mates caps n z false rows w .rows → new ≡ s .rows
+    unfolding steppedIn
+    look-keeps e = e ∙ h .rows-are
+
+    -- Where it is turned, some of its arcs are left.
+    pub step-improves : Same (steppedIn former P mates caps n z true rows w .last) u → improvesIn former P mates caps n z s ≡ not (eqb (u .len) 0)
+    unfolding steppedIn turnedIn
+    step-improves t = improves-is (u .len) (⊎-elim none some (eq-or-ne (next .len) 0))
+      where
+        none : next .len ≡ 0 → eqb (u .len) 0 ≡ eqb (next .len) 0
+        none e = ap (λ (m : ℕ). eqb m 0) (sym (t .lens) ∙ ap (λ (v : Walk). v .len) (freed-none rows former P mates (belowOf n) z next e))
+
+        some : (next .len ≡ 0 → ⊥) → eqb (u .len) 0 ≡ eqb (next .len) 0
+        some e =
+            let l : 0 < next .len = omega (arith, e) in
+            let k : 0 < left .len = uncross-some P (bitsAt former) (okOf rows mates (belowOf n) z) (next .len) next l in
+            ne-eqb (u .len) 0 (λ q. omega (arith, t .lens)) ∙ sym (ne-eqb (next .len) 0 e)
+
+    pub step-next : new ≡ steppedIn former P mates caps n z true rows w .rows → Same (steppedIn former P mates caps n z true rows w .last) u
+        → Holds (nextIn former P mates caps n z s) new u
+    unfolding steppedIn turnedIn nextIn
+    step-next e t =
+        record {
+          rows-are = e ∙ same-rows;
+          last-is = same-trans same-walk t;
+        }
+      where
+        state : List ℕ → Walk
+        state r = soughtIn former P mates caps n z (s .rows) (s .last)
+
+        same-rows : turnedOf rows former P mates (belowOf n) z next ≡ turnedOf (s .rows) former P mates (belowOf n) z (soughtIn former P mates caps n z (s .rows) (s .last))
+        same-rows =
+            sym (turned-same rows former P mates (belowOf n) z sought)
+            ∙ ap (λ (r : List ℕ). turnedOf r former P mates (belowOf n) z (soughtIn former P mates caps n z (s .rows) (s .last))) (h .rows-are)
+
+        same-walk : Same (freedOf (s .rows) former P mates (belowOf n) z (soughtIn former P mates caps n z (s .rows) (s .last))) left
+        same-walk =
+            subst (λ (r : List ℕ). Same (freedOf r former P mates (belowOf n) z (soughtIn former P mates caps n z (s .rows) (s .last))) left) (h .rows-are)
+            (freed-same rows former P mates (belowOf n) z sought)
+
+    -- Without a walk to turn the rows stay.
+    pub step-none : new ≡ steppedIn former P mates caps n z true rows w .rows → improvesIn former P mates caps n z s ≡ false → new ≡ s .rows
+    unfolding steppedIn turnedIn improvesIn
+    step-none e f =
+        e
+        ∙ (turned-none rows former P mates (belowOf n) z next
+        (sym (sought .lens) ∙ eqb-true (soughtIn former P mates caps n z (s .rows) (s .last) .len) 0 (not-false (eqb (soughtIn former P mates caps n z (s .rows) (s .last) .len) 0) f))
+        ∙ h .rows-are)
+
+  -- The turns of the run, each told by what a step answered and left.
+  module _ (a : ℕ) (start : List ℕ) where
+    abbrev ran : Ran State
+    ran = ranIn former P mates caps n z a start
+
+    -- The state after i improvements.
+    abbrev reached : ℕ → State
+    reached i = after (improvesIn former P mates caps n z) (nextIn former P mates caps n z) i (begun start)
+
+    -- Cells in which i improvements were made, and from which the run goes on.
+    pub record At (i : ℕ) (rows : List ℕ) (w : Walk) : Type 0 where
+      pub goes : ran ≡ later i (run (improvesIn former P mates caps n z) (nextIn former P mates caps n z) (a - i) (reached i))
+      pub holds : Holds (reached i) rows w
+
+    pub run-begins : (w : Walk) → Same (begun start .last) w → At 0 start w
+    unfolding ranIn after
+    run-begins w s =
+        record {
+          goes = later-none ran ∙ ap (λ (k : ℕ). later 0 (run (improvesIn former P mates caps n z) (nextIn former P mates caps n z) k (begun start))) (sym (sub-zero a));
+          holds = record { rows-are = refl; last-is = s };
+        }
+
+    module _ (i : ℕ) (rows : List ℕ) (w : Walk) (h : At i rows w) (new : List ℕ) (u : Walk) where
+      -- A walk was turned: the run goes on.
+      pub run-next : i < a → new ≡ steppedIn former P mates caps n z true rows w .rows → Same (steppedIn former P mates caps n z true rows w .last) u
+          → (u .len ≡ 0 → ⊥) → At (i + 1) new u
+      run-next l e t some =
+          record {
+            goes = h .goes
+                ∙ (run-on (improvesIn former P mates caps n z) (nextIn former P mates caps n z) a i (reached i) l
+                (step-improves (reached i) rows w (h .holds) new u t ∙ ap not (ne-eqb (u .len) 0 some))
+                ∙ ap (λ (s : State). later (i + 1) (run (improvesIn former P mates caps n z) (nextIn former P mates caps n z) (a - (i + 1)) s)) (sym reached-next));
+            holds = subst (λ (s : State). Holds s new u) (sym reached-next) (step-next (reached i) rows w (h .holds) new u e t);
+          }
+        where
+          reached-next : reached (i + 1) ≡ nextIn former P mates caps n z (reached i)
+          reached-next = after-next (improvesIn former P mates caps n z) (nextIn former P mates caps n z) i (begun start)
 
       -- There was none: the run is over.
-      pub ran-over : i < a → (new : List ℕ) → new ≡ steppedIn former P mates caps n z true rows → r ≡ false
-          → (new ≡ ran .state) × (true ≡ ran .finished) × (i ≡ ran .steps)
-      unfolding ranIn steppedIn
-      ran-over l new s y =
-          let q = inv ∙ run-over (improvesIn former P mates caps n z) (nextIn former P mates caps n z) a i rows l (sym e ∙ y) in
-          let w = s ∙ ap (λ (b : Bool). cond (b && true) (nextIn former P mates caps n z rows) rows) (sym e ∙ y) in
-          (w ∙ sym (ap (λ (x : Ran (List ℕ)). x .state) q), sym (ap (λ (x : Ran (List ℕ)). x .finished) q), sym (ap (λ (x : Ran (List ℕ)). x .steps) q))
+      pub run-done : i < a → new ≡ steppedIn former P mates caps n z true rows w .rows → Same (steppedIn former P mates caps n z true rows w .last) u
+          → u .len ≡ 0 → (new ≡ ran .state .rows) × (true ≡ ran .finished) × (i ≡ ran .steps)
+      run-done l e t none =
+          let f = step-improves (reached i) rows w (h .holds) new u t ∙ ap not (eq-eqb (u .len) 0 none) in
+          let q = h .goes ∙ run-over (improvesIn former P mates caps n z) (nextIn former P mates caps n z) a i (reached i) l f in (
+            step-none (reached i) rows w (h .holds) new u e f ∙ sym (ap (λ (r : Ran State). r .state .rows) q),
+            sym (ap (λ (r : Ran State). r .finished) q),
+            sym (ap (λ (r : Ran State). r .steps) q),
+          )
 
       -- The allowance is spent: the last step only looks.
-      pub ran-spent : a ≤ i → (new : List ℕ) → new ≡ steppedIn former P mates caps n z false rows
-          → (new ≡ ran .state) × (not r ≡ ran .finished) × (i ≡ ran .steps)
-      unfolding ranIn steppedIn
-      ran-spent l new s =
-          let q = inv ∙ run-spent (improvesIn former P mates caps n z) (nextIn former P mates caps n z) a i rows l in
-          let w = s ∙ kept (improvesIn former P mates caps n z rows) in (
-            w ∙ sym (ap (λ (x : Ran (List ℕ)). x .state) q),
-            ap not e ∙ sym (ap (λ (x : Ran (List ℕ)). x .finished) q),
-            sym (ap (λ (x : Ran (List ℕ)). x .steps) q),
+      pub run-stops : a ≤ i → new ≡ steppedIn former P mates caps n z false rows w .rows → Same (steppedIn former P mates caps n z false rows w .last) u
+          → (new ≡ ran .state .rows) × (eqb (u .len) 0 ≡ ran .finished) × (i ≡ ran .steps)
+      run-stops l e t =
+          let q = h .goes ∙ run-spent (improvesIn former P mates caps n z) (nextIn former P mates caps n z) a i (reached i) l in (
+            look-keeps (reached i) rows w (h .holds) new u e ∙ sym (ap (λ (r : Ran State). r .state .rows) q),
+            sym (ap (λ (r : Ran State). r .finished) q ∙ (ap not (look-improves (reached i) rows w (h .holds) new u t) ∙ not-not (eqb (u .len) 0))),
+            sym (ap (λ (r : Ran State). r .steps) q),
           )
         where
-          kept : (b : Bool) → cond (b && false) (nextIn former P mates caps n z rows) rows ≡ rows
-          kept true = refl
-          kept false = refl
+          not-not : (b : Bool) → not (not b) ≡ b
+          not-not true = refl
+          not-not false = refl
 
 -- ---- the pairs shared
 

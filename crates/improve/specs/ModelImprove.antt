@@ -1,9 +1,9 @@
--- One improvement of rows of masks, and the run of improvements: the graph of the rows, the cycle found in it, the exchanges of the cycle,
--- until there is none or the allowance is spent. Nobody has to believe this file: the theorem of crates/planner/proofs/Demands.antt says in
+-- One improvement of rows of masks, and the run of improvements: the walk that was turned last, where it stands again in the rows, else the cycle found
+-- in the graph of the rows; the exchanges of that walk; until there is none or the allowance is spent. Nobody has to believe this file: the theorem of crates/planner/proofs/Demands.antt says in
 -- the paper's terms what it achieves.
 -- Assumes nothing.
 use Prim.Native.Nat.{ℕ}
-use mathlib.Core.Bool.{Bool, not, cond, _&&_, _||_}
+use mathlib.Core.Bool.{Bool, not, cond, _||_}
 use mathlib.Core.List.{List}
 use lib.Dec.{eqb, ltb}
 use lib.ListN.{length, getD, replicate}
@@ -13,10 +13,21 @@ use Rattle.sums.specs.TermsSums.{sumTo}
 use Rattle.sets.specs.ModelBits.{meetOf, belowOf, countOf}
 use Rattle.graph.specs.ModelArcs.{arcsOf}
 use Rattle.cycles.specs.ModelFound.{foundLength, foundWalk}
-use Rattle.circuits.specs.ModelCircuits.{turnedOf}
+use Rattle.exchange.specs.ModelUncross.{Walk, walk}
+use Rattle.walks.specs.ModelWalks.{renewed, stands}
+use Rattle.circuits.specs.ModelCircuits.{cycleOf, freedOf, turnedOf}
 use Rattle.improve.specs.ModelRun.{Ran, run}
 
 -- ---- one improvement, over lists of masks
+
+-- What a run goes by: the rows, and what is left of the walk that was turned last.
+pub record State : Type 0 where
+  pub rows : List ℕ
+  pub last : Walk
+
+-- Rows at the beginning of a run, with a walk that has no arcs.
+abbrev pub begun : List ℕ → State
+begun rows = record { rows = rows; last = walk 0 (λ t. 0) (λ t. 0) }
 
 module _ (former : List ℕ) (P : ℕ) (mates caps : List ℕ) (n z : ℕ) where
   -- The masks of the exchange graph of the rows.
@@ -27,21 +38,33 @@ module _ (former : List ℕ) (P : ℕ) (mates caps : List ℕ) (n z : ℕ) where
   unfoldable pub cycleIn : List ℕ → ℕ
   cycleIn rows = foundLength (arcsIn rows) n (replicate walkCells 0)
 
-  -- Whether the rows can be improved.
-  unfoldable pub improvesIn : List ℕ → Bool
-  improvesIn rows = not (eqb (cycleIn rows) 0)
+  -- The walk of that cycle, each arc at its witness.
+  unfoldable pub foundIn : List ℕ → Walk
+  foundIn rows = cycleOf rows former P mates (arcsIn rows) (belowOf n) z (foundWalk (arcsIn rows) n (replicate walkCells 0)) (cycleIn rows)
 
-  -- The rows after the exchanges of the cycle.
-  unfoldable pub nextIn : List ℕ → List ℕ
-  nextIn rows = turnedOf rows former P mates (arcsIn rows) (belowOf n) z (foundWalk (arcsIn rows) n (replicate walkCells 0)) (cycleIn rows)
+  -- The walk to turn next: the last one at new partitions, where it stands in the rows, else the one that is found.
+  unfoldable pub soughtIn : List ℕ → Walk → Walk
+  soughtIn rows w = cond (stands rows former P mates (belowOf n) z caps w) (renewed rows former P mates (belowOf n) z w) (foundIn rows)
 
-  -- The rows after an improvement, if there is one and it is allowed.
-  unfoldable pub steppedIn : Bool → List ℕ → List ℕ
-  steppedIn allowed rows = cond (improvesIn rows && allowed) (nextIn rows) rows
+  -- The rows after the exchanges of a walk that is freed of crossed pairs, and what is left of the walk.
+  unfoldable pub turnedIn : List ℕ → Walk → State
+  turnedIn rows w = record { rows = turnedOf rows former P mates (belowOf n) z w; last = freedOf rows former P mates (belowOf n) z w }
+
+  -- Whether the rows can be improved: there is a walk to turn.
+  unfoldable pub improvesIn : State → Bool
+  improvesIn s = not (eqb (soughtIn (s .rows) (s .last) .len) 0)
+
+  -- The state after that.
+  unfoldable pub nextIn : State → State
+  nextIn s = turnedIn (s .rows) (soughtIn (s .rows) (s .last))
+
+  -- What a step leaves: the walk to turn next, and where it is allowed, the rows after its turn.
+  unfoldable pub steppedIn : Bool → List ℕ → Walk → State
+  steppedIn allowed rows w = cond allowed (turnedIn rows (soughtIn rows w)) (record { rows = rows; last = soughtIn rows w })
 
   -- Where the run from the rows ends with an allowance of improvements.
-  unfoldable pub ranIn : ℕ → List ℕ → Ran (List ℕ)
-  ranIn allowance rows = run improvesIn nextIn allowance rows
+  unfoldable pub ranIn : ℕ → List ℕ → Ran State
+  ranIn allowance rows = run improvesIn nextIn allowance (begun rows)
 
 -- How many pairs the rows share with the former rows.
 unfoldable pub agreementIn : List ℕ → List ℕ → ℕ → ℕ

@@ -1,10 +1,16 @@
-// One improvement of rows, and the run of improvements, until there is none or the allowance is spent.
+// One improvement of rows, and the run of improvements, until there is none or the allowance is spent. The walk that was turned last is kept: where it
+// stands again in the new rows, it is turned again, and no graph is built and searched. What the blocks of rows allow is kept, too, so that a graph is
+// built from the changed blocks only.
 ghost use mathlib.Core.Path.{_≡_};
-ghost use Prim.Native.Nat.{_≤_};
-ghost use Rattle.cluster.specs.Terms.{bufferRows};
+ghost use Prim.Native.Nat.{_≤_, _<_};
+ghost use lib.ListN.{length, replicate};
+ghost use Rattle.cluster.specs.Terms.{mostNodes, bufferRows};
+ghost use Rattle.cycles.specs.ModelGraph.{walkCells};
+ghost use Rattle.exchange.specs.ModelUncross.{Same};
 ghost use Rattle.sets.specs.ModelBits.{belowOf};
-ghost use Rattle.graph.specs.ModelKept.{Kept};
-ghost use Rattle.improve.specs.ModelImprove.{improvesIn, steppedIn, ranIn, sharedIn};
+ghost use Rattle.walks.specs.ModelWalks.{walkIn};
+ghost use Rattle.graph.specs.ModelKept.{keptCells, Kept};
+ghost use Rattle.improve.specs.ModelImprove.{soughtIn, steppedIn, ranIn, sharedIn};
 use cluster::Cluster;
 
 mod sum;
@@ -15,33 +21,39 @@ pub struct Ended {
     pub improvements: u32,
 }
 
-// What a step found and left: whether the rows can be improved, and the blocks of rows that changed.
-struct Stepped {
-    open: bool,
+// What a step leaves: how many arcs the walk in y and q has, and the blocks of rows of which nothing is kept.
+struct Left {
+    len: usize,
     stale: u32,
 }
 
-// Whether the rows can be improved; where they can and it is allowed, they are, by the exchanges of one cycle. `kept` holds what the blocks of rows
+// The walk to turn next into y and q, which hold the one that was turned last; it has no arcs where there is none. `kept` holds what the blocks of rows
 // allow that are not stale, before and after.
-fn step(
-    rows: &mut [u32],
+fn seek(
+    y: &mut [u32],
+    q: &mut [u32],
+    last: Left,
+    rows: &[u32],
     former: &[u32],
     partitions: usize,
     mates: &[u32],
     caps: &[u32],
     nodes: u32,
     z: u32,
-    allowed: bool,
-    stale: u32,
     kept: &mut [u32],
-) -> Stepped
-    requires { ⌜ (partitions ≤ bufferRows) × Kept (now rows) (now former) partitions (now mates) (belowOf nodes) z stale (now kept) ⌝ }
-    ensures { λ r. ⌜ (r .open ≡ improvesIn (now (former .entry)) partitions (now (mates .entry)) (now (caps .entry)) nodes z (now (rows .entry)))
-        × (now (rows .exit)
-        ≡ steppedIn (now (former .entry)) partitions (now (mates .entry)) (now (caps .entry)) nodes z allowed (now (rows .entry)))
-        × Kept (now (rows .exit)) (now (former .entry)) partitions (now (mates .entry)) (belowOf nodes) z (r .stale) (now (kept .exit)) ⌝ }
+) -> Left
+    requires { ⌜ (last .len ≤ mostNodes) × (walkCells ≤ length (now y)) × (walkCells ≤ length (now q)) × (partitions ≤ bufferRows)
+        × Kept (now rows) (now former) partitions (now mates) (belowOf nodes) z (last .stale) (now kept) ⌝ }
+    ensures { λ r. ⌜ (r .len ≤ mostNodes) × (length (now (y .exit)) ≡ length (now (y .entry))) × (length (now (q .exit)) ≡ length (now (q .entry)))
+        × Same (soughtIn (now (former .entry)) partitions (now (mates .entry)) (now (caps .entry)) nodes z (now (rows .entry)) (walkIn (last .len) (now (y .entry)) (now (q .entry))))
+        (walkIn (r .len) (now (y .exit)) (now (q .exit)))
+        × Kept (now (rows .entry)) (now (former .entry)) partitions (now (mates .entry)) (belowOf nodes) z (r .stale) (now (kept .exit)) ⌝ }
 {
     let all = sets::below(nodes);
+    let len = last.len;
+    if circuits::renew(y, q, len, rows, former, partitions, mates, caps, all, z) {
+        return last;
+    }
     let mut arcs = [0u32; cycles::ARCS];
     graph::build(
         rows,
@@ -51,29 +63,146 @@ fn step(
         caps,
         all,
         z,
-        stale,
+        last.stale,
         kept,
         &mut arcs,
     );
     let mut walk = [0u32; cycles::WALK];
-    let m = cycles::find(&arcs, nodes, &mut walk);
-    if m == 0 {
-        return Stepped {
-            open: false,
-            stale: 0,
-        };
-    }
+    let m = cycles::find(&arcs, nodes, &mut walk) as usize;
+    circuits::load(
+        y,
+        q,
+        &walk,
+        m,
+        rows,
+        former,
+        partitions,
+        mates,
+        &arcs,
+        all,
+        z,
+    );
+    Left { len: m, stale: 0 }
+}
+
+// The walk to turn next; where it is allowed, it is turned, and what is left of it stays in y and q.
+fn step(
+    y: &mut [u32],
+    q: &mut [u32],
+    last: Left,
+    rows: &mut [u32],
+    former: &[u32],
+    partitions: usize,
+    mates: &[u32],
+    caps: &[u32],
+    nodes: u32,
+    z: u32,
+    allowed: bool,
+    kept: &mut [u32],
+) -> Left
+    requires { ⌜ (last .len ≤ mostNodes) × (walkCells ≤ length (now y)) × (walkCells ≤ length (now q)) × (partitions ≤ bufferRows) × (partitions ≤ length (now rows))
+        × Kept (now rows) (now former) partitions (now mates) (belowOf nodes) z (last .stale) (now kept) ⌝ }
+    ensures { λ r. ⌜ (r .len ≤ mostNodes) × (length (now (y .exit)) ≡ length (now (y .entry))) × (length (now (q .exit)) ≡ length (now (q .entry)))
+        × (now (rows .exit)
+        ≡ steppedIn (now (former .entry)) partitions (now (mates .entry)) (now (caps .entry)) nodes z allowed (now (rows .entry)) (walkIn (last .len) (now (y .entry)) (now (q .entry))) .rows)
+        × Same (steppedIn (now (former .entry)) partitions (now (mates .entry)) (now (caps .entry)) nodes z allowed (now (rows .entry)) (walkIn (last .len) (now (y .entry)) (now (q .entry))) .last)
+        (walkIn (r .len) (now (y .exit)) (now (q .exit)))
+        × Kept (now (rows .exit)) (now (former .entry)) partitions (now (mates .entry)) (belowOf nodes) z (r .stale) (now (kept .exit)) ⌝ }
+{
+    let next = seek(
+        y,
+        q,
+        last,
+        rows,
+        former,
+        partitions,
+        mates,
+        caps,
+        nodes,
+        z,
+        kept,
+    );
     if !allowed {
-        return Stepped {
-            open: true,
-            stale: 0,
-        };
+        return next;
     }
-    let changed = circuits::turn(rows, former, partitions, mates, &arcs, all, z, &walk, m);
-    Stepped {
-        open: true,
-        stale: changed,
+    let all = sets::below(nodes);
+    let turned = circuits::turn(y, q, next.len, rows, former, partitions, mates, all, z);
+    let len = turned.len;
+    let stale = sets::union(next.stale, turned.changed);
+    Left { len, stale }
+}
+
+// How a run ended.
+fn verdict(finished: bool, improvements: u32) -> Ended
+    ensures { λ r. ⌜ (r .finished ≡ finished) × (r .improvements ≡ improvements) ⌝ }
+{
+    Ended {
+        finished,
+        improvements,
     }
+}
+
+// The run from the rows in hand, with an allowance of improvements; y and q hold no walk, and `kept` nothing of the rows.
+fn go(
+    y: &mut [u32],
+    q: &mut [u32],
+    rows: &mut [u32],
+    former: &[u32],
+    partitions: usize,
+    mates: &[u32],
+    caps: &[u32],
+    nodes: u32,
+    z: u32,
+    allowance: u32,
+    kept: &mut [u32],
+) -> Ended
+    requires { ⌜ (partitions ≤ bufferRows) × (partitions ≤ length (now rows)) × (now y ≡ replicate walkCells 0) × (now q ≡ replicate walkCells 0)
+        × (length (now kept) ≡ keptCells) ⌝ }
+    ensures { λ r. ⌜ (now (rows .exit)
+        ≡ ranIn (now (former .entry)) partitions (now (mates .entry)) (now (caps .entry)) nodes z allowance (now (rows .entry)) .state .rows)
+        × (r .finished
+        ≡ ranIn (now (former .entry)) partitions (now (mates .entry)) (now (caps .entry)) nodes z allowance (now (rows .entry)) .finished)
+        × (r .improvements
+        ≡ ranIn (now (former .entry)) partitions (now (mates .entry)) (now (caps .entry)) nodes z allowance (now (rows .entry)) .steps) ⌝ }
+{
+    let stale = sets::below(graph::BLOCKS as u32);
+    let mut last = Left { len: 0, stale };
+    let mut done = 0;
+    while done < allowance {
+        last = step(
+            y,
+            q,
+            last,
+            rows,
+            former,
+            partitions,
+            mates,
+            caps,
+            nodes,
+            z,
+            true,
+            kept,
+        );
+        if last.len == 0 {
+            return verdict(true, done);
+        }
+        done += 1;
+    }
+    last = step(
+        y,
+        q,
+        last,
+        rows,
+        former,
+        partitions,
+        mates,
+        caps,
+        nodes,
+        z,
+        false,
+        kept,
+    );
+    verdict(last.len == 0, done)
 }
 
 // The run from the rows in hand, with an allowance of improvements.
@@ -87,40 +216,20 @@ pub fn run(
     z: u32,
     allowance: u32,
 ) -> Ended
-    requires { ⌜ partitions ≤ bufferRows ⌝ }
+    requires { ⌜ (partitions ≤ bufferRows) × (partitions ≤ length (now rows)) ⌝ }
     ensures { λ r. ⌜ (now (rows .exit)
-        ≡ ranIn (now (former .entry)) partitions (now (mates .entry)) (now (caps .entry)) nodes z allowance (now (rows .entry)) .state)
+        ≡ ranIn (now (former .entry)) partitions (now (mates .entry)) (now (caps .entry)) nodes z allowance (now (rows .entry)) .state .rows)
         × (r .finished
         ≡ ranIn (now (former .entry)) partitions (now (mates .entry)) (now (caps .entry)) nodes z allowance (now (rows .entry)) .finished)
         × (r .improvements
         ≡ ranIn (now (former .entry)) partitions (now (mates .entry)) (now (caps .entry)) nodes z allowance (now (rows .entry)) .steps) ⌝ }
 {
+    let mut y = [0u32; cycles::WALK];
+    let mut q = [0u32; cycles::WALK];
     let mut kept = [0u32; graph::KEPT];
-    let mut stale = sets::below(graph::BLOCKS as u32);
-    let mut done = 0;
-    while done < allowance {
-        let next = step(
-            rows,
-            former,
-            partitions,
-            mates,
-            caps,
-            nodes,
-            z,
-            true,
-            stale,
-            &mut kept,
-        );
-        if !next.open {
-            return Ended {
-                finished: true,
-                improvements: done,
-            };
-        }
-        stale = next.stale;
-        done += 1;
-    }
-    let last = step(
+    go(
+        &mut y,
+        &mut q,
         rows,
         former,
         partitions,
@@ -128,15 +237,9 @@ pub fn run(
         caps,
         nodes,
         z,
-        false,
-        stale,
+        allowance,
         &mut kept,
-    );
-    let open = last.open;
-    Ended {
-        finished: !open,
-        improvements: done,
-    }
+    )
 }
 
 // How many pairs the rows share with the former rows.

@@ -11,18 +11,19 @@ use Rattle.cluster.specs.TermsReading.{Accepted, Fits32}
 use Rattle.incidence.proofs.TieLayouts.{valid-of-within}
 use Rattle.sizing.specs.ModelSizing.{sizeOf}
 use Rattle.sizing.proofs.Sizes.{size-none, none-size, size-largest}
+use Rattle.improve.specs.ModelImprove.{begun}
 use Rattle.planner.specs.Demand.{Rules, Demand3}
-use Rattle.planner.specs.ModelPlan.{planFrom, planOf, startRows, layoutRows, farRows, improvesAt, nextAt}
+use Rattle.planner.specs.ModelPlan.{planFrom, planOf, startRows, layoutRows, layoutAt, farAt, improvesAt, nextAt}
 use Rattle.sets.specs.ModelBits.{bitsAt}
 use Rattle.planner.proofs.Rules.{rules}
-use Rattle.planner.proofs.Machines.{GoodRows, start-good, machine}
+use Rattle.planner.proofs.Machines.{GoodRows, GoodAt, start-good, machine}
 
 -- From any good first rows the answers of planning obey the rules of planning by allowance, with the layout of these rows as the beginning.
 pub rules-from : (t : Topology) → Accepted t → Fits32 t → 1 ≤ sizeOf t → (F : Layout) → IsFormer t F → (start : List ℕ) → GoodRows t start
     → Rules t (layoutRows t start) F (planFrom t F start)
 unfolding planFrom
 rules-from t a low large F fo start g =
-    rules t F (sizeOf t) (improvesAt t F) (nextAt t F) (layoutRows t) (farRows t F) start (GoodRows t) (machine t a F fo low large start g)
+    rules t F (sizeOf t) (improvesAt t F) (nextAt t F) (layoutAt t) (farAt t F) (begun start) (GoodAt t a F) (machine t a F fo low large start g)
 
 -- Demand 3: whatever the former layout and the allowance, the answers of planning obey the rules of planning by allowance.
 pub demand3 : (t : Topology) → Accepted t → Fits32 t → (L : Layout) → ValidAt t L 1 → Demand3 t (planOf t)

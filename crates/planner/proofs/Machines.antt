@@ -1,4 +1,4 @@
--- The rows of planning are a machine that improves layouts, from any good first rows: the cluster is a ground of improvements, and the pairs that
+-- The states of planning are a machine that improves layouts, from any good first rows: the cluster is a ground of improvements, and the pairs that
 -- rows share with the former ones tell how far their layout is from the former layout.
 -- Assumes nothing.
 use Prim.Native.Nat.{ℕ, _+_, _*_, _^_, _≤_, _<_}
@@ -27,9 +27,9 @@ use Rattle.incidence.proofs.Columns.{cell-column}
 use Rattle.sizing.specs.ModelSizing.{nodesOf, capCells, sizeOf, dealtBits, dealtRows}
 use Rattle.sizing.proofs.Sizes.{size-is, beginning-within}
 use Rattle.sizing.proofs.Reading.{mates-hold, deal-length, deal-cell, deal-bit}
-use Rattle.improve.specs.ModelImprove.{ranIn, agreementIn}
-use Rattle.improve.proofs.Ground.{Ground, Good, agreement-weighs, next-good, next-gains, none-heavier, none-former, run-finishes}
-use Rattle.planner.specs.ModelPlan.{matesOf, formerMasks, startRows, layoutRows, farRows, improvesAt, nextAt}
+use Rattle.improve.specs.ModelImprove.{State, begun, ranIn, agreementIn}
+use Rattle.improve.proofs.Ground.{Ground, Good, GoodState, agreement-weighs, begun-good, next-good, next-gains, none-heavier, none-former, run-finishes}
+use Rattle.planner.specs.ModelPlan.{matesOf, formerMasks, startRows, layoutRows, farRows, layoutAt, farAt, improvesAt, nextAt}
 use Rattle.planner.proofs.Rules.{Machine}
 
 -- Rows of nodes of the cluster, within the caps at its size.
@@ -101,6 +101,10 @@ module _ (t : Topology) (acc : Accepted t) where
           rows = fm-long;
         }
 
+    -- Good rows, and what a run keeps of its last walk.
+    abbrev pub GoodAt : State → Type 0
+    GoodAt = GoodState P N R (t .redundancy) (zoneIndex t) (capAt t (sizeOf t)) fm
+
     -- ---- how far rows are
 
     module _ (fo : IsFormer t F) where
@@ -114,51 +118,51 @@ module _ (t : Topology) (acc : Accepted t) where
       unfolding farRows
       far-is rows g = omega (arith, measure rows g)
 
-      -- Where the rows cannot be improved, no layout is nearer.
-      none-nearer : (rows : List ℕ) → GoodRows t rows → improvesAt t F rows ≡ false → (L : Layout) → ValidAt t L (sizeOf t) → farRows t F rows ≤ distance t L F
-      none-nearer rows g e L v =
+      -- Where a state cannot be improved, no layout is nearer.
+      none-nearer : (s : State) → GoodAt s → improvesAt t F s ≡ false → (L : Layout) → ValidAt t L (sizeOf t) → farAt t F s ≤ distance t L F
+      none-nearer s g e L v =
           omega (
             arith,
-            far-is rows g,
-            measure rows g,
-            none-heavier ground rows g e (incidence t L) (within-of-valid t (acc .ids) L (sizeOf t) v),
+            far-is (s .rows) (g .good),
+            measure (s .rows) (g .good),
+            none-heavier ground s g e (incidence t L) (within-of-valid t (acc .ids) L (sizeOf t) v),
             same-weight (incidence t L),
             distance-law t L F (acc .ids) (v .rows) (fo .ids),
           )
 
       -- Without former copies nothing is to be improved.
-      blank : (rows : List ℕ) → GoodRows t rows → ((p : ℕ) → p < P → row F p ≡ []) → (improvesAt t F rows ≡ false) × (farRows t F rows ≡ R * P)
+      blank : (s : State) → GoodAt s → ((p : ℕ) → p < P → row F p ≡ []) → (improvesAt t F s ≡ false) × (farAt t F s ≡ R * P)
       unfolding incidence mem one-if formerPairs farRows
-      blank rows g h =
-          let w = none-former ground rows g (λ p b l k. fm-bit p l b k ∙ ap (λ (r : List ℕ). one-if (mem (nodeAt t b .id) r)) (h p l)) in
+      blank s g h =
+          let w = none-former ground s g (λ p b l k. fm-bit p l b k ∙ ap (λ (r : List ℕ). one-if (mem (nodeAt t b .id) r)) (h p l)) in
           (w .0, omega (arith, w .1, sum-zero P (λ p. length (row F p)) (λ p l. ap length (h p l))))
 
       -- One improvement brings the layout nearer by twice the number of nodes at most ..
-      bounded : (rows : List ℕ) → GoodRows t rows → improvesAt t F rows ≡ true → farRows t F rows ≤ farRows t F (nextAt t F rows) + 2 * N
-      bounded rows g e =
-          let n = next-good ground rows g e in
-          omega (arith, next-gains ground rows g e .1, far-is rows g, measure rows g, far-is _ n, measure _ n)
+      bounded : (s : State) → GoodAt s → improvesAt t F s ≡ true → farAt t F s ≤ farAt t F (nextAt t F s) + 2 * N
+      bounded s g e =
+          let n = next-good ground s g e .good in
+          omega (arith, next-gains ground s g e .1, far-is (s .rows) (g .good), measure (s .rows) (g .good), far-is _ n, measure _ n)
 
       -- .. and by two at least.
-      falls : (rows : List ℕ) → GoodRows t rows → improvesAt t F rows ≡ true → farRows t F (nextAt t F rows) + 2 ≤ farRows t F rows
-      falls rows g e =
-          let n = next-good ground rows g e in
-          omega (arith, next-gains ground rows g e .0, far-is rows g, measure rows g, far-is _ n, measure _ n)
+      falls : (s : State) → GoodAt s → improvesAt t F s ≡ true → farAt t F (nextAt t F s) + 2 ≤ farAt t F s
+      falls s g e =
+          let n = next-good ground s g e .good in
+          omega (arith, next-gains ground s g e .0, far-is (s .rows) (g .good), measure (s .rows) (g .good), far-is _ n, measure _ n)
 
-      -- From good first rows the rows of planning are a machine that improves layouts.
+      -- From good first rows the states of planning are a machine that improves layouts.
       pub machine : Fits32 t → 1 ≤ sizeOf t → (start : List ℕ) → GoodRows t start
-          → Machine t F (sizeOf t) (improvesAt t F) (nextAt t F) (layoutRows t) (farRows t F) start (GoodRows t)
+          → Machine t F (sizeOf t) (improvesAt t F) (nextAt t F) (layoutAt t) (farAt t F) (begun start) GoodAt
       unfolding ranIn
       machine low large start g =
           record {
             sized = size-is t acc low large;
-            starts = g;
+            starts = begun-good ground start g;
             stays = next-good ground;
-            valid = λ x g. unfold layoutRows in valid-of-within t (acc .ids) (bitsAt x) (sizeOf t) large (g .within);
-            measured = far-is;
+            valid = λ x h. unfold layoutRows in valid-of-within t (acc .ids) (bitsAt (x .rows)) (sizeOf t) large (h .good .within);
+            measured = λ x h. far-is (x .rows) (h .good);
             falls = falls;
             bounded = bounded;
             nearest = none-nearer;
             enough = run-finishes ground start g mostImprovements (mul-le-mul (few-partitions (t .bits) (acc .bits)) (acc .replication .1));
-            blank = blank start g;
+            blank = blank (begun start) (begun-good ground start g);
           }

@@ -15,7 +15,7 @@ use Rattle.sizing.specs.ModelSizing.{sizeOf}
 use Rattle.sums.specs.TermsSums.{everyTo}
 use Rattle.planner.specs.ModelPlan.{planOf}
 use Rattle.planner.specs.TermsPlan.{unusable, planRefusal, refusedWith, answered, plannedOf, assignmentAfter, scratchAfter}
-use Rattle.planner.proofs.Refusals.{every-cong}
+use Rattle.sums.proofs.Tests.{every-cong}
 
 module _ (c d : Cluster) (nodes : topology c ≡ topology d) (few : c .count ≤ mostNodes) (few′ : d .count ≤ mostNodes) (f g : List ℕ) (whole : layoutCells ≤ length f)
     (whole′ : layoutCells ≤ length g) (rows : (p : ℕ) → p < partitions (topology c) → rowAt f p ≡ rowAt g p)

@@ -16,15 +16,10 @@ use Rattle.cluster.proofs.CellLayouts.{few-ids, holds-cellsOf, holds-append}
 use Rattle.cluster.proofs.RowScans.{row-of-buffer}
 use Rattle.masks.specs.ModelMasks.{rowsFormed}
 use Rattle.sums.specs.TermsSums.{everyTo}
+use Rattle.sums.proofs.Tests.{every-cong}
 use Rattle.improve.proofs.Runs.{not-both}
 use Rattle.masks.proofs.Laws.{holds-formed, formed-former}
 use Rattle.planner.specs.TermsPlan.{unusable}
-
--- Tests that are the same at each index are the same of all.
-pub every-cong : (n : ℕ) (f g : ℕ → Bool) → ((i : ℕ) → i < n → f i ≡ g i) → everyTo n f ≡ everyTo n g
-unfolding everyTo
-every-cong zero f g h = refl
-every-cong (suc n) f g h = ap₂ _&&_ (every-cong n f g (λ i l. h i (omega arith))) (h n (omega arith))
 
 -- The test of the former rows that code makes is the one of the definition.
 module _ (cells : List ℕ) (whole : layoutCells ≤ length cells) where

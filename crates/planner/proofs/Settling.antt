@@ -22,9 +22,9 @@ use Rattle.incidence.proofs.TieDistance.{former-few}
 use Rattle.masks.specs.ModelMasks.{masksRead, rowMask, cellsWritten, idsTotal, rowsFormed}
 use Rattle.masks.proofs.Laws.{mask-bits, formed-each, formed-former, ids-pairs, written-layout}
 use Rattle.sizing.specs.ModelSizing.{nodesOf, mateCells, capCells, sizeOf, dealtIn}
-use Rattle.sizing.proofs.Reading.{deal-in}
+use Rattle.sizing.proofs.Reading.{deal-in, deal-length}
 use Rattle.improve.specs.ModelRun.{Ran}
-use Rattle.improve.specs.ModelImprove.{ranIn, agreementIn, sharedIn}
+use Rattle.improve.specs.ModelImprove.{State, ranIn, agreementIn, sharedIn}
 use Rattle.planner.specs.ModelPlan.{formerMasks, dealtAt, startRows, ranFrom, layoutRows, farRows, planFrom, planOf}
 use Rattle.planner.specs.TermsPlan.{planIn, answered}
 use Rattle.planner.specs.declared.Planned.{Planned}
@@ -44,20 +44,27 @@ shared-is rows before P x a b c e = e ∙ simp (le-ltb bufferRows P a, le-ltb (l
 
 -- ---- the run
 
+-- The rows that code deals are the dealt rows, and there is one for each partition.
+module _ (c : Cluster) (size : ℕ) (rows dealt : List ℕ) (e : faultOf c ≡ 0) (e-rows : rows ≡ replicate bufferRows 0) (e-dealt : dealt ≡ dealtIn c size rows) where
+  the-dealt : dealt ≡ dealtAt (topology c) size
+  the-dealt =
+      e-dealt
+      ∙ (ap (dealtIn c size) e-rows
+      ∙ deal-in c size (replicate bufferRows 0) e (omega (arith, few-partitions (c .bits) (accepted c e .bits), length-replicate {A = ℕ} bufferRows 0)))
+
+  pub dealt-fits : (P : ℕ) → P ≡ partitions (topology c) → (P ≤ bufferRows) × (P ≤ length dealt)
+  dealt-fits P eP =
+      let few : P ≤ bufferRows = omega (arith, eP, few-partitions (c .bits) (accepted c e .bits)) in
+      (few, omega (arith, few, ap length the-dealt, deal-length (topology c) size (replicate bufferRows 0), length-replicate {A = ℕ} bufferRows 0))
+
 -- The run from the dealt rows, with the numbers and cells that code makes of the cluster.
 module _ (c : Cluster) (size P n : ℕ) (before rows zones mates caps dealt : List ℕ) (a : ℕ) (e : faultOf c ≡ 0) (eP : P ≡ partitions (topology c))
     (en : n ≡ nodesOf (topology c)) (e-rows : rows ≡ replicate bufferRows 0) (e-dealt : dealt ≡ dealtIn c size rows) (e-zones : zones ≡ zoneCells (topology c))
     (e-mates : mates ≡ mateCells zones n) (e-caps : caps ≡ capCells (topology c) size)
   where
-    the-dealt : dealt ≡ dealtAt (topology c) size
-    the-dealt =
-        e-dealt
-        ∙ (ap (dealtIn c size) e-rows
-        ∙ deal-in c size (replicate bufferRows 0) e (omega (arith, few-partitions (c .bits) (accepted c e .bits), length-replicate {A = ℕ} bufferRows 0)))
-
     pub run-is : ranIn before P mates caps n (c .redundancy) a dealt ≡ ranFrom (topology c) size before (dealtAt (topology c) size) a
     unfolding ranFrom
-    run-is = λ i. ranIn before (eP i) (the-mates i) (e-caps i) (en i) (c .redundancy) a (the-dealt i)
+    run-is = λ i. ranIn before (eP i) (the-mates i) (e-caps i) (en i) (c .redundancy) a (the-dealt c size rows dealt e e-rows e-dealt i)
       where
         the-mates : mates ≡ mateCells (zoneCells (topology c)) (nodesOf (topology c))
         the-mates = e-mates ∙ (λ i. mateCells (e-zones i) (en i))
@@ -67,7 +74,7 @@ module _ (c : Cluster) (size P n : ℕ) (before rows zones mates caps dealt : Li
 module _ (c : Cluster) (former : List ℕ) (a size P : ℕ) (before rows : List ℕ) (e : faultOf c ≡ 0)
     (formed : rowsFormed former (partitions (topology c)) ≡ true) (es : size ≡ sizeOf (topology c)) (large : 1 ≤ size)
     (eP : P ≡ partitions (topology c)) (eb : before ≡ masksRead (topology c .nodes) former P (replicate bufferRows 0))
-    (er : rows ≡ ranFrom (topology c) size before (dealtAt (topology c) size) a .state) (low : Fits32 (topology c))
+    (er : rows ≡ ranFrom (topology c) size before (dealtAt (topology c) size) a .state .rows) (low : Fits32 (topology c))
   where
     abbrev t : Topology
     t = topology c
@@ -102,19 +109,19 @@ module _ (c : Cluster) (former : List ℕ) (a size P : ℕ) (before rows : List 
         (ap (λ (l : List ℕ). l ++ drop (partitions t) (replicate bufferRows 0))
         (tab-cong (λ p. rowMask (t .nodes) former p) (λ p. maskOf (incidence t F p) (nodesOf t)) (partitions t) mask-is))))
 
-    abbrev ran : Ran (List ℕ)
+    abbrev ran : Ran State
     ran = ranFrom t (sizeOf t) (formerMasks t F) (startRows t) a
 
     ran-is : ranFrom t size before (dealtAt t size) a ≡ ran
     unfolding startRows
     ran-is = λ i. ranFrom t (es i) (before-is i) (dealtAt t (es i)) a
 
-    rows-are : rows ≡ ran .state
-    rows-are = er ∙ ap (λ (r : Ran (List ℕ)). r .state) ran-is
+    rows-are : rows ≡ ran .state .rows
+    rows-are = er ∙ ap (λ (r : Ran State). r .state .rows) ran-is
 
     good : GoodRows t rows
     unfolding ranFrom
-    good = subst (GoodRows t) (sym rows-are) (run-good (ground t acc F) (startRows t) (start-good t acc has-size) a)
+    good = subst (GoodRows t) (sym rows-are) (run-good (ground t acc F) (startRows t) (start-good t acc has-size) a .good)
 
     ids-are : idsTotal former P ≡ formerPairs t F
     ids-are = ap (idsTotal former) eP ∙ ids-pairs t former formed
@@ -140,9 +147,9 @@ module _ (c : Cluster) (former : List ℕ) (a size P : ℕ) (before rows : List 
         → _≡_ {A = Planned} (record { refusal = 0; size = size; distance = d; finished = f; improvements = s }) (answered (planIn c former a))
     unfolding planOf planFrom farRows ranFrom ranIn
     answer-is d ed f ef s es′ =
-        λ i. record { refusal = 0; size = es i; distance = far i; finished = (ef ∙ ap (λ (r : Ran (List ℕ)). r .finished) ran-is) i; improvements = (es′ ∙ ap (λ (r : Ran (List ℕ)). r .steps) ran-is) i }
+        λ i. record { refusal = 0; size = es i; distance = far i; finished = (ef ∙ ap (λ (r : Ran State). r .finished) ran-is) i; improvements = (es′ ∙ ap (λ (r : Ran State). r .steps) ran-is) i }
       where
-        far : d ≡ farRows t F (ran .state)
+        far : d ≡ farRows t F (ran .state .rows)
         far =
             ed
             ∙ ((λ i. c .replication * eP i + ids-are i - 2 * agreement-is i)

@@ -1,5 +1,5 @@
--- The run of planning over row masks: the graph of the rows, the cycle found in it, the exchanges of the cycle, until there is none or the
--- allowance is spent. Nobody has to believe this file: the theorem of proofs/Demands.antt says in the paper's terms what it achieves.
+-- The run of planning over row masks: the walk that was turned last, where it stands again in the rows, else the cycle found in the graph of the
+-- rows; the exchanges of that walk; until there is none or the allowance is spent. Nobody has to believe this file: the theorem of proofs/Demands.antt says in the paper's terms what it achieves.
 -- Assumes nothing.
 use Prim.Native.Nat.{ℕ, _+_, _-_, _*_}
 use mathlib.Core.Bool.{Bool}
@@ -11,7 +11,7 @@ use Rattle.cluster.specs.Terms.{bufferRows, Topology, partitions, Layout}
 use Rattle.incidence.specs.ModelIncidence.{incidence, layoutOf, formerPairs, zoneCells}
 use Rattle.sizing.specs.ModelSizing.{nodesOf, mateCells, capCells, sizeOf, dealtRows}
 use Rattle.improve.specs.ModelRun.{Ran, run}
-use Rattle.improve.specs.ModelImprove.{improvesIn, nextIn, ranIn, agreementIn}
+use Rattle.improve.specs.ModelImprove.{State, begun, improvesIn, nextIn, ranIn, agreementIn}
 use Rattle.planner.specs.Demand.{Answer}
 
 -- ---- the plan of a topology
@@ -41,14 +41,21 @@ unfoldable pub farRows : Topology → Layout → List ℕ → ℕ
 farRows t F rows =
     t .replication * partitions t + formerPairs t F - 2 * agreementIn rows (formerMasks t F) (partitions t)
 
-abbrev pub improvesAt : Topology → Layout → List ℕ → Bool
+-- The same of a state of the run.
+abbrev pub layoutAt : Topology → State → Layout
+layoutAt t s = layoutRows t (s .rows)
+
+abbrev pub farAt : Topology → Layout → State → ℕ
+farAt t F s = farRows t F (s .rows)
+
+abbrev pub improvesAt : Topology → Layout → State → Bool
 improvesAt t F = improvesIn (formerMasks t F) (partitions t) (matesOf t) (capCells t (sizeOf t)) (nodesOf t) (t .redundancy)
 
-abbrev pub nextAt : Topology → Layout → List ℕ → List ℕ
+abbrev pub nextAt : Topology → Layout → State → State
 nextAt t F = nextIn (formerMasks t F) (partitions t) (matesOf t) (capCells t (sizeOf t)) (nodesOf t) (t .redundancy)
 
 -- Where the run with an allowance ends, from any first rows within the caps of a size, `before` the former rows as masks.
-unfoldable pub ranFrom : Topology → ℕ → List ℕ → List ℕ → ℕ → Ran (List ℕ)
+unfoldable pub ranFrom : Topology → ℕ → List ℕ → List ℕ → ℕ → Ran State
 ranFrom t s before rows a = ranIn before (partitions t) (matesOf t) (capCells t s) (nodesOf t) (t .redundancy) a rows
 
 -- ---- the answer
@@ -68,7 +75,7 @@ module _ {A : Type 0} (improves : A → Bool) (next : A → A) (lay : A → Layo
 
 -- The answer of planning from any first rows.
 unfoldable pub planFrom : Topology → Layout → List ℕ → ℕ → Answer
-planFrom t F rows = answerAt (improvesAt t F) (nextAt t F) (layoutRows t) (farRows t F) (sizeOf t) rows
+planFrom t F rows = answerAt (improvesAt t F) (nextAt t F) (layoutAt t) (farAt t F) (sizeOf t) (begun rows)
 
 -- The answer of planning, of the nodes in use, the first P former rows and the allowance alone: the run from the beginning.
 unfoldable pub planOf : Topology → Layout → ℕ → Answer

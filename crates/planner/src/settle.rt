@@ -25,7 +25,7 @@ pub(crate) fn improved(
     rows: &mut [u32],
 ) -> Ended
     requires { ⌜ (faultOf c ≡ 0) × (now rows ≡ replicate bufferRows 0) ⌝ }
-    ensures { λ r. ⌜ (now (rows .exit) ≡ ranFrom (topology c) size (now (before .entry)) (dealtAt (topology c) size) allowance .state)
+    ensures { λ r. ⌜ (now (rows .exit) ≡ ranFrom (topology c) size (now (before .entry)) (dealtAt (topology c) size) allowance .state .rows)
         × (r .finished ≡ ranFrom (topology c) size (now (before .entry)) (dealtAt (topology c) size) allowance .finished)
         × (r .improvements ≡ ranFrom (topology c) size (now (before .entry)) (dealtAt (topology c) size) allowance .steps)
         × Fits32 (topology c) ⌝ }

@@ -63,3 +63,9 @@ every-fails zero i f l h = absurd (omega arith)
 every-fails (suc n) i f l h =
     ⊎-elim (λ k. ap (λ (t : Bool). t && f n) (every-fails n i f k h))
     (λ k. let e : n ≡ i = omega arith in ap (λ (t : Bool). everyTo n f && t) (ap f e ∙ h) ∙ and-false (everyTo n f)) (lt-or-ge i n)
+
+-- Tests that are the same at each index are the same of all.
+pub every-cong : (n : ℕ) (f g : ℕ → Bool) → ((i : ℕ) → i < n → f i ≡ g i) → everyTo n f ≡ everyTo n g
+unfolding everyTo
+every-cong zero f g h = refl
+every-cong (suc n) f g h = ap₂ _&&_ (every-cong n f g (λ i l. h i (omega arith))) (h n (omega arith))

@@ -1,14 +1,15 @@
-// What is read off a closed walk of the exchange graph: the partition in which an arc is an exchange, the first pair of arcs that can be crossed, and
-// whether the part between two arcs gains. A row is a set of nodes; a walk is two slices, its nodes and the partitions of its arcs. Every
+// What is read off a closed walk of the exchange graph: the partition in which an arc is an exchange, the next one in which it is the same exchange
+// again, the first pair of arcs that can be crossed, and whether the part between two arcs gains. A row is a set of nodes; a walk is two slices, its nodes and the partitions of its arcs. Every
 // public function is total: a cell past a slice's end counts as 0, and the arcs are numbered by u32, so that the next one is always an index.
 ghost use mathlib.Core.Path.{_≡_};
 ghost use Prim.Native.Nat.{_+_, _-_, _≤_, _<_, _^_};
 ghost use lib.ListN.{getD};
+ghost use Rattle.sums.specs.ModelSums.{firstFrom};
 ghost use Rattle.sets.specs.ModelBits.{bit, bitsAt};
 ghost use Rattle.exchange.specs.ModelCircuit.{cost};
 ghost use Rattle.exchange.specs.ModelUncross.{crosses, partner, firstCrossed};
 ghost use Rattle.cycles.specs.ModelGraph.{weightOf};
-ghost use Rattle.walks.specs.ModelWalks.{okOf, suitsOf, witnessOf, walkIn, innerGains};
+ghost use Rattle.walks.specs.ModelWalks.{okOf, suitsOf, suitsAt, witnessOf, walkIn, innerGains, roomAt, renewedAt, standsAt};
 use cluster::Cluster;
 
 // Digit i of s.
@@ -48,6 +49,34 @@ fn suits(mates: &[u32], all: u32, z: u32, row: u32, old: u32, w: u32, u: u32, v:
     sets::member(swaps::targets(mates, all, z, row, u), v)
 }
 
+// The first partition from `start` on with the exchange of u for v at the weight w.
+fn first(
+    rows: &[u32],
+    former: &[u32],
+    partitions: usize,
+    mates: &[u32],
+    all: u32,
+    z: u32,
+    w: u32,
+    u: u32,
+    v: u32,
+    start: usize,
+) -> usize
+    requires { ⌜ (w ≤ 2) × (start ≤ partitions) ⌝ }
+    ensures { λ r. ⌜ (r ≡ firstFrom (suitsAt (now (rows .entry)) (now (former .entry)) (now (mates .entry)) all z w u v) (partitions - start) start) × (r ≤ partitions) ⌝ }
+{
+    let mut p = start;
+    while p < partitions {
+        let row = swaps::cell(rows, p);
+        let old = swaps::cell(former, p);
+        if suits(mates, all, z, row, old, w, u, v) {
+            return p;
+        }
+        p += 1;
+    }
+    p
+}
+
 // The first partition with the exchange of u for v at the arc's weight.
 pub fn witness(
     rows: &[u32],
@@ -63,16 +92,7 @@ pub fn witness(
     ensures { λ r. ⌜ (r ≡ witnessOf (now (rows .entry)) (now (former .entry)) partitions (now (mates .entry)) (now (arcs .entry)) all z u v) × (r ≤ partitions) ⌝ }
 {
     let w = weight(arcs, u, v);
-    let mut p = 0;
-    while p < partitions {
-        let row = swaps::cell(rows, p);
-        let old = swaps::cell(former, p);
-        if suits(mates, all, z, row, old, w, u, v) {
-            return p;
-        }
-        p += 1;
-    }
-    p
+    first(rows, former, partitions, mates, all, z, w, u, v, 0)
 }
 
 // Whether node a of the row of partition p may give way to node b.
@@ -201,4 +221,56 @@ pub fn gains(y: &[u32], q: &[u32], i: u32, j: u32, former: &[u32], partitions: u
         t += 1;
     }
     sum < (j - i) as usize
+}
+
+// Whether node u has fewer copies in the rows than its cap.
+fn room(rows: &[u32], partitions: usize, caps: &[u32], u: u32) -> bool
+    ensures { λ r. ⌜ r ≡ roomAt (now (rows .entry)) partitions (now (caps .entry)) u ⌝ }
+{
+    let mut copies = 0usize;
+    let mut p = 0;
+    while p < partitions {
+        copies += digit(swaps::cell(rows, p), u) as usize;
+        p += 1;
+    }
+    copies < swaps::cell(caps, u as usize) as usize
+}
+
+// An arc in other rows: whether it stands in them, and at which partition.
+pub struct Arc {
+    pub stands: bool,
+    pub partition: usize,
+}
+
+// The arc from u to v again, which was an exchange at q: the next partition, from q on, with the same exchange at the same cost. A step over the
+// store stands where u has room.
+pub fn renewed(
+    rows: &[u32],
+    former: &[u32],
+    partitions: usize,
+    mates: &[u32],
+    caps: &[u32],
+    all: u32,
+    z: u32,
+    q: u32,
+    u: u32,
+    v: u32,
+) -> Arc
+    ensures { λ r. ⌜ (r .stands ≡ standsAt (now (rows .entry)) (now (former .entry)) partitions (now (mates .entry)) all z (now (caps .entry)) q u v)
+        × (r .partition ≡ renewedAt (now (rows .entry)) (now (former .entry)) partitions (now (mates .entry)) all z q u v)
+        × (r .partition ≤ partitions) ⌝ }
+{
+    let start = q as usize;
+    if partitions <= start {
+        return Arc {
+            stands: room(rows, partitions, caps, u),
+            partition: partitions,
+        };
+    }
+    let w = arc_cost(former, partitions, q, u, v) as u32;
+    let p = first(rows, former, partitions, mates, all, z, w, u, v, start);
+    Arc {
+        stands: p < partitions,
+        partition: p,
+    }
 }

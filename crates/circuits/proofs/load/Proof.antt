@@ -4,7 +4,8 @@ use native.Mathlib.Omega.{arith}
 use Rattle.circuits.specs.ModelCircuits.{witnessIn}
 use Rattle.cells.proofs.Cells.{put-none, put-next}
 use Rattle.cells.specs.ModelCells.{put}
-use lib.ListN.{length, getD}
+use lib.ListN.{length, getD, set}
+use Rattle.circuits.proofs.Steps.{loaded}
 use mathlib.Core.Path.{_≡_, refl, ap, _∙_}
 use Prim.Native.Nat.{ℕ, _≤_, _-_}
 use Rattle.circuits.proofs.load.Statement.{statement}
@@ -107,8 +108,12 @@ returns c = let k = c .before .before in
     let w : ℕ → ℕ =
     witnessIn (a .walk .now) (a .rows .now) (a .former .now) (a .partitions) (a .mates .now) (a .arcs .now) (a .all) (a .z) in
     let e : k .loop .t ≡ a .m = omega arith in (
-      put-next n (a .m) (n (a .m)) (a .y .now) (k .loop .y) (k .loop .inv .3 ∙ ap (λ (t : ℕ). put 0 n t (a .y .now)) e) refl,
-      k .loop .inv .4 ∙ ap (λ (t : ℕ). put 0 w t (a .q .now)) e,
+      search needs,
+      omega arith,
+      loaded (a .rows .now) (a .former .now) (a .partitions) (a .mates .now) (a .arcs .now) (a .all) (a .z) (a .walk .now) (a .m)
+          (set (k .loop .y) (a .m) (n (a .m))) (k .loop .q) (a .y .now) (a .q .now)
+          (put-next n (a .m) (n (a .m)) (a .y .now) (k .loop .y) (k .loop .inv .3 ∙ ap (λ (t : ℕ). put 0 n t (a .y .now)) e) refl) (omega arith)
+          (k .loop .inv .4 ∙ ap (λ (t : ℕ). put 0 w t (a .q .now)) e) (omega arith),
     )
 
 pub load-spec : {M : Type 1} → statement M

@@ -1,47 +1,19 @@
 -- `improve::step` meets its contract. Assumes nothing.
-use Prim.Native.Nat.{ℕ}
-use mathlib.Core.Path.{sym, _∙_, subst}
 use borrow.Author.Needs.{needs}
 use borrow.Author.Tests.{not-true, not-false}
+use native.Mathlib.Omega.{arith}
+use Prim.Native.Nat.{ℕ}
+use mathlib.Core.Path.{sym, subst}
 use Rattle.sets.specs.ModelBits.{belowOf}
 use Rattle.graph.specs.ModelKept.{Kept}
 use Rattle.graph.proofs.Blocks.{kept-changed}
-use Rattle.improve.proofs.Steps.{step-none, step-made, step-kept}
+use Rattle.walks.specs.ModelWalks.{walkIn}
+use Rattle.improve.proofs.Steps.{step-made, step-kept}
 use Rattle.improve.proofs.step.Statement.{statement}
 use Rattle.improve.proofs.step.Tie as tie
 
-below-requires : tie.Need-below-requires
-below-requires c κs = search needs
-
-slice-aggregate-build : tie.Need-slice-aggregate-build
-slice-aggregate-build c = search needs
-
-build-requires : tie.Need-build-requires
-build-requires c κs =
-    let w = c .before .before .before in
-    let s = w .before .before .before .before .before .before in
-    let a = s .args in
-    (s .pre .0, subst (λ (x : ℕ). Kept (a .rows .now) (a .former .now) (a .partitions) (a .mates .now) x (a .z) (a .stale) (a .kept .now)) (sym (w .below .ensures)) (s .pre .1))
-
--- After the graph is built, all blocks are right.
-fresh : (f : tie.After-find)
-    → (let b = f .before .before .before .before .before .before in
-    let a = b .before .before .before .before .before .before .before .before .before .before .args in
-    Kept (a .rows .now) (a .former .now) (a .partitions) (a .mates .now) (belowOf (a .nodes)) (a .z) 0 (b .build .last .1 .1 .1 .1 .1 .1 .1 .1 .0))
-fresh f =
-    let b = f .before .before .before .before .before .before in
-    let w = b .before .before .before .before in
-    let a = w .before .before .before .before .before .before .args in
-    subst (λ (x : ℕ). Kept (a .rows .now) (a .former .now) (a .partitions) (a .mates .now) x (a .z) 0 (b .build .last .1 .1 .1 .1 .1 .1 .1 .1 .0)) (w .below .ensures) (b .build .ensures .1)
-
-slice-aggregate-find : tie.Need-slice-aggregate-find
-slice-aggregate-find c = search needs
-
-slice-aggregate-find-2 : tie.Need-slice-aggregate-find-2
-slice-aggregate-find-2 c = search needs
-
-find-requires : tie.Need-find-requires
-find-requires c κs = search needs
+seek-requires : tie.Need-seek-requires
+seek-requires c κs = let p = c .before .before .before .before .before .before .before .before .before .before .before .pre in (p .0, p .1, p .2, p .3, p .5)
 
 same-length : tie.Need-same-length
 same-length c = search needs
@@ -49,42 +21,33 @@ same-length c = search needs
 same-length-2 : tie.Need-same-length-2
 same-length-2 c = search needs
 
-returns : tie.Need-returns
-returns c =
-    let f = c .before .before in
-    let b = f .before .before .before .before .before .before in
-    let w = b .before .before .before .before in
-    let a = w .before .before .before .before .before .before .args in
-    let q = step-none (a .rows .now) (a .former .now) (a .partitions) (a .mates .now) (a .caps .now) (a .nodes) (a .z) (w .below .result) (b .build .last .1 .1 .1 .1 .1 .1 .1 .1 .1 .0)
-    (f .find .last .1 .1 .0) (f .find .result) (w .below .ensures) (b .build .ensures .0) (f .find .ensures .0) (f .find .ensures .1) (c .if1 .taken) (a .allowed) in
-    (q .0, q .1, fresh f)
-
 same-length-3 : tie.Need-same-length-3
 same-length-3 c = search needs
 
 same-length-4 : tie.Need-same-length-4
 same-length-4 c = search needs
 
-returns-2 : tie.Need-returns-2
-returns-2 c =
-    let f = c .before .before .before in
-    let b = f .before .before .before .before .before .before in
-    let w = b .before .before .before .before in
-    let a = w .before .before .before .before .before .before .args in
-    let q =
-    step-kept (a .rows .now) (a .former .now) (a .partitions) (a .mates .now) (a .caps .now) (a .nodes) (a .z) (w .below .result) (b .build .last .1 .1 .1 .1 .1 .1 .1 .1 .1 .0)
-    (f .find .last .1 .1 .0) (f .find .result) (w .below .ensures) (b .build .ensures .0) (f .find .ensures .0) (f .find .ensures .1) (c .before .if1 .left) (a .allowed)
-    (not-true (a .allowed) (c .if2 .taken)) in
-    (q .0, q .1, fresh f)
+returns : tie.Need-returns
+returns c = let k = c .before .before .before .before .before .before .before .seek in
+    let a = c .before .before .before .before .before .before .before .before .before .before .before .before .before .before .before .before .before .before .before .args in
+    let w = walkIn (k .result .len) (k .last .0) (k .last .1 .0) in
+    let s = step-kept (a .former .now) (a .partitions) (a .mates .now) (a .caps .now) (a .nodes) (a .z) (a .rows .now) (walkIn (a .last .len) (a .y .now) (a .q .now)) w w (k .ensures .3) (a .allowed) (not-true (a .allowed) (c .if1 .taken)) in (
+      k .ensures .0,
+      search needs,
+      search needs,
+      s .0,
+      s .1,
+      k .ensures .4,
+    )
 
-slice-aggregate-turn : tie.Need-slice-aggregate-turn
-slice-aggregate-turn c = search needs
-
-slice-aggregate-turn-2 : tie.Need-slice-aggregate-turn-2
-slice-aggregate-turn-2 c = search needs
+below-requires : tie.Need-below-requires
+below-requires c κs = search needs
 
 turn-requires : tie.Need-turn-requires
 turn-requires c κs = search needs
+
+union-requires : tie.Need-union-requires
+union-requires c κs = search needs
 
 same-length-5 : tie.Need-same-length-5
 same-length-5 c = search needs
@@ -92,44 +55,45 @@ same-length-5 c = search needs
 same-length-6 : tie.Need-same-length-6
 same-length-6 c = search needs
 
-returns-3 : tie.Need-returns-3
-returns-3 c =
-    let t = c .before .before in
-    let n = t .before .before .before .before in
-    let f = n .before .before .before in
-    let b = f .before .before .before .before .before .before in
-    let w = b .before .before .before .before in
-    let s = w .before .before .before .before .before .before in
-    let a = s .args in
-    let q =
-    step-made (a .rows .now) (a .former .now) (a .partitions) (a .mates .now) (a .caps .now) (a .nodes) (a .z) (w .below .result) (b .build .last .1 .1 .1 .1 .1 .1 .1 .1 .1 .0)
-    (f .find .last .1 .1 .0) (f .find .result) (w .below .ensures) (b .build .ensures .0) (f .find .ensures .0) (f .find .ensures .1) (n .before .if1 .left) (a .allowed)
-    (not-false (a .allowed) (n .if2 .left)) _ (t .turn .ensures .0) in (
-      q .0,
-      q .1,
-      kept-changed (a .former .now) (a .partitions) (a .mates .now) (belowOf (a .nodes)) (a .z) (s .pre .0) (a .rows .now) (t .turn .last .0) (b .build .last .1 .1 .1 .1 .1 .1 .1 .1 .0)
-          (t .turn .result) (fresh f) (t .turn .ensures .1),
+same-length-7 : tie.Need-same-length-7
+same-length-7 c = search needs
+
+same-length-8 : tie.Need-same-length-8
+same-length-8 c = search needs
+
+returns-2 : tie.Need-returns-2
+returns-2 c = let t = c .before .before .before .before .before .before .before .turn in
+    let b = c .before .before .before .before .before .before .before .before .before .before .before .below in
+    let k = c .before .before .before .before .before .before .before .before .before .before .before .before .before .before .before .before .before .before .before .seek in
+    let i = c .before .before .before .before .before .before .before .before .before .before .before .before .before .before .before .before .before .before .before .before .before .before .before .before .before .before .before .before .before .before .before in
+    let a = i .args in
+    let s =
+    step-made (a .former .now) (a .partitions) (a .mates .now) (a .caps .now) (a .nodes) (a .z) (a .rows .now) (walkIn (a .last .len) (a .y .now) (a .q .now)) (walkIn (k .result .len) (k .last .0) (k .last .1 .0)) (walkIn (t .result .len) (t .last .0) (t .last .1 .0)) (k .ensures .3) (a .allowed)
+    (not-false (a .allowed) (c .before .before .before .before .before .before .before .before .before .before .before .before .if1 .left)) (b .result) (b .ensures) _ (t .ensures .3) (t .ensures .4) in (
+      omega (arith, t .ensures .0, k .ensures .0),
+      search needs,
+      search needs,
+      s .0,
+      s .1,
+      subst (λ (x : ℕ). Kept (t .last .1 .1 .1 .0) (a .former .now) (a .partitions) (a .mates .now) (belowOf (a .nodes)) (a .z) x (k .last .1 .1 .1 .1 .1 .1 .1 .1 .1 .1 .0)) (sym (c .union .ensures))
+          (kept-changed (a .former .now) (a .partitions) (a .mates .now) (belowOf (a .nodes)) (a .z) (i .pre .3) (a .rows .now) (t .last .1 .1 .1 .0) (k .last .1 .1 .1 .1 .1 .1 .1 .1 .1 .1 .0) (k .result .stale) (t .result .changed) (k .ensures .4) (t .ensures .5)),
     )
 
 pub step-spec : {M : Type 1} → statement M
 step-spec =
     tie.close
     (tie.spec
-    below-requires
-    slice-aggregate-build
-    build-requires
-    slice-aggregate-find
-    slice-aggregate-find-2
-    find-requires
+    seek-requires
     same-length
     same-length-2
-    returns
     same-length-3
     same-length-4
-    returns-2
-    slice-aggregate-turn
-    slice-aggregate-turn-2
+    returns
+    below-requires
     turn-requires
+    union-requires
     same-length-5
     same-length-6
-    returns-3)
+    same-length-7
+    same-length-8
+    returns-2)

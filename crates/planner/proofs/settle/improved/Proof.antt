@@ -10,7 +10,8 @@ use Rattle.cluster.specs.Terms.{mostNodes, partitions, topology}
 use Rattle.cluster.proofs.Accepting.{partitions-in-range, accepted, few-nodes, nodes-count}
 use Rattle.sizing.specs.ModelSizing.{nodesOf}
 use Rattle.improve.specs.ModelRun.{Ran}
-use Rattle.planner.proofs.Settling.{run-is}
+use Rattle.improve.specs.ModelImprove.{State}
+use Rattle.planner.proofs.Settling.{run-is, dealt-fits}
 use Rattle.planner.proofs.settle.improved.Statement.{statement}
 use Rattle.planner.proofs.settle.improved.Tie as tie
 use Rattle.planner.proofs.settle.improved.Reads as reads
@@ -58,7 +59,8 @@ cast-run : tie.Need-cast-run
 cast-run c = let s = c .before .before .before .before .before .before .before .before .before .before .before .before .before in omega (arith, few-nodes (s .args .c) (s .pre .0))
 
 run-requires : tie.Need-run-requires
-run-requires c κs = search needs
+run-requires c κs = let s = c .before .before .before .before .before .before .before .before .before .before .before .before .before in
+    dealt-fits (s .args .c) (s .args .size) (s .args .rows .now) _ (s .pre .0) (s .pre .1) (c .before .before .before .before .before .before .before .before .deal .ensures) _ (rows (c .before .before .before .before .before .before .before .before .before .before))
 
 same-length : tie.Need-same-length
 same-length c = search needs
@@ -71,9 +73,9 @@ returns c =
     run-is (s .args .c) (s .args .size) _ _ (s .args .before .now) (s .args .rows .now) _ _ _ _ (s .args .allowance) (s .pre .0)
     (rows (c .before .before .before .before .before .before .before .before .before .before .before .before .before)) (used s) (s .pre .1) (c .before .before .before .before .before .before .before .before .before .before .before .deal .ensures) (c .before .before .before .before .before .before .before .before .zones .ensures)
     (c .before .before .before .before .before .before .before .mates .ensures) (c .before .before .before .before .before .before .caps .ensures .0 ∙ caps-in (s .args .c) (s .args .size) (accepted (s .args .c) (s .pre .0) .bits)) in (
-      r .0 ∙ ap (λ (x : Ran (List ℕ)). x .state) q,
-      r .1 ∙ ap (λ (x : Ran (List ℕ)). x .finished) q,
-      r .2 ∙ ap (λ (x : Ran (List ℕ)). x .steps) q,
+      r .0 ∙ ap (λ (x : Ran State). x .state .rows) q,
+      r .1 ∙ ap (λ (x : Ran State). x .finished) q,
+      r .2 ∙ ap (λ (x : Ran State). x .steps) q,
       c .before .before .before .before .before .before .caps .ensures .1,
     )
 
