@@ -3,29 +3,28 @@
 use Prim.Native.Nat.{ℕ, zero, suc, _+_, _-_, _*_, _/_, _%_, _^_, _≤_, _<_, min, max}
 use mathlib.Core.Path.{_≡_, refl, sym, ap, ap₂, _∙_, subst}
 use mathlib.Core.List.{List, _++_}
-use mathlib.Core.Logic.{_⊎_, ⊎-elim}
-use native.Mathlib.Numerals.{add-one}
+use mathlib.Core.Logic.{⊎-elim}
 use native.Mathlib.Nat.{add-zero}
 use native.Mathlib.Omega.{arith}
-use lib.ListN.{length, getD, drop, take, replicate, length-append, length-drop, getD-replicate, List·getD-append, take-append-drop}
+use lib.ListN.{length, getD, drop, take, replicate, length-append, getD-replicate, List·getD-append, take-append-drop}
 use lib.Seq.{ext-getD, drop-at, length-take-le, getD-take, getD-drop}
 use lib.Dec.{ltb}
-use borrow.Author.Tests.{lt-ltb, le-ltb}
+use borrow.Author.Tests.{le-ltb}
 use Rattle.cluster.specs.Terms.{mostNodes, bufferRows}
 use Rattle.cycles.specs.ModelGraph.{arcCells}
 use Rattle.sums.specs.TermsSums.{sumTo, one-if, tab}
 use Rattle.sums.specs.ModelSums.{maxTo, is}
-use Rattle.sums.proofs.Sum.{lt-or-ge, eq-or-ne, is-eq, is-ne, sum-cong, sum-part, sum-next}
-use Rattle.sums.proofs.Count.{max-le}
-use Rattle.sets.specs.ModelBits.{maskBits, bit, withoutOf, unionOf, belowOf}
-use Rattle.sets.proofs.Laws.{bit-le, bit-zero, bit-maskOf, bit-union, bit-without, bit-below, mask-cong, mask-unique}
+use Rattle.sums.proofs.Sum.{lt-or-ge, eq-or-ne, is-ne, sum-cong, sum-part}
+use Rattle.sets.specs.ModelBits.{unionOf, maskBits, bit, withoutOf, belowOf}
+use Rattle.sets.proofs.Laws.{bit-union, bit-le, bit-zero, bit-without, bit-below, mask-unique}
 use Rattle.cells.specs.ModelCells.{put}
 use Rattle.cells.proofs.Cells.{length-tab, getD-tab, length-put, getD-put-in, getD-put-out}
 use Rattle.swaps.specs.ModelBlocks.{blockRows, ChangedIn}
-use Rattle.graph.specs.ModelArcs.{moves, movesTo, copiesTo, roomy, cellOf, arcsOf, joined}
+use Rattle.graph.specs.ModelArcs.{moves, movesTo, copiesTo, roomy, cellOf, arcsOf}
 use Rattle.graph.specs.ModelGrowth.{Grown, Added}
-use Rattle.graph.specs.ModelKept.{mostBlocks, blockCells, keptCells, rowsIn, Block, Kept, Filled, unionTo, countTo, heldIn}
-use Rattle.graph.proofs.Growing.{grown-node}
+use Rattle.graph.specs.ModelKept.{mostBlocks, blockCells, keptCells, rowsIn, Block, Kept, Filled, unionTo, countTo, Few, Gathered, heldIn}
+use Rattle.graph.proofs.Turns.{copies-le}
+use Rattle.graph.proofs.Wholes.{bit-union-to, whole-set, whole-count}
 
 -- ---- the largest of a range, by parts
 
@@ -75,77 +74,6 @@ module _ (P : ℕ) (f : ℕ → ℕ) where
       ap (λ (k : ℕ). sumTo k f + sumTo (rowsIn P n) (λ i. f (blockRows * n + i))) d
       ∙ sym (sum-part (min (blockRows * suc n) P) (blockRows * n) (rowsIn P n) f (omega arith)))
       (lt-or-ge P (blockRows * n))
-
--- ---- what the blocks hold together
-
-module _ (kept : List ℕ) where
-  -- A bit of a union.
-  bit-union-to : (n j x : ℕ) → x < maskBits → bit (unionTo kept n j) x ≡ maxTo n (λ b. bit (getD kept (b * blockCells + j) 0) x)
-  unfolding unionTo
-  bit-union-to n j x l =
-      bit-maskOf (λ x. maxTo n (λ b. bit (getD kept (b * blockCells + j) 0) x)) maskBits x l
-      (max-le n 1 (λ b. bit (getD kept (b * blockCells + j) 0) x) (λ b h. bit-le (getD kept (b * blockCells + j) 0) x))
-
-  -- Of no block.
-  pub union-none : (j : ℕ) → 0 ≡ unionTo kept 0 j
-  unfolding unionTo maxTo
-  union-none j = mask-unique maskBits 0 (λ x. maxTo 0 (λ b. bit (getD kept (b * blockCells + j) 0) x)) (omega arith) (λ i l. bit-zero i)
-
-  -- Of a block more.
-  pub union-more : (n j k s r : ℕ) → s ≡ unionTo kept n j → k ≡ n * blockCells + j → r ≡ unionOf s (getD kept k 0) → r ≡ unionTo kept (n + 1) j
-  unfolding unionOf unionTo maxTo
-  union-more n j k s r e d h =
-      h
-      ∙ mask-cong (λ x. max (bit s x) (bit (getD kept k 0) x)) (λ x. maxTo (n + 1) (λ b. bit (getD kept (b * blockCells + j) 0) x)) maskBits
-      (λ x l.
-      ap₂ max (ap (λ (t : ℕ). bit t x) e ∙ bit-union-to n j x l) (ap (λ (i : ℕ). bit (getD kept i 0) x) d)
-      ∙ ap (λ (m : ℕ). maxTo m (λ b. bit (getD kept (b * blockCells + j) 0) x)) (sym (add-one n)))
-
-  -- The copies of no block.
-  pub count-none : (a : ℕ) → 0 ≡ countTo kept 0 a
-  unfolding countTo sumTo
-  count-none a = refl
-
-  -- Of a block more.
-  pub count-more : (n a k s : ℕ) → s ≡ countTo kept n a → k ≡ n * blockCells + (arcCells + a) → s + getD kept k 0 ≡ countTo kept (n + 1) a
-  unfolding countTo
-  count-more n a k s e d =
-      sum-next (λ b. getD kept (b * blockCells + (arcCells + a)) 0) n s (getD kept k 0) e (ap (λ (i : ℕ). getD kept i 0) d)
-
--- What a node gets by its room: all nodes, or none.
-room-bit : (copies cap all room : ℕ) → ((copies < cap) × (room ≡ all)) ⊎ ((cap ≤ copies) × (room ≡ 0))
-    → (b : ℕ) → bit room b ≡ min (one-if (ltb copies cap)) (bit all b)
-unfolding one-if
-room-bit copies cap all room w b =
-    ⊎-elim (λ u. omega (arith, ap (λ (x : ℕ). bit x b) (u .1), ap one-if (lt-ltb copies cap (u .0)), bit-le all b))
-    (λ u. omega (arith, ap (λ (x : ℕ). bit x b) (u .1), ap one-if (le-ltb copies cap (u .0)), bit-zero b)) w
-
--- What the blocks hold of node i, and all nodes at weight 0 where it has room, in its sets.
-pub node-added : (kept : List ℕ) (n : ℕ) (caps : List ℕ) (all : ℕ) (l : List ℕ) (i lo mid hi copies cap room s : ℕ) (l₁ l₂ l₃ : List ℕ) → i < mostNodes
-    → arcCells ≤ length l → (lo ≡ unionTo kept n i) × (mid ≡ unionTo kept n (i + mostNodes)) × (hi ≡ unionTo kept n (i + 2 * mostNodes)) × (copies ≡ countTo kept n i)
-    → cap ≡ getD caps i 0 → ((copies < cap) × (room ≡ all)) ⊎ ((cap ≤ copies) × (room ≡ 0)) → s ≡ unionOf mid room
-    → l₁ ≡ joined l i lo → l₂ ≡ joined l₁ (i + mostNodes) s → l₃ ≡ joined l₂ (i + 2 * mostNodes) hi
-    → Grown (λ j b. min (is i (j % mostNodes)) (heldIn kept n caps all j b)) l l₃
-unfolding heldIn roomy
-node-added kept n caps all l i lo mid hi copies cap room s l₁ l₂ l₃ h g eh ec w es e₁ e₂ e₃ =
-    subst (λ (x : List ℕ). Grown (λ j b. min (is i (j % mostNodes)) (heldIn kept n caps all j b)) l x)
-    (sym (e₃ ∙ ap (λ (x : List ℕ). joined x (i + 2 * mostNodes) hi) (e₂ ∙ ap (λ (x : List ℕ). joined x (i + mostNodes) s) e₁)))
-    (grown-node l i lo s hi (heldIn kept n caps all) h g
-    (λ b p. omega (arith, ap (λ (x : ℕ). bit x b) (eh .0), is-ne {a = 1} {b = i / mostNodes} (λ e. omega arith)))
-    (λ b p. ap (λ (x : ℕ). bit x b) es
-    ∙ (bit-union mid room b p
-    ∙ ap₂ max (ap (λ (x : ℕ). bit x b) (eh .1))
-    (room-bit copies cap all room w b
-    ∙ (one (one-if (ltb copies cap)) (is 1 ((i + mostNodes) / mostNodes)) (bit all b) (bit-le all b) (is-eq (omega arith))
-    ∙ (ap₂ (λ (c d : ℕ). min (is 1 ((i + mostNodes) / mostNodes)) (min (one-if (ltb c d)) (bit all b))) (eh .3) ec
-    ∙ ap (λ (a : ℕ). min (is 1 ((i + mostNodes) / mostNodes)) (min (one-if (ltb (countTo kept n a) (getD caps a 0))) (bit all b))) same)))))
-    (λ b p. omega (arith, ap (λ (x : ℕ). bit x b) (eh .2), is-ne {a = 1} {b = (i + 2 * mostNodes) / mostNodes} (λ e. omega arith))))
-  where
-    same : i ≡ (i + mostNodes) % mostNodes
-    same = omega arith
-
-    one : (x y z : ℕ) → z ≤ 1 → y ≡ 1 → min x z ≡ min y (min x z)
-    one x y z l e = omega arith
 
 -- ---- blocks that are right
 
@@ -298,20 +226,28 @@ module _ (former : List ℕ) (P : ℕ) (mates : List ℕ) (all z : ℕ) (few : P
         (λ t h. ap (λ (r : ℕ). bit r a) (getD-drop (blockRows * b) rows t 0)))
         ∙ (block-sum P f n ∙ ap (λ (k : ℕ). sumTo k f) whole)
 
-    -- So what they hold is what a cell of the graph has.
-    held : (caps : List ℕ) (j b : ℕ) → j < arcCells → b < mostNodes
-        → heldIn kept n caps all j b ≡ max (movesTo rows former P mates all z j b) (roomy (copiesTo rows P) caps all j b)
+    -- No block counts more than its rows.
+    pub kept-few : Few kept n
+    kept-few b a h p =
+        omega (arith, K .fresh b (omega arith) (bit-zero b) .counts a p, copies-le (drop (blockRows * b) rows) (rowsIn P b) a)
+
+    -- So what they hold together of a node of `all` is what a cell of the graph has.
+    held : (whole caps : List ℕ) (j b : ℕ) → Gathered kept n all whole → j < arcCells → b < mostNodes → bit all (j % mostNodes) ≡ 1
+        → heldIn whole caps all j b ≡ max (movesTo rows former P mates all z j b) (roomy (copiesTo rows P) caps all j b)
     unfolding heldIn roomy
-    held caps j b p q =
-        ap₂ max (kept-union j b p q)
-        (ap (λ (m : ℕ). min (is 1 (j / mostNodes)) (min (one-if (ltb m (getD caps (j % mostNodes) 0))) (bit all b))) (kept-count (j % mostNodes) (omega arith)))
+    held whole caps j b W p q o =
+        let a = j % mostNodes in
+        let e : a ≡ (arcCells + a) % mostNodes = omega arith in
+        ap₂ max (ap (λ (s : ℕ). bit s b) (W .cells j (omega arith) o ∙ whole-set kept n j p) ∙ kept-union j b p q)
+        (ap (λ (m : ℕ). min (is 1 (j / mostNodes)) (min (one-if (ltb m (getD caps a 0))) (bit all b)))
+        (W .cells (arcCells + a) (omega arith) (sym (ap (bit all) e) ∙ o) ∙ (whole-count kept n a ∙ kept-count a (omega arith))))
 
     -- Where there is room for all sets, they are written.
-    pub arcs-all : (caps l₀ l₁ l₂ : List ℕ) → arcCells ≤ length l₀ → l₁ ≡ tab (λ k. 0) arcCells ++ drop arcCells l₀
-        → Grown (λ j b. min (bit all (j % mostNodes)) (heldIn kept n caps all j b)) l₁ l₂ → ((j : ℕ) → getD l₂ j 0 < 2 ^ maskBits)
+    pub arcs-all : (whole caps l₀ l₁ l₂ : List ℕ) → Gathered kept n all whole → arcCells ≤ length l₀ → l₁ ≡ tab (λ k. 0) arcCells ++ drop arcCells l₀
+        → Grown (λ j b. min (bit all (j % mostNodes)) (heldIn whole caps all j b)) l₁ l₂ → ((j : ℕ) → getD l₂ j 0 < 2 ^ maskBits)
         → l₂ ≡ arcsOf rows former P mates caps all z l₀
     unfolding arcsOf cellOf
-    arcs-all caps l₀ l₁ l₂ g e G word =
+    arcs-all whole caps l₀ l₁ l₂ W g e G word =
         sym (take-append-drop arcCells l₂)
         ∙ (ap₂ (λ (x y : List ℕ). x ++ y)
         (ext-getD 0 (take arcCells l₂) (tab (cellOf rows former P mates caps all z) arcCells) (long ∙ sym (length-tab (cellOf rows former P mates caps all z) arcCells))
@@ -335,4 +271,6 @@ module _ (former : List ℕ) (P : ℕ) (mates : List ℕ) (all z : ℕ) (few : P
         cell j q =
             mask-unique maskBits (getD l₂ j 0)
             (λ b. min (bit all (j % mostNodes)) (max (movesTo rows former P mates all z j b) (roomy (copiesTo rows P) caps all j b))) (word j)
-            (λ b r. omega (arith, bit-le (getD l₂ j 0) b, bit-le all (j % mostNodes), G .bits j b q r, empty j b q, held caps j b q r))
+            (λ b r. ⊎-elim (λ o. omega (arith, bit-le (getD l₂ j 0) b, G .bits j b q r, empty j b q))
+            (λ o. omega (arith, bit-le (getD l₂ j 0) b, bit-le all (j % mostNodes), G .bits j b q r, empty j b q, held whole caps j b W q r (omega (arith, bit-le all (j % mostNodes)))))
+            (lt-or-ge (bit all (j % mostNodes)) 1))

@@ -1,26 +1,22 @@
 -- One turn of each loop, and what the whole leaves, over plain numbers and lists.
 -- Assumes nothing.
-use Prim.Native.Nat.{ℕ, zero, suc, _+_, _-_, _/_, _%_, _^_, _≤_, _<_, min, max}
+use Prim.Native.Nat.{ℕ, zero, suc, _+_, _-_, _/_, _%_, _≤_, min, max}
 use mathlib.Core.Path.{_≡_, refl, sym, ap, ap₂, _∙_}
 use mathlib.Core.List.{List, _++_}
-use mathlib.Core.Logic.{_⊎_, ⊎-elim}
 use native.Mathlib.Numerals.{add-one}
 use native.Mathlib.Omega.{arith}
-use lib.ListN.{length, getD, set, drop, take, replicate, length-append, length-drop, getD-replicate, List·getD-append, take-append-drop}
-use lib.Seq.{ext-getD, drop-at, length-take-le, getD-take}
-use lib.Dec.{ltb}
-use borrow.Author.Tests.{lt-ltb, le-ltb}
+use lib.ListN.{length, getD, set, drop, length-append, length-drop}
 use Rattle.cluster.specs.Terms.{mostNodes}
 use Rattle.cycles.specs.ModelGraph.{arcCells}
-use Rattle.sums.specs.TermsSums.{sumTo, one-if, tab}
+use Rattle.sums.specs.TermsSums.{sumTo, tab}
 use Rattle.sums.specs.ModelSums.{maxTo, is}
-use Rattle.sets.specs.ModelBits.{maskBits, bit, withoutOf, leastOf}
-use Rattle.sets.proofs.Laws.{bit-le, bit-zero, mask-unique}
-use Rattle.cells.proofs.Cells.{length-tab, getD-tab}
+use Rattle.sets.specs.ModelBits.{bit, withoutOf, leastOf}
+use Rattle.sets.proofs.Laws.{bit-le}
+use Rattle.cells.proofs.Cells.{length-tab}
 use Rattle.swaps.specs.ModelSwaps.{targetsOf}
-use Rattle.graph.specs.ModelArcs.{weighs, moves, movesTo, copiesTo, roomy, cellOf, arcsOf, joined, noted}
+use Rattle.graph.specs.ModelArcs.{weighs, moves, movesTo, copiesTo, noted}
 use Rattle.graph.specs.ModelGrowth.{Grown, Added}
-use Rattle.graph.proofs.Growing.{grown-same, grown-then, grown-joined, grown-noted, slot, added-same, added-then, added-one, done-grows}
+use Rattle.graph.proofs.Growing.{grown-same, grown-then, grown-noted, added-same, added-then, added-one, done-grows}
 use Rattle.sets.proofs.Scan.{Left, least-word, done-more, done-all}
 
 -- ---- the nodes of a row

@@ -1,9 +1,11 @@
 -- What is kept of rows by blocks: for each block the sets that its rows allow, and how many of its rows have each node.
 -- Assumes nothing.
-use Prim.Native.Nat.{ℕ, _+_, _-_, _*_, _/_, _<_, min, max}
+use Prim.Native.Nat.{ℕ, _+_, _-_, _*_, _/_, _%_, _≤_, _<_, min, max}
 use mathlib.Core.Path.{_≡_}
 use mathlib.Core.List.{List}
+use mathlib.Core.Bool.{cond}
 use lib.ListN.{length, getD, drop}
+use lib.Dec.{ltb}
 use Rattle.sums.specs.TermsSums.{sumTo}
 use Rattle.sums.specs.ModelSums.{maxTo}
 use Rattle.cluster.specs.Terms.{mostNodes, bufferRows}
@@ -23,6 +25,10 @@ blockCells = 4 * mostNodes
 -- The cells of all blocks.
 abbrev pub keptCells : ℕ
 keptCells = mostBlocks * blockCells
+
+-- The cells that are united at a time: the code's is `WIDE`.
+abbrev pub wide : ℕ
+wide = 8
 
 -- How many of P rows stand in block b.
 abbrev pub rowsIn : ℕ → ℕ → ℕ
@@ -55,6 +61,18 @@ unionTo kept n j = maskOf (λ x. maxTo n (λ b. bit (getD kept (b * blockCells +
 unfoldable pub countTo : List ℕ → ℕ → ℕ → ℕ
 countTo kept n a = sumTo n (λ b. getD kept (b * blockCells + (arcCells + a)) 0)
 
--- 1 where b is in the union of cell j, or the node of j has room.
-unfoldable pub heldIn : List ℕ → ℕ → List ℕ → ℕ → ℕ → ℕ → ℕ
-heldIn kept n caps all j b = max (bit (unionTo kept n j) b) (roomy (countTo kept n) caps all j b)
+-- Cell c of the first n blocks together: a union of sets, or a sum of counts.
+unfoldable pub wholeOf : List ℕ → ℕ → ℕ → ℕ
+wholeOf kept n c = cond (ltb c arcCells) (unionTo kept n c) (countTo kept n (c - arcCells))
+
+-- No count of the first n blocks is above the rows of a block.
+abbrev pub Few : List ℕ → ℕ → Type 0
+Few kept n = (b a : ℕ) → b < n → a < mostNodes → getD kept (b * blockCells + (arcCells + a)) 0 ≤ blockRows
+
+-- The cells of the nodes of `all` have what the first n blocks hold together.
+pub record Gathered (kept : List ℕ) (n all : ℕ) (whole : List ℕ) : Type 0 where
+  pub cells : (c : ℕ) → c < blockCells → bit all (c % mostNodes) ≡ 1 → getD whole c 0 ≡ wholeOf kept n c
+
+-- 1 where b is in the set of cell j, or the node of j has room by its count.
+unfoldable pub heldIn : List ℕ → List ℕ → ℕ → ℕ → ℕ → ℕ
+heldIn whole caps all j b = max (bit (getD whole j 0) b) (roomy (λ a. getD whole (arcCells + a) 0) caps all j b)

@@ -4,7 +4,9 @@
 // looked at again: cells CELLS * b on of `kept` have the three sets of each node by the rows of block b alone, and then how many of them have each node.
 // A cell of the rows past a slice's end counts as 0.
 ghost use mathlib.Core.Path.{_≡_};
+ghost use mathlib.Core.Bool.{false};
 ghost use mathlib.Core.List.{_++_};
+ghost use lib.Dec.{ltb};
 ghost use Prim.Native.Nat.{ℕ, _+_, _*_, _%_, _^_, _≤_, _<_, min};
 ghost use lib.ListN.{length, getD, drop};
 ghost use Rattle.sums.specs.TermsSums.{tab};
@@ -12,11 +14,12 @@ ghost use Rattle.sums.specs.ModelSums.{is};
 ghost use Rattle.cells.specs.ModelCells.{put};
 ghost use Rattle.cluster.specs.Terms.{mostNodes, bufferRows};
 ghost use Rattle.cycles.specs.ModelGraph.{arcCells};
-ghost use Rattle.sets.specs.ModelBits.{bit, withoutOf, leastOf};
+ghost use Rattle.sets.specs.ModelBits.{bit, withoutOf, unionOf, leastOf};
 ghost use Rattle.swaps.specs.ModelBlocks.{blockRows};
+ghost use Rattle.swaps.specs.ModelSwaps.{coverOf, coveredOf};
 ghost use Rattle.graph.specs.ModelArcs.{joined, noted, moves, movesTo, copiesTo, arcsOf};
 ghost use Rattle.graph.specs.ModelGrowth.{Grown, Added};
-ghost use Rattle.graph.specs.ModelKept.{mostBlocks, keptCells, Kept, Filled, unionTo, countTo, heldIn};
+ghost use Rattle.graph.specs.ModelKept.{mostBlocks, blockCells, keptCells, wide, Kept, Filled, Few, wholeOf, Gathered, heldIn};
 use cluster::Cluster;
 
 // The most nodes, as nodes are numbered.
@@ -25,6 +28,8 @@ const NODES: u32 = Cluster::NODES as u32;
 const HIGHER: usize = 2 * Cluster::NODES;
 // The cells of a block: three sets and a count of copies for each node.
 const CELLS: usize = 4 * Cluster::NODES;
+// The cells that are united at a time: they fit into two registers, so that a few instructions unite them all.
+const WIDE: usize = 8;
 // The blocks of the rows of a layout.
 pub const BLOCKS: usize = Cluster::PARTITIONS / swaps::BLOCK;
 // The cells of all blocks.
@@ -60,6 +65,38 @@ fn note(arcs: &mut [u32], a: u32, former: u32, to: u32)
     join(arcs, i + Cluster::NODES, sets::difference(to, former));
 }
 
+// Whether a row touches more than z zones; where it does not, also the nodes of its zones.
+struct Spread {
+    spare: bool,
+    nodes: u32,
+}
+
+// The zones of a row, one after the other, until there are more than z: then any node may give way to any other.
+fn zones(mates: &[u32], row: u32, z: u32) -> Spread
+    ensures { λ r. ⌜ (r .spare ≡ ltb z (coverOf (now (mates .entry)) row)) × (r .spare ≡ false → r .nodes ≡ coveredOf (now (mates .entry)) row) ⌝ }
+{
+    let mut left = row;
+    let mut count = 0;
+    let mut nodes = 0;
+    while left != 0 {
+        if count == z {
+            return Spread {
+                spare: true,
+                nodes: 0,
+            };
+        }
+        let b = sets::least(left);
+        let mate = swaps::cell(mates, b as usize);
+        left = sets::difference(sets::without(left, b), mate);
+        nodes = sets::union(nodes, mate);
+        count += 1;
+    }
+    Spread {
+        spare: false,
+        nodes,
+    }
+}
+
 // Adds what one row allows, and counts its nodes.
 fn add_row(
     arcs: &mut [u32],
@@ -73,10 +110,9 @@ fn add_row(
     requires { ⌜ (arcCells ≤ length (now arcs)) × (mostNodes ≤ length (now counts)) × ((c : ℕ) → c < mostNodes → getD (now counts) c 0 + 1 < 2 ^ 32) ⌝ }
     ensures { λ _. ⌜ Grown (moves (now (mates .entry)) all z row former) (now (arcs .entry)) (now (arcs .exit)) × Added (bit row) (now (counts .entry)) (now (counts .exit)) ⌝ }
 {
-    let t = swaps::touched(mates, row);
-    let zones = t.count;
+    let t = zones(mates, row, z);
     let nodes = t.nodes;
-    let spare = z < zones;
+    let spare = t.spare;
     let mut left = row;
     while left != 0 {
         let a = sets::least(left);
@@ -188,64 +224,106 @@ fn renew(
     sets::without(stale, b)
 }
 
-// What the blocks hold of one node together: its sets at weights -1, 0 and 1, and its copies.
-struct Held {
-    lower: u32,
-    same: u32,
-    higher: u32,
-    copies: usize,
+// Adds the sets in WIDE cells of `kept`, from the cell `at` on, to those in `held`.
+fn unite(held: &mut [u32], kept: &[u32], at: usize)
+    requires { ⌜ (length (now held) ≡ wide) × (at + wide ≤ length (now kept)) ⌝ }
+    ensures { λ _. ⌜ now (held .exit)
+        ≡ put 0 (λ t. unionOf (getD (now (held .entry)) t 0) (getD (now (kept .entry)) (at + t) 0)) wide (now (held .entry)) ⌝ }
+{
+    let mut t = 0;
+    while t < WIDE {
+        join(held, t, kept[at + t]);
+        t += 1;
+    }
 }
 
-// What the first `blocks` blocks hold of node i.
-fn gather(kept: &[u32], blocks: usize, i: usize) -> Held
-    requires { ⌜ (length (now kept) ≡ keptCells) × (blocks ≤ mostBlocks) × (i < mostNodes) ⌝ }
-    ensures { λ r. ⌜ (r .lower ≡ unionTo (now (kept .entry)) blocks i) × (r .same ≡ unionTo (now (kept .entry)) blocks (i + mostNodes))
-        × (r .higher ≡ unionTo (now (kept .entry)) blocks (i + 2 * mostNodes)) × (r .copies ≡ countTo (now (kept .entry)) blocks i) ⌝ }
+// Adds the counts in WIDE cells of `kept`, from the cell `at` on, to those in `held`.
+fn add(held: &mut [u32], kept: &[u32], at: usize)
+    requires { ⌜ (length (now held) ≡ wide) × (at + wide ≤ length (now kept))
+        × ((t : ℕ) → t < wide → getD (now held) t 0 + getD (now kept) (at + t) 0 < 2 ^ 32) ⌝ }
+    ensures { λ _. ⌜ now (held .exit) ≡ put 0 (λ t. getD (now (held .entry)) t 0 + getD (now (kept .entry)) (at + t) 0) wide (now (held .entry)) ⌝ }
 {
-    let mut lower = 0;
-    let mut same = 0;
-    let mut higher = 0;
-    let mut copies = 0;
+    let mut t = 0;
+    while t < WIDE {
+        held[t] = held[t] + kept[at + t];
+        t += 1;
+    }
+}
+
+// Writes what the first `blocks` blocks hold together in the WIDE cells of sets from the cell j on.
+fn unite_blocks(whole: &mut [u32], kept: &[u32], blocks: usize, j: usize)
+    requires { ⌜ (length (now whole) ≡ blockCells) × (length (now kept) ≡ keptCells) × (blocks ≤ mostBlocks) × (j + wide ≤ arcCells) ⌝ }
+    ensures { λ _. ⌜ now (whole .exit) ≡ put j (λ t. wholeOf (now (kept .entry)) blocks (j + t)) wide (now (whole .entry)) ⌝ }
+{
+    let mut held = [0u32; WIDE];
     let mut b = 0;
     while b < blocks {
-        let at = b * CELLS + i;
-        lower = sets::union(lower, kept[at]);
-        same = sets::union(same, kept[at + Cluster::NODES]);
-        higher = sets::union(higher, kept[at + HIGHER]);
-        copies += kept[at + cycles::ARCS] as usize;
+        unite(&mut held, kept, b * CELLS + j);
         b += 1;
     }
-    Held {
-        lower,
-        same,
-        higher,
-        copies,
+    store(whole, j, &held);
+}
+
+// The same for the WIDE cells of counts from the node i on.
+fn add_blocks(whole: &mut [u32], kept: &[u32], blocks: usize, i: usize)
+    requires { ⌜ (length (now whole) ≡ blockCells) × (length (now kept) ≡ keptCells) × (blocks ≤ mostBlocks) × (i + wide ≤ mostNodes)
+        × Few (now kept) blocks ⌝ }
+    ensures { λ _. ⌜ now (whole .exit) ≡ put (arcCells + i) (λ t. wholeOf (now (kept .entry)) blocks (arcCells + i + t)) wide (now (whole .entry)) ⌝ }
+{
+    let mut held = [0u32; WIDE];
+    let at = cycles::ARCS + i;
+    let mut b = 0;
+    while b < blocks {
+        add(&mut held, kept, b * CELLS + at);
+        b += 1;
+    }
+    store(whole, at, &held);
+}
+
+// Writes what the first `blocks` blocks hold together of the nodes of `all`. Blocks lie in the inner loops, and nodes side by side in
+// their cells, so that the compiler takes several nodes by one instruction.
+fn gather(whole: &mut [u32], kept: &[u32], blocks: usize, all: u32)
+    requires { ⌜ (length (now whole) ≡ blockCells) × (length (now kept) ≡ keptCells) × (blocks ≤ mostBlocks) × Few (now kept) blocks ⌝ }
+    ensures { λ _. ⌜ Gathered (now (kept .entry)) blocks all (now (whole .exit)) ⌝ }
+{
+    let mut i = 0;
+    let mut left = all;
+    while left != 0 {
+        unite_blocks(whole, kept, blocks, i);
+        unite_blocks(whole, kept, blocks, i + Cluster::NODES);
+        unite_blocks(whole, kept, blocks, i + HIGHER);
+        add_blocks(whole, kept, blocks, i);
+        i += WIDE;
+        left = left >> WIDE;
     }
 }
 
-// Adds what the blocks hold of node i to its sets, and all nodes at weight 0 where it has room.
-fn add_node(arcs: &mut [u32], kept: &[u32], blocks: usize, caps: &[u32], all: u32, i: usize)
-    requires { ⌜ (arcCells ≤ length (now arcs)) × (length (now kept) ≡ keptCells) × (blocks ≤ mostBlocks) × (i < mostNodes) ⌝ }
-    ensures { λ _. ⌜ Grown (λ j b. min (is i (j % mostNodes)) (heldIn (now (kept .entry)) blocks (now (caps .entry)) all j b)) (now (arcs .entry)) (now (arcs .exit)) ⌝ }
+// Adds what the blocks hold together of node i to its sets, and all nodes at weight 0 where it has room.
+fn add_node(arcs: &mut [u32], whole: &[u32], caps: &[u32], all: u32, i: usize)
+    requires { ⌜ (arcCells ≤ length (now arcs)) × (length (now whole) ≡ blockCells) × (i < mostNodes) ⌝ }
+    ensures { λ _. ⌜ Grown (λ j b. min (is i (j % mostNodes)) (heldIn (now (whole .entry)) (now (caps .entry)) all j b)) (now (arcs .entry)) (now (arcs .exit)) ⌝ }
 {
-    let held = gather(kept, blocks, i);
-    let copies = held.copies;
-    let cap = swaps::cell(caps, i) as usize;
+    let copies = whole[i + cycles::ARCS];
+    let cap = swaps::cell(caps, i);
     let room = if copies < cap { all } else { 0 };
-    join(arcs, i, held.lower);
-    join(arcs, i + Cluster::NODES, sets::union(held.same, room));
-    join(arcs, i + HIGHER, held.higher);
+    join(arcs, i, whole[i]);
+    join(
+        arcs,
+        i + Cluster::NODES,
+        sets::union(whole[i + Cluster::NODES], room),
+    );
+    join(arcs, i + HIGHER, whole[i + HIGHER]);
 }
 
-// Adds what the blocks hold of the nodes of `all`, and their room.
-fn add_nodes(arcs: &mut [u32], kept: &[u32], blocks: usize, caps: &[u32], all: u32)
-    requires { ⌜ (arcCells ≤ length (now arcs)) × (length (now kept) ≡ keptCells) × (blocks ≤ mostBlocks) ⌝ }
-    ensures { λ _. ⌜ Grown (λ j b. min (bit all (j % mostNodes)) (heldIn (now (kept .entry)) blocks (now (caps .entry)) all j b)) (now (arcs .entry)) (now (arcs .exit)) ⌝ }
+// Adds what the blocks hold together of the nodes of `all`, and their room.
+fn add_nodes(arcs: &mut [u32], whole: &[u32], caps: &[u32], all: u32)
+    requires { ⌜ (arcCells ≤ length (now arcs)) × (length (now whole) ≡ blockCells) ⌝ }
+    ensures { λ _. ⌜ Grown (λ j b. min (bit all (j % mostNodes)) (heldIn (now (whole .entry)) (now (caps .entry)) all j b)) (now (arcs .entry)) (now (arcs .exit)) ⌝ }
 {
     let mut left = all;
     while left != 0 {
         let a = sets::least(left);
-        add_node(arcs, kept, blocks, caps, all, a as usize);
+        add_node(arcs, whole, caps, all, a as usize);
         left = sets::without(left, a);
     }
 }
@@ -278,5 +356,7 @@ pub fn build(
     }
     clear(arcs);
     let blocks = (partitions + (swaps::BLOCK - 1)) / swaps::BLOCK;
-    add_nodes(arcs, kept, blocks, caps, all);
+    let mut whole = [0u32; CELLS];
+    gather(&mut whole, kept, blocks, all);
+    add_nodes(arcs, &whole, caps, all);
 }

@@ -8,7 +8,7 @@ use Rattle.sets.specs.ModelBits.{bit}
 
 -- The rows of a block: the code's is `BLOCK`.
 abbrev pub blockRows : ℕ
-blockRows = 16
+blockRows = 8
 
 -- The rows changed in blocks of the mask m only: those of every other block are as they were.
 pub record ChangedIn (m : ℕ) (old new : List ℕ) : Type 0 where

@@ -5,7 +5,7 @@ ghost use lib.ListN.{getD};
 ghost use Rattle.swaps.specs.ModelSwaps.{coverOf, coveredOf, targetsIn, targetsOf};
 
 // The rows of a block: what a block of rows allows is kept until one of its rows changes. Row p stands in block p / BLOCK.
-pub const BLOCK: usize = 16;
+pub const BLOCK: usize = 8;
 
 // The cell i of a slice; 0 past its end.
 pub fn cell(cells: &[u32], i: usize) -> u32

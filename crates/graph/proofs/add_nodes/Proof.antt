@@ -10,26 +10,25 @@ use Rattle.sets.specs.ModelBits.{countOf, withoutOf}
 use Rattle.sets.proofs.Laws.{least-taken}
 use Rattle.sets.proofs.Scan.{Left, left-all, least-word, left-less}
 use Rattle.graph.specs.ModelGrowth.{Grown}
-use Rattle.graph.specs.ModelKept.{mostBlocks, keptCells, heldIn}
+use Rattle.graph.specs.ModelKept.{blockCells, heldIn}
 use Rattle.graph.proofs.Turns.{adding, nodes-none, nodes-turn, nodes-all}
 use Rattle.graph.proofs.add_nodes.Statement.{statement}
 use Rattle.graph.proofs.add_nodes.Tie as tie
 
 abbrev Inv-loop : tie.InvT-loop
-Inv-loop arcs₀ kept blocks caps all left₀ arcs left =
-    (arcCells ≤ length arcs₀) × (length kept ≡ keptCells) × (blocks ≤ mostBlocks) × Left all left × Grown (adding all left (heldIn kept blocks caps all)) arcs₀ arcs
+Inv-loop arcs₀ whole caps all left₀ arcs left =
+    (arcCells ≤ length arcs₀) × (length whole ≡ blockCells) × Left all left × Grown (adding all left (heldIn whole caps all)) arcs₀ arcs
 
 abbrev μ-loop : tie.MeasureT-loop
-μ-loop arcs₀ kept blocks caps all left₀ arcs left = countOf left
+μ-loop arcs₀ whole caps all left₀ arcs left = countOf left
 
 loop-holds : tie.Need-loop-holds Inv-loop μ-loop
 loop-holds c =
     let a = c .before .before .before .args in (
       search needs,
       search needs,
-      search needs,
       left-all (a .all) (search needs),
-      nodes-none (a .all) (heldIn (a .kept .now) (a .blocks) (a .caps .now) (a .all)) (a .arcs .now),
+      nodes-none (a .all) (heldIn (a .whole .now) (a .caps .now) (a .all)) (a .arcs .now),
     )
 
 least-requires : tie.Need-least-requires Inv-loop μ-loop
@@ -42,8 +41,8 @@ add-node-requires : tie.Need-add-node-requires Inv-loop μ-loop
 add-node-requires c κs =
     let l = c .before in
     let k = l .before .before in
-    let w = least-word (k .before .before .before .before .args .all) (k .loop .left) (k .loop .inv .3) (l .before .loop-test .taken) in
-    (omega (arith, k .loop .inv .4 .long), search needs, search needs, omega (arith, w, l .least .ensures))
+    let w = least-word (k .before .before .before .before .args .all) (k .loop .left) (k .loop .inv .2) (l .before .loop-test .taken) in
+    (omega (arith, k .loop .inv .3 .long), search needs, omega (arith, w, l .least .ensures))
 
 without-requires : tie.Need-without-requires Inv-loop μ-loop
 without-requires c κs = search needs
@@ -54,7 +53,7 @@ loop-less c =
     let k = l .before .before in
     omega (
       arith,
-      least-taken (k .loop .left) (k .loop .inv .3 .word) (l .before .loop-test .taken),
+      least-taken (k .loop .left) (k .loop .inv .2 .word) (l .before .loop-test .taken),
       ap countOf (c .without .ensures ∙ ap (λ (x : ℕ). withoutOf (k .loop .left) x) (l .least .ensures)),
     )
 
@@ -68,20 +67,19 @@ loop-again c =
     let en = c .without .ensures ∙ ap (λ (x : ℕ). withoutOf (k .loop .left) x) (l .least .ensures) in (
       k .loop .inv .0,
       k .loop .inv .1,
-      k .loop .inv .2,
-      subst (λ (x : ℕ). Left (a .all) x) (sym en) (left-less (a .all) (k .loop .left) (k .loop .inv .3) t),
-      nodes-turn (a .all) (heldIn (a .kept .now) (a .blocks) (a .caps .now) (a .all)) (a .arcs .now) (k .loop .left) (l .least .result) (c .without .result) (k .loop .arcs)
-          (d .add-node .last .0) (k .loop .inv .3) t (l .least .ensures) (c .without .ensures) (k .loop .inv .4) (d .add-node .ensures),
+      subst (λ (x : ℕ). Left (a .all) x) (sym en) (left-less (a .all) (k .loop .left) (k .loop .inv .2) t),
+      nodes-turn (a .all) (heldIn (a .whole .now) (a .caps .now) (a .all)) (a .arcs .now) (k .loop .left) (l .least .result) (c .without .result) (k .loop .arcs)
+          (d .add-node .last .0) (k .loop .inv .2) t (l .least .ensures) (c .without .ensures) (k .loop .inv .3) (d .add-node .ensures),
     )
 
 same-length : tie.Need-same-length Inv-loop μ-loop
-same-length c = c .before .loop .inv .4 .long
+same-length c = c .before .loop .inv .3 .long
 
 returns : tie.Need-returns Inv-loop μ-loop
 returns c =
     let k = c .before in
     let a = k .before .before .before .before .args in
-    nodes-all (a .all) (heldIn (a .kept .now) (a .blocks) (a .caps .now) (a .all)) (a .arcs .now) (k .loop .left) (k .loop .arcs) (c .loop-test .left) (k .loop .inv .4)
+    nodes-all (a .all) (heldIn (a .whole .now) (a .caps .now) (a .all)) (a .arcs .now) (k .loop .left) (k .loop .arcs) (c .loop-test .left) (k .loop .inv .3)
 
 pub add-nodes-spec : {M : Type 1} → statement M
 add-nodes-spec =

@@ -4,7 +4,7 @@ use Prim.Native.Nat.{ℕ, _-_, _≤_, _<_}
 use mathlib.Core.Path.{sym, ap, _∙_, subst}
 use lib.ListN.{length}
 use Rattle.sets.specs.ModelBits.{bit, countOf, withoutOf}
-use Rattle.swaps.proofs.Steps.{targets-are}
+use Rattle.graph.proofs.Spare.{targets-told}
 use Rattle.graph.specs.ModelGrowth.{Grown, Added}
 use Rattle.graph.proofs.Growing.{added-same}
 use Rattle.sets.proofs.Scan.{Left, left-all, least-word, left-less}
@@ -18,7 +18,7 @@ use Rattle.graph.proofs.add_row.Statement.{statement}
 use Rattle.graph.proofs.add_row.Tie as tie
 
 abbrev Inv-loop : tie.InvT-loop
-Inv-loop arcs₀ counts₀ row former mates all z zones nodes spare left₀ arcs counts left =
+Inv-loop arcs₀ counts₀ row former mates all z nodes spare left₀ arcs counts left =
     (arcCells ≤ length arcs₀)
     × (mostNodes ≤ length counts₀)
     × Left row left
@@ -26,10 +26,10 @@ Inv-loop arcs₀ counts₀ row former mates all z zones nodes spare left₀ arcs
     × Added (λ c. bit row c - bit left c) counts₀ counts
 
 abbrev μ-loop : tie.MeasureT-loop
-μ-loop arcs₀ counts₀ row former mates all z zones nodes spare left₀ arcs counts left = countOf left
+μ-loop arcs₀ counts₀ row former mates all z nodes spare left₀ arcs counts left = countOf left
 
-touched-requires : tie.Need-touched-requires Inv-loop μ-loop
-touched-requires c κs = search needs
+zones-requires : tie.Need-zones-requires Inv-loop μ-loop
+zones-requires c κs = search needs
 
 loop-holds : tie.Need-loop-holds Inv-loop μ-loop
 loop-holds c =
@@ -112,9 +112,9 @@ loop-again c =
     let ei = n .before .before .before .before .least .ensures in
     let en = c .without .ensures ∙ ap (λ (x : ℕ). withoutOf (k .loop .left) x) ei in
     let s = n .before .before in
-    let f = k .before .touched in
+    let f = k .before .zones in
     let e =
-    targets-are (a .mates .now) (a .all) (a .z) (a .row) i (f .result .count) (f .result .nodes) (s .before .cell .result) (s .targets-in .result) (f .ensures .0)
+    targets-told (a .mates .now) (a .all) (a .z) (a .row) i (f .result .spare) (f .result .nodes) (s .before .cell .result) (s .targets-in .result) (f .ensures .0)
     (f .ensures .1) (s .before .cell .ensures) (s .targets-in .ensures) in (
       k .loop .inv .0,
       k .loop .inv .1,
@@ -144,7 +144,7 @@ add-row-spec =
     (tie.spec
     Inv-loop
     μ-loop
-    touched-requires
+    zones-requires
     loop-holds
     least-requires
     cast-i

@@ -14,7 +14,7 @@ use Rattle.swaps.specs.ModelBlocks.{blockRows}
 use Rattle.graph.specs.ModelArcs.{arcsOf}
 use Rattle.graph.specs.ModelKept.{Kept}
 use Rattle.graph.proofs.Turns.{clear-length}
-use Rattle.graph.proofs.Blocks.{arcs-all}
+use Rattle.graph.proofs.Blocks.{kept-few, arcs-all}
 use Rattle.graph.proofs.build.Statement.{statement}
 use Rattle.graph.proofs.build.Tie as tie
 
@@ -72,36 +72,56 @@ sub-blocks c = search needs
 add-blocks : tie.Need-add-blocks Inv-loop μ-loop
 add-blocks c = search needs
 
-add-nodes-requires : tie.Need-add-nodes-requires Inv-loop μ-loop
-add-nodes-requires c κs =
+slice-aggregate-gather : tie.Need-slice-aggregate-gather Inv-loop μ-loop
+slice-aggregate-gather c = search needs
+
+gather-requires : tie.Need-gather-requires Inv-loop μ-loop
+gather-requires c κs =
     let l = c .before .before .before .before in
     let k = l .before .before .before .before in
-    let a = k .before .before .before .before .before .before .before .args in (
-      omega (arith, clear-length (a .arcs .now) (l .clear .last .0) (omega arith) (l .clear .ensures)),
+    let a = k .before .before .before .before .before .before .before .args in
+    let K = fresh k (l .before .before .before .loop-test .left) in (
+      search needs,
       k .loop .inv .2 .long,
       search needs,
+      kept-few (a .former .now) (a .partitions) (a .mates .now) (a .all) (a .z) (k .loop .inv .0) (a .rows .now) (k .loop .kept) K
+          ((a .partitions + (blockRows - 1)) / blockRows) refl,
     )
 
+slice-aggregate-add-nodes : tie.Need-slice-aggregate-add-nodes Inv-loop μ-loop
+slice-aggregate-add-nodes c = search needs
+
+add-nodes-requires : tie.Need-add-nodes-requires Inv-loop μ-loop
+add-nodes-requires c κs =
+    let l = c .before .before .before .before .before .before .before .before in
+    let a = l .before .before .before .before .before .before .before .before .before .before .before .args in
+    (omega (arith, clear-length (a .arcs .now) (l .clear .last .0) (omega arith) (l .clear .ensures)), search needs)
+
 same-length-2 : tie.Need-same-length-2 Inv-loop μ-loop
-same-length-2 c = let k = c .before .before .before .before .before .before .before .before .before .before .before in k .loop .inv .2 .long ∙ sym (k .before .before .before .before .before .before .before .pre .1 .long)
+same-length-2 c =
+    let g = c .before .before .before .before .before .before in
+    let k = g .before .before .before .before .before .before .before .before .before in
+    k .loop .inv .2 .long ∙ sym (k .before .before .before .before .before .before .before .pre .1 .long)
 
 same-length-3 : tie.Need-same-length-3 Inv-loop μ-loop
 same-length-3 c =
     let r = c .before .before in
-    let l = r .before .before .before .before .before in
+    let g = r .before .before .before .before in
+    let l = g .before .before .before .before .before in
     let a = l .before .before .before .before .before .before .before .before .before .before .before .args in
     r .add-nodes .ensures .long ∙ clear-length (a .arcs .now) (l .clear .last .0) (omega arith) (l .clear .ensures)
 
 returns-2 : tie.Need-returns-2 Inv-loop μ-loop
 returns-2 c =
     let r = c .before .before in
-    let l = r .before .before .before .before .before in
+    let g = r .before .before .before .before in
+    let l = g .before .before .before .before .before in
     let k = l .before .before .before .before in
     let a = k .before .before .before .before .before .before .before .args in
     let K = fresh k (l .before .before .before .loop-test .left) in (
       arcs-all (a .former .now) (a .partitions) (a .mates .now) (a .all) (a .z) (k .loop .inv .0) (a .rows .now) (k .loop .kept) K
-          ((a .partitions + (blockRows - 1)) / blockRows) refl (a .caps .now) (a .arcs .now) (l .clear .last .0) (r .add-nodes .last .0) (omega arith) (l .clear .ensures)
-          (r .add-nodes .ensures) (λ j. omega (arith, c .slice-known5 .given j)),
+          ((a .partitions + (blockRows - 1)) / blockRows) refl (g .gather .last .0) (a .caps .now) (a .arcs .now) (l .clear .last .0) (r .add-nodes .last .0) (g .gather .ensures)
+          (omega arith) (l .clear .ensures) (r .add-nodes .ensures) (λ j. omega (arith, c .slice-known5 .given j)),
       K,
     )
 
@@ -120,6 +140,9 @@ build-spec =
     clear-requires
     sub-blocks
     add-blocks
+    slice-aggregate-gather
+    gather-requires
+    slice-aggregate-add-nodes
     add-nodes-requires
     same-length-2
     same-length-3
