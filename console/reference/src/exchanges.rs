@@ -21,10 +21,10 @@ use held::Held;
 /// What comes after a turn.
 #[derive(Clone, Copy, Debug, PartialEq, Eq)]
 pub enum Path {
-    /// Each improvement is found by a search, as the proved planner does.
+    /// Each improvement is found by a search. It may come to another of the nearest layouts.
     Searched,
-    /// The same cycle is turned again as long as other rows allow its exchanges at their weights, and
-    /// a search is made only where they do not. It may come to another of the nearest layouts.
+    /// What is left of a cycle is turned again as long as other rows allow its exchanges at their
+    /// costs, and a search is made only where they do not: the proved planner's path.
     Repeated,
 }
 
@@ -83,10 +83,14 @@ impl Run {
         self.last.is_some()
     }
 
-    fn turn(&mut self, circuit: &Circuit) {
+    /// Frees the cycle of crossed pairs and makes its exchanges; how often it was split.
+    fn free_and_turn(&mut self) -> u32 {
+        let circuit = self.last.as_mut().expect("a cycle was found");
+        let splits = circuit.uncross(&self.ground, &self.held);
         for (p, u, v) in circuit.exchanges(&self.ground) {
             self.held.exchange(&self.ground, p, u, v);
         }
+        splits
     }
 
     /// One improvement; whether there was one.
@@ -94,9 +98,7 @@ impl Run {
         if !self.look() {
             return false;
         }
-        let mut circuit = self.last.expect("a cycle was found");
-        circuit.uncross(&self.ground, &self.held);
-        self.turn(&circuit);
+        self.free_and_turn();
         true
     }
 
@@ -166,7 +168,7 @@ pub fn plan_record(
 /// How the cycles of a whole run were split.
 #[derive(Clone, Copy, Debug, Default, PartialEq, Eq)]
 pub struct Splits {
-    /// Cycles found.
+    /// Cycles turned.
     pub cycles: u32,
     /// Those that were split.
     pub split: u32,
@@ -179,18 +181,18 @@ pub struct Splits {
 /// The splits of the run that finishes, on the path of the proved planner.
 pub fn splits(c: &Cluster, former: &Layout) -> Splits {
     let mut counted = Splits::default();
-    let Some(mut run) = Run::begin(c, &masks(c, former), Path::Searched) else {
+    let Some(mut run) = Run::begin(c, &masks(c, former), Path::Repeated) else {
         return counted;
     };
-    while let Some(mut circuit) = run.circuit() {
+    while run.look() {
+        let circuit = run.last.expect("a cycle was found");
         let mut as_found = run.held.rows;
         for (p, u, v) in circuit.exchanges(&run.ground) {
             as_found[p] = as_found[p] & !(1 << u) | 1 << v;
         }
         let is_invalid = |row: &u32| !run.ground.is_valid(*row);
         let needed = as_found[..c.partitions()].iter().any(is_invalid);
-        let splits = circuit.uncross(&run.ground, &run.held);
-        run.turn(&circuit);
+        let splits = run.free_and_turn();
         counted.cycles += 1;
         counted.split += (splits > 0) as u32;
         counted.needed += needed as u32;

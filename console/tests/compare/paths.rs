@@ -1,6 +1,6 @@
 //! The plain program of the method beside the proved planner, at any allowance: on the path of the
-//! proved planner it gives the same rows and numbers; where it turns a cycle again, it comes to
-//! another of the nearest layouts.
+//! proved planner it gives the same rows and numbers; where it searches for each improvement, it
+//! comes to another of the nearest layouts.
 
 use crate::clusters::{self, Kind, MEDIUM, SMALL};
 use crate::lent::{self, Planned};
@@ -34,11 +34,11 @@ fn plain(record: &[u8], allowance: u16, path: Path) -> Result<Planned, (u32, u64
     }
 }
 
-/// The path on which cycles are turned again ends as near, and stops only where it has to.
+/// The path on which each improvement is searched for ends as near, and stops only where it has to.
 fn ends_as_near(c: &Cluster, former: &Layout, allowance: u16, nearest: &Planned) {
     let record = cluster_record(c, former);
-    let stopped = plain(&record, allowance, Path::Repeated).expect("a layout exists");
-    let ended = plain(&record, u16::MAX, Path::Repeated).expect("a layout exists");
+    let stopped = plain(&record, allowance, Path::Searched).expect("a layout exists");
+    let ended = plain(&record, u16::MAX, Path::Searched).expect("a layout exists");
     assert_eq!(
         (ended.size, ended.distance, ended.finished),
         (nearest.size, nearest.distance, true)
@@ -65,11 +65,11 @@ fn try_paths(seed: u64, cases: u64, kind: Kind) {
         for allowance in [some, u16::MAX] {
             assert_eq!(
                 lent::plan(&record, allowance, &mut r),
-                plain(&record, allowance, Path::Searched),
+                plain(&record, allowance, Path::Repeated),
                 "{c:?} {former:?}"
             );
         }
-        if let Ok(nearest) = plain(&record, u16::MAX, Path::Searched) {
+        if let Ok(nearest) = plain(&record, u16::MAX, Path::Repeated) {
             planned += 1;
             improved += u64::from(nearest.improvements > 0);
             ends_as_near(&c, &former, some, &nearest);

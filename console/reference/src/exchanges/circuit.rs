@@ -11,7 +11,6 @@ use super::search::Walk;
 pub struct Circuit {
     walk: Walk,
     partitions: [u16; NODES],
-    weights: [u8; NODES],
 }
 
 impl Circuit {
@@ -20,13 +19,12 @@ impl Circuit {
         let mut circuit = Circuit {
             walk,
             partitions: [0; NODES],
-            weights: [0; NODES],
         };
         for i in 0..walk.arcs {
             let (u, v) = circuit.arc(i);
             let weight = graph.to.iter().position(|to| has(to[u], v));
-            circuit.weights[i] = weight.expect("an arc of the cycle") as u8;
-            circuit.partitions[i] = circuit.witness(g, held, 0, i) as u16;
+            let weight = weight.expect("an arc of the cycle");
+            circuit.partitions[i] = held.witness(g, 0, weight, u, v) as u16;
         }
         circuit
     }
@@ -37,20 +35,16 @@ impl Circuit {
         (nodes[i + 1] as usize % NODES, nodes[i] as usize % NODES)
     }
 
-    fn witness(&self, g: &Ground, held: &Held, from: usize, i: usize) -> usize {
-        let (u, v) = self.arc(i);
-        held.witness(g, from, self.weights[i] as usize, u, v)
-    }
-
-    /// The same cycle after a turn: each arc in the next partition that allows it at its weight, or
-    /// over the store where it was. Whether all its arcs are still there.
+    /// What is left of the cycle after a turn: each arc in the next partition that allows it at the
+    /// cost that it had, or over the store where it was. Whether all its arcs are still there.
     pub fn move_on(&mut self, g: &Ground, held: &Held) -> bool {
         (0..self.walk.arcs).all(|i| {
-            let last = self.partitions[i] as usize;
+            let (last, (u, v)) = (self.partitions[i] as usize, self.arc(i));
             if last == g.partitions {
-                return held.has_room(self.arc(i).0);
+                return held.has_room(u);
             }
-            let next = self.witness(g, held, last, i);
+            let weight = (1 + self.cost(g, i, u)) as usize;
+            let next = held.witness(g, last, weight, u, v);
             self.partitions[i] = next as u16;
             next < g.partitions
         })
