@@ -16,11 +16,18 @@ use Rattle.sets.specs.ModelBits.{bit, withoutOf, leastOf}
 use Rattle.sets.proofs.Laws.{bit-zero, bit-without, bit-without-same, bit-without-other, least-before, least-at}
 use Rattle.cluster.specs.Terms.{mostNodes, noNode}
 use Rattle.incidence.specs.ModelIncidence.{idsWhere}
+use Rattle.incidence.proofs.Columns.{cell-column}
 use Rattle.cluster.specs.declared.Node.{Node}
+use Rattle.masks.specs.ModelMasks.{idCells}
 
 -- Past the nodes the id is 0.
 pub past-id : (ns : List Node) (b : ℕ) → length ns ≤ b → getD ns b noNode .id ≡ 0
 past-id ns b h = ap (λ (n : Node). n .id) (List·getD-eq-default ns noNode h)
+
+-- Where the cells have the ids of the nodes, a node's cell has its id.
+pub id-cell : (ns : List Node) (ids : List ℕ) (b : ℕ) → length ns ≤ mostNodes → ids ≡ idCells ns → b < length ns → getD ids b 0 ≡ getD ns b noNode .id
+unfolding idCells
+id-cell ns ids b few e h = ap (λ (l : List ℕ). getD l b 0) e ∙ cell-column (λ i. getD ns i noNode .id) (length ns) b few h
 
 -- A node at which f is 0 is left out,
 where-out : (n : Node) (ns : List Node) (f : ℕ → ℕ) → f 0 ≡ 0 → idsWhere (n ∷ ns) f ≡ idsWhere ns (λ b. f (suc b))

@@ -9,10 +9,14 @@ use lib.ListN.{length, take, drop, getD}
 use Rattle.sums.specs.TermsSums.{sumTo, everyTo, tab}
 use Rattle.sums.specs.ModelSums.{is}
 use Rattle.sets.specs.ModelBits.{bit}
-use Rattle.cluster.specs.Terms.{rowCells, bufferRows, layoutCells, Layout, rowAt, idsIn, cellsOf}
+use Rattle.cluster.specs.Terms.{rowCells, bufferRows, layoutCells, noNode, Layout, rowAt, idsIn, cellsOf}
 use Rattle.cluster.specs.ModelRows.{illFormed, hasRow, rowIds}
-use Rattle.incidence.specs.ModelIncidence.{idsWhere}
+use Rattle.incidence.specs.ModelIncidence.{idsWhere, column}
 use Rattle.cluster.specs.declared.Node.{Node}
+
+-- The ids of the nodes, then zeros: what the rows are walked over.
+unfoldable pub idCells : List Node → List ℕ
+idCells ns = column (λ b. getD ns b noNode .id) (length ns)
 
 -- ---- from cells to masks
 

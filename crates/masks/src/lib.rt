@@ -1,24 +1,40 @@
 // Between rows of ids in lent cells and sets of nodes, as masks over the indices of a cluster's nodes in use.
 ghost use mathlib.Core.Path.{_≡_};
 ghost use Prim.Native.Nat.{_+_, _<_, _≤_};
+ghost use mathlib.Core.List.{List};
 ghost use lib.ListN.{length, take, drop, getD};
 ghost use lib.Dec.{ltb};
 ghost use mathlib.Core.Bool.{cond};
 ghost use Rattle.sets.specs.ModelBits.{bit};
 ghost use Rattle.cells.specs.ModelCells.{put};
-ghost use Rattle.cluster.specs.Terms.{rowCells, topology, idsIn};
+ghost use Rattle.cluster.specs.Terms.{mostNodes, rowCells, topology, idsIn};
+ghost use Rattle.cluster.specs.declared.Node.{Node};
 ghost use Rattle.incidence.specs.ModelIncidence.{idsWhere};
-ghost use Rattle.masks.specs.ModelMasks.{named, rowMask, masksRead, cellsWritten, idsTotal, rowsFormed};
+ghost use Rattle.masks.specs.ModelMasks.{idCells, named, rowMask, masksRead, cellsWritten, idsTotal, rowsFormed};
 use cluster::Cluster;
 use cluster::rows;
 use incidence::zones;
 
-// The nodes that the ids of the row that starts at cell `from` name: one walk over the nodes and the ids.
-fn walk_row(c: Cluster, cells: &[u32], from: usize) -> u32
-    requires { ⌜ from + rowCells ≤ length (now cells) ⌝ }
-    ensures { λ r. ⌜ r ≡ named (topology c .nodes) (idsIn (take rowCells (drop from (now (cells .entry))))) ⌝ }
+// The ids of the nodes in use, then zeros. Rows are walked over these: a cluster by value would be copied for each row.
+fn ids_of(c: Cluster) -> [u32; Cluster::NODES]
+    ensures { λ r. ⌜ r ≡ idCells (topology c .nodes) ⌝ }
 {
     let n = zones::used(c);
+    let mut ids = [0u32; Cluster::NODES];
+    let mut b = 0;
+    while b < n {
+        ids[b] = c.nodes[b].id;
+        b += 1;
+    }
+    ids
+}
+
+// The nodes, of the n whose ids are given, that the ids of the row that starts at cell `from` name: one walk over both.
+fn walk_row(ids: &[u32], n: usize, cells: &[u32], from: usize) -> u32
+    requires { ⌜ (n ≤ mostNodes) × (n ≤ length (now ids)) × (from + rowCells ≤ length (now cells)) ⌝ }
+    ensures { λ r. ⌜ ((ns : List Node) → n ≡ length ns → now (ids .entry) ≡ idCells ns
+        → r ≡ named ns (idsIn (take rowCells (drop from (now (cells .entry)))))) ⌝ }
+{
     let to = from + Cluster::ROW;
     let mut mask = 0;
     let mut b = 0;
@@ -31,7 +47,7 @@ fn walk_row(c: Cluster, cells: &[u32], from: usize) -> u32
         if id == 0 {
             return mask;
         }
-        let node = c.nodes[b].id;
+        let node = ids[b];
         if id < node {
             i += 1;
         } else {
@@ -44,9 +60,10 @@ fn walk_row(c: Cluster, cells: &[u32], from: usize) -> u32
     mask
 }
 
-// The nodes that row `partition` of the cells names; none where the row is not there whole. Ids that no node has are left out.
-pub fn row_mask(c: Cluster, cells: &[u32], partition: usize) -> u32
-    ensures { λ r. ⌜ r ≡ rowMask (topology c .nodes) (now (cells .entry)) partition ⌝ }
+// The nodes, of the n whose ids are given, that row `partition` of the cells names; none where the row is not there whole.
+fn mask_of(ids: &[u32], n: usize, cells: &[u32], partition: usize) -> u32
+    requires { ⌜ (n ≤ mostNodes) × (n ≤ length (now ids)) ⌝ }
+    ensures { λ r. ⌜ ((ns : List Node) → n ≡ length ns → now (ids .entry) ≡ idCells ns → r ≡ rowMask ns (now (cells .entry)) partition) ⌝ }
 {
     if Cluster::PARTITIONS <= partition {
         return 0;
@@ -55,7 +72,16 @@ pub fn row_mask(c: Cluster, cells: &[u32], partition: usize) -> u32
     if cells.len() < from + Cluster::ROW {
         return 0;
     }
-    walk_row(c, cells, from)
+    walk_row(ids, n, cells, from)
+}
+
+// The nodes that row `partition` of the cells names; none where the row is not there whole. Ids that no node has are left out.
+pub fn row_mask(c: Cluster, cells: &[u32], partition: usize) -> u32
+    ensures { λ r. ⌜ r ≡ rowMask (topology c .nodes) (now (cells .entry)) partition ⌝ }
+{
+    let n = zones::used(c);
+    let ids = ids_of(c);
+    mask_of(&ids, n, cells, partition)
 }
 
 // Rows 0 .. partitions - 1 of the cells as masks, into the first cells of `masks`. Nothing is written where `partitions` is more than
@@ -69,9 +95,11 @@ pub fn read_masks(c: Cluster, cells: &[u32], partitions: usize, masks: &mut [u32
     if masks.len() < partitions {
         return;
     }
+    let n = zones::used(c);
+    let ids = ids_of(c);
     let mut p = 0;
     while p < partitions {
-        masks[p] = row_mask(c, cells, p);
+        masks[p] = mask_of(&ids, n, cells, p);
         p += 1;
     }
 }
@@ -118,18 +146,18 @@ fn mask_at(masks: &[u32], partitions: usize, p: usize) -> u32
     if p < partitions { masks[p] } else { 0 }
 }
 
-// The ids of the first eight nodes of the mask, then zeros, into the row that starts at cell `from`.
-fn write_row(c: Cluster, mask: u32, cells: &mut [u32], from: usize)
-    requires { ⌜ from + rowCells ≤ length (now cells) ⌝ }
-    ensures { λ _. ⌜ now (cells .exit) ≡ put from (λ j. getD (idsWhere (topology c .nodes) (bit mask)) j 0) rowCells (now (cells .entry)) ⌝ }
+// The ids of the first eight nodes of the mask, of the n whose ids are given, then zeros, into the row that starts at cell `from`.
+fn write_row(ids: &[u32], n: usize, mask: u32, cells: &mut [u32], from: usize)
+    requires { ⌜ (n ≤ mostNodes) × (n ≤ length (now ids)) × (from + rowCells ≤ length (now cells)) ⌝ }
+    ensures { λ _. ⌜ ((ns : List Node) → n ≡ length ns → now (ids .entry) ≡ idCells ns
+        → now (cells .exit) ≡ put from (λ j. getD (idsWhere ns (bit mask)) j 0) rowCells (now (cells .entry))) ⌝ }
 {
-    let n = zones::used(c);
     let mut rest = mask;
     let mut j = 0;
     while j < Cluster::ROW {
         let least = sets::least(rest);
         let b = least as usize;
-        let id = if b < n { c.nodes[b].id } else { 0 };
+        let id = if b < n { ids[b] } else { 0 };
         cells[from + j] = id;
         rest = sets::without(rest, least);
         j += 1;
@@ -151,10 +179,12 @@ pub fn write_cells(c: Cluster, masks: &[u32], partitions: usize, cells: &mut [u3
     if cells.len() < Cluster::CELLS {
         return;
     }
+    let n = zones::used(c);
+    let ids = ids_of(c);
     let mut p = 0;
     while p < Cluster::PARTITIONS {
         let mask = mask_at(masks, partitions, p);
-        write_row(c, mask, cells, p * Cluster::ROW);
+        write_row(&ids, n, mask, cells, p * Cluster::ROW);
         p += 1;
     }
 }

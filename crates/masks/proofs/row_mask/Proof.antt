@@ -1,46 +1,26 @@
 -- `masks::row_mask` meets its contract.
 -- Assumes nothing.
 use borrow.Author.Needs.{needs}
-use Prim.Native.Nat.{ℕ}
-use mathlib.Core.Path.{sym, ap, ap₂}
-use mathlib.Core.Bool.{Bool, cond}
-use Rattle.cluster.specs.Terms.{topology, rowAt, idsIn}
-use Rattle.cluster.proofs.RowScans.{row-out, row-short, row-whole}
-use Rattle.masks.specs.ModelMasks.{named, rowMask}
+use Rattle.cluster.specs.Terms.{topology}
 use Rattle.masks.proofs.row_mask.Statement.{statement}
 use Rattle.masks.proofs.row_mask.Tie as tie
 
+used-requires : tie.Need-used-requires
+used-requires c κs = search needs
+
+ids-of-requires : tie.Need-ids-of-requires
+ids-of-requires c κs = search needs
+
+slice-aggregate-mask-of : tie.Need-slice-aggregate-mask-of
+slice-aggregate-mask-of c = search needs
+
+mask-of-requires : tie.Need-mask-of-requires
+mask-of-requires c κs = search needs
+
 returns : tie.Need-returns
-unfolding rowMask
 returns c =
-    let a = c .before .before .args in
-    sym
-    (ap (λ (t : Bool). cond t (named (topology (a .c) .nodes) (idsIn (rowAt (a .cells .now) (a .partition)))) 0)
-    (row-out (a .cells .now) (a .partition) (search needs)))
-
-mul-from : tie.Need-mul-from
-mul-from c = search needs
-
-add-if2 : tie.Need-add-if2
-add-if2 c = search needs
-
-returns-2 : tie.Need-returns-2
-unfolding rowMask
-returns-2 c =
-    let a = c .before .before .before .args in
-    sym
-    (ap (λ (t : Bool). cond t (named (topology (a .c) .nodes) (idsIn (rowAt (a .cells .now) (a .partition)))) 0)
-    (row-short (a .cells .now) (a .partition) (search needs)))
-
-walk-row-requires : tie.Need-walk-row-requires
-walk-row-requires c κs = search needs
-
-returns-3 : tie.Need-returns-3
-unfolding rowMask
-returns-3 c =
-    let a = c .before .before .before .before .args in
-    sym
-    (ap₂ (λ (t : Bool) (n : ℕ). cond t n 0) (row-whole (a .cells .now) (a .partition) (search needs) (search needs)) (sym (c .walk-row .ensures)))
+    let k = c .before .before in
+    c .mask-of .ensures (topology (k .before .before .before .args .c) .nodes) (k .before .used .ensures .0) (k .ids-of .ensures)
 
 pub row-mask-spec : {M : Type 1} → statement M
-row-mask-spec = tie.close (tie.spec returns mul-from add-if2 returns-2 walk-row-requires returns-3)
+row-mask-spec = tie.close (tie.spec used-requires ids-of-requires slice-aggregate-mask-of mask-of-requires returns)

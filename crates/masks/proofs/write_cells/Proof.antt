@@ -4,24 +4,26 @@ use borrow.Author.Needs.{needs}
 use native.Mathlib.Omega.{arith}
 use Prim.Native.Nat.{ℕ, _≤_, _+_, _-_, _*_, _/_, _%_}
 use mathlib.Core.Path.{_≡_, ap, _∙_}
-use mathlib.Core.List.{_++_}
+use mathlib.Core.List.{List, _++_}
 use lib.ListN.{length, drop, getD}
 use borrow.Author.Tests.{le-leb, lt-leb}
 use Rattle.sums.specs.TermsSums.{tab}
 use Rattle.cells.proofs.Cells.{tab-none}
 use Rattle.cluster.specs.Terms.{rowCells, bufferRows, layoutCells, topology, row, cellsOf}
-use Rattle.masks.specs.ModelMasks.{rowsWhere, cellsWritten}
+use Rattle.cluster.specs.declared.Node.{Node}
+use Rattle.masks.specs.ModelMasks.{idCells, rowsWhere, cellsWritten}
 use Rattle.masks.proofs.Written.{row-written}
 use Rattle.masks.proofs.write_cells.Statement.{statement}
 use Rattle.masks.proofs.write_cells.Tie as tie
 
 abbrev Inv-loop : tie.InvT-loop
-Inv-loop c masks partitions cells₀ p₀ cells p =
+Inv-loop masks partitions cells₀ n ids p₀ cells p =
     (p ≤ bufferRows) × (partitions ≤ bufferRows) × (partitions ≤ length masks) × (layoutCells ≤ length cells₀) × (length cells ≡ length cells₀)
-    × (cells ≡ tab (λ i. getD (row (rowsWhere (topology c .nodes) masks partitions) (i / rowCells)) (i % rowCells) 0) (p * rowCells) ++ drop (p * rowCells) cells₀)
+    × ((ns : List Node) → n ≡ length ns → ids ≡ idCells ns
+    → cells ≡ tab (λ i. getD (row (rowsWhere ns masks partitions) (i / rowCells)) (i % rowCells) 0) (p * rowCells) ++ drop (p * rowCells) cells₀)
 
 abbrev μ-loop : tie.MeasureT-loop
-μ-loop c masks partitions cells₀ p₀ cells p = bufferRows - p
+μ-loop masks partitions cells₀ n ids p₀ cells p = bufferRows - p
 
 returns : tie.Need-returns Inv-loop μ-loop
 unfolding cellsWritten
@@ -41,11 +43,20 @@ returns-3 c =
     let a = c .before .before .before .before .before .args in
     simp (le-leb (a .partitions) bufferRows (search needs), le-leb (a .partitions) (length (a .masks .now)) (search needs), lt-leb layoutCells (length (a .cells .now)) (search needs))
 
+used-requires : tie.Need-used-requires Inv-loop μ-loop
+used-requires c κs = search needs
+
+ids-of-requires : tie.Need-ids-of-requires Inv-loop μ-loop
+ids-of-requires c κs = search needs
+
 loop-holds : tie.Need-loop-holds Inv-loop μ-loop
-loop-holds c = (search needs, search needs, search needs, search needs, search needs, tab-none _ _)
+loop-holds c = (search needs, search needs, search needs, search needs, search needs, λ ns m e. tab-none _ _)
 
 mask-at-requires : tie.Need-mask-at-requires Inv-loop μ-loop
 mask-at-requires c κs = search needs
+
+slice-aggregate-write-row : tie.Need-slice-aggregate-write-row Inv-loop μ-loop
+slice-aggregate-write-row c = search needs
 
 mul-write-row : tie.Need-mul-write-row Inv-loop μ-loop
 mul-write-row c = search needs
@@ -61,16 +72,16 @@ loop-less c = search needs
 
 loop-again : tie.Need-loop-again Inv-loop μ-loop
 loop-again c =
-    let k = c .before .before .before .before .before .before in
-    let a = k .before .before .before .before .before .before .args in
-    let mask = c .before .before .before .before .mask-at in (
+    let k = c .before .before .before .before .before .before .before in
+    let a = k .before .before .before .before .before .before .before .before .args in
+    let mask = c .before .before .before .before .before .mask-at in (
       search needs,
       search needs,
       search needs,
       search needs,
       search needs,
-      c .before .before .write-row .ensures
-          ∙ row-written (topology (a .c) .nodes) (a .masks .now) (a .partitions) (k .loop .p) (mask .result) (a .cells .now) (k .loop .cells) (omega arith) (mask .ensures) (k .loop .inv .5),
+      λ ns m e. c .before .before .write-row .ensures ns m e
+          ∙ row-written ns (a .masks .now) (a .partitions) (k .loop .p) (mask .result) (a .cells .now) (k .loop .cells) (omega arith) (mask .ensures) (k .loop .inv .5 ns m e),
     )
 
 same-length : tie.Need-same-length Inv-loop μ-loop
@@ -80,10 +91,10 @@ returns-4 : tie.Need-returns-4 Inv-loop μ-loop
 unfolding cellsWritten cellsOf
 returns-4 c =
     let k = c .before in
-    let a = k .before .before .before .before .before .before .args in
+    let a = k .before .before .before .before .before .before .before .before .args in
     let e : k .loop .p ≡ bufferRows = omega arith in
     simp (le-leb (a .partitions) bufferRows (search needs), le-leb (a .partitions) (length (a .masks .now)) (search needs), le-leb layoutCells (length (a .cells .now)) (search needs))
-    (k .loop .inv .5
+    (k .loop .inv .5 (topology (a .c) .nodes) (k .before .before .used .ensures .0) (k .before .ids-of .ensures)
     ∙ ap (λ (n : ℕ). tab (λ i. getD (row (rowsWhere (topology (a .c) .nodes) (a .masks .now) (a .partitions)) (i / rowCells)) (i % rowCells) 0) (n * rowCells) ++ drop (n * rowCells) (a .cells .now)) e)
 
 pub write-cells-spec : {M : Type 1} → statement M
@@ -95,8 +106,11 @@ write-cells-spec =
     returns
     returns-2
     returns-3
+    used-requires
+    ids-of-requires
     loop-holds
     mask-at-requires
+    slice-aggregate-write-row
     mul-write-row
     write-row-requires
     add-p

@@ -9,30 +9,27 @@ use mathlib.Core.List.{List}
 use mathlib.Core.Logic.{⊎-elim}
 use lib.ListN.{length, drop, getD, set}
 use Rattle.cluster.specs.declared.Node.{Node}
-use Rattle.cluster.proofs.Slots.{node-slot}
 use Rattle.sets.specs.ModelBits.{bit, withoutOf}
 use Rattle.cells.specs.ModelCells.{put}
 use Rattle.cells.proofs.Cells.{put-none, put-more}
-use Rattle.cluster.specs.Terms.{mostNodes, rowCells, topology, noNode}
+use Rattle.cluster.specs.Terms.{mostNodes, rowCells, noNode}
 use Rattle.incidence.specs.ModelIncidence.{idsWhere}
-use Rattle.masks.proofs.Where.{past-id, where-next, where-others}
+use Rattle.masks.specs.ModelMasks.{idCells}
+use Rattle.masks.proofs.Where.{past-id, id-cell, where-next, where-others}
 use Rattle.masks.proofs.write_row.Statement.{statement}
 use Rattle.masks.proofs.write_row.Tie as tie
 
 abbrev Inv-loop : tie.InvT-loop
-Inv-loop mask cells₀ from c n rest₀ j₀ cells rest j =
+Inv-loop ids n mask cells₀ from rest₀ j₀ cells rest j =
     (j ≤ rowCells) × (length cells ≡ length cells₀)
-    × (cells ≡ put from (λ i. getD (idsWhere (topology c .nodes) (bit mask)) i 0) j cells₀)
-    × (drop j (idsWhere (topology c .nodes) (bit mask)) ≡ idsWhere (topology c .nodes) (bit rest))
+    × ((ns : List Node) → n ≡ length ns → ids ≡ idCells ns
+    → (cells ≡ put from (λ i. getD (idsWhere ns (bit mask)) i 0) j cells₀) × (drop j (idsWhere ns (bit mask)) ≡ idsWhere ns (bit rest)))
 
 abbrev μ-loop : tie.MeasureT-loop
-μ-loop mask cells₀ from c n rest₀ j₀ cells rest j = rowCells - j
-
-used-requires : tie.Need-used-requires Inv-loop μ-loop
-used-requires c κs = search needs
+μ-loop ids n mask cells₀ from rest₀ j₀ cells rest j = rowCells - j
 
 loop-holds : tie.Need-loop-holds Inv-loop μ-loop
-loop-holds c = (search needs, search needs, put-none _ _ _, refl)
+loop-holds c = (search needs, search needs, λ ns m e. (put-none _ _ _, refl))
 
 least-requires : tie.Need-least-requires Inv-loop μ-loop
 least-requires c κs = search needs
@@ -43,8 +40,8 @@ cast-b c = search needs
 mul-id : tie.Need-mul-id Inv-loop μ-loop
 mul-id c = search needs
 
-element-copy-out-id : tie.Need-element-copy-out-id Inv-loop μ-loop
-element-copy-out-id c = search needs
+shared-slice-read-id : tie.Need-shared-slice-read-id Inv-loop μ-loop
+shared-slice-read-id c = search needs
 
 add-cells : tie.Need-add-cells Inv-loop μ-loop
 add-cells c = search needs
@@ -68,20 +65,22 @@ loop-again : tie.Need-loop-again Inv-loop μ-loop
 loop-again c =
     let k = c .before .before .before .before in
     let a = k .before .before .before .args in
-    let ns = topology (a .t1) .nodes in
-    let least = c .before .before .least in
-    let few : length ns ≤ mostNodes = omega arith in
-    let id : c .before .if1 .id ≡ getD ns (least .result) noNode .id =
-    ⊎-elim (λ w. w .1 ∙ sym (ap (λ (n : Node). n .id) (node-slot (a .t1) (least .result) (omega arith)))) (λ w. w .1 ∙ sym (past-id ns (least .result) (omega arith)))
-    (c .before .if1 .came) in (
+    let least = c .before .before .least in (
       search needs,
       search needs,
-      ap₂ (λ (l : List ℕ) (v : ℕ). set l (a .from + k .loop .j) v) (k .loop .inv .2)
-          (id ∙ (ap (λ (b : ℕ). getD ns b noNode .id) (least .ensures)
-          ∙ where-next ns (idsWhere ns (bit (a .mask))) (k .loop .j) (k .loop .rest) few (k .loop .inv .3)))
-          ∙ put-more (a .from) (λ i. getD (idsWhere ns (bit (a .mask))) i 0) (k .loop .j) (a .cells .now),
-      where-others ns (idsWhere ns (bit (a .mask))) (k .loop .j) (k .loop .rest) few (k .loop .inv .3)
-          ∙ ap (λ (s : ℕ). idsWhere ns (bit s)) (sym (c .without .ensures ∙ ap (withoutOf (k .loop .rest)) (least .ensures))),
+      λ ns m e.
+          let few : length ns ≤ mostNodes = omega arith in
+          let id : c .before .if1 .id ≡ getD ns (least .result) noNode .id =
+          ⊎-elim (λ w. w .2 ∙ id-cell ns (a .ids .now) (least .result) few e (omega arith)) (λ w. w .1 ∙ sym (past-id ns (least .result) (omega arith)))
+          (c .before .if1 .came) in
+          let inv = k .loop .inv .2 ns m e in (
+            ap₂ (λ (l : List ℕ) (v : ℕ). set l (a .from + k .loop .j) v) (inv .0)
+                (id ∙ (ap (λ (b : ℕ). getD ns b noNode .id) (least .ensures)
+                ∙ where-next ns (idsWhere ns (bit (a .mask))) (k .loop .j) (k .loop .rest) few (inv .1)))
+                ∙ put-more (a .from) (λ i. getD (idsWhere ns (bit (a .mask))) i 0) (k .loop .j) (a .cells .now),
+            where-others ns (idsWhere ns (bit (a .mask))) (k .loop .j) (k .loop .rest) few (inv .1)
+                ∙ ap (λ (s : ℕ). idsWhere ns (bit s)) (sym (c .without .ensures ∙ ap (withoutOf (k .loop .rest)) (least .ensures))),
+          ),
     )
 
 same-length : tie.Need-same-length Inv-loop μ-loop
@@ -91,8 +90,8 @@ returns : tie.Need-returns Inv-loop μ-loop
 returns c =
     let k = c .before in
     let a = k .before .before .before .args in
-    let e : k .loop .j ≡ rowCells = omega arith in
-    k .loop .inv .2 ∙ ap (λ (n : ℕ). put (a .from) (λ i. getD (idsWhere (topology (a .t1) .nodes) (bit (a .mask))) i 0) n (a .cells .now)) e
+    let d : k .loop .j ≡ rowCells = omega arith in
+    λ ns m e. k .loop .inv .2 ns m e .0 ∙ ap (λ (n : ℕ). put (a .from) (λ i. getD (idsWhere ns (bit (a .mask))) i 0) n (a .cells .now)) d
 
 pub write-row-spec : {M : Type 1} → statement M
 write-row-spec =
@@ -100,12 +99,11 @@ write-row-spec =
     (tie.spec
     Inv-loop
     μ-loop
-    used-requires
     loop-holds
     least-requires
     cast-b
     mul-id
-    element-copy-out-id
+    shared-slice-read-id
     add-cells
     mul-cells
     slice-write-cells
