@@ -89,7 +89,7 @@ slot a k j l =
     (is-cases (a + k * mostNodes) j)
 
 -- The sets at the two weights of a, as one condition on the weight.
-by-weight : (a F T h A s u b : ℕ) → b < mostNodes → A ≤ 1 → s ≡ min A (is (bit F a) h) → u ≡ min A (is (1 + bit F a) h)
+pub by-weight : (a F T h A s u b : ℕ) → b < mostNodes → A ≤ 1 → s ≡ min A (is (bit F a) h) → u ≡ min A (is (1 + bit F a) h)
     → max (min s (bit (meetOf T F) b)) (min u (bit (differenceOf T F) b)) ≡ min A (min (bit T b) (weighs F h a b))
 by-weight a F T h A s u b l o p q =
     ⊎-elim

@@ -1,22 +1,27 @@
 -- One turn of each loop, and what the whole leaves, over plain numbers and lists.
 -- Assumes nothing.
-use Prim.Native.Nat.{ℕ, zero, suc, _+_, _-_, _/_, _%_, _≤_, min, max}
+use Prim.Native.Nat.{ℕ, zero, suc, _+_, _-_, _*_, _/_, _%_, _≤_, _<_, min, max}
 use mathlib.Core.Path.{_≡_, refl, sym, ap, ap₂, _∙_}
+use mathlib.Core.Bool.{true}
 use mathlib.Core.List.{List, _++_}
+use mathlib.Core.Logic.{⊎-elim}
 use native.Mathlib.Numerals.{add-one}
 use native.Mathlib.Omega.{arith}
 use lib.ListN.{length, getD, set, drop, length-append, length-drop}
+use lib.Dec.{ltb}
 use Rattle.cluster.specs.Terms.{mostNodes}
 use Rattle.cycles.specs.ModelGraph.{arcCells}
 use Rattle.sums.specs.TermsSums.{sumTo, tab}
 use Rattle.sums.specs.ModelSums.{maxTo, is}
-use Rattle.sets.specs.ModelBits.{bit, withoutOf, leastOf}
-use Rattle.sets.proofs.Laws.{bit-le}
+use Rattle.sums.proofs.Sum.{lt-or-ge}
+use Rattle.sets.specs.ModelBits.{bit, withoutOf, meetOf, differenceOf, leastOf}
+use Rattle.sets.proofs.Laws.{bit-le, bit-meet, bit-difference}
 use Rattle.cells.proofs.Cells.{length-tab}
-use Rattle.swaps.specs.ModelSwaps.{targetsOf}
-use Rattle.graph.specs.ModelArcs.{weighs, moves, movesTo, copiesTo, noted}
+use Rattle.swaps.specs.ModelSwaps.{coverOf, coveredOf, targetsOf}
+use Rattle.swaps.proofs.Steps.{targets-spare}
+use Rattle.graph.specs.ModelArcs.{weighs, joined, leads, moves, movesTo, copiesTo, noted}
 use Rattle.graph.specs.ModelGrowth.{Grown, Added}
-use Rattle.graph.proofs.Growing.{grown-same, grown-then, grown-noted, added-same, added-then, added-one, done-grows}
+use Rattle.graph.proofs.Growing.{grown-same, grown-then, grown-joined, slot, by-weight, grown-noted, added-same, added-then, added-one, done-grows}
 use Rattle.sets.proofs.Scan.{Left, least-word, done-more, done-all}
 
 -- ---- the nodes of a row
@@ -107,6 +112,110 @@ module _ (all : ℕ) (X : ℕ → ℕ → ℕ) (l₀ : List ℕ) where
             G .bits j b p q ∙ ap (λ (d : ℕ). max (bit (getD l₀ j 0) b) (min d (X j b))) (done-all all left (j % mostNodes) e);
         rest = G .rest;
       }
+
+-- ---- a row with a zone to spare
+
+-- A condition A of two others, each with its own.
+inside : (A H K x y s u : ℕ) → s ≡ min A H → u ≡ min A K → max (min s x) (min u y) ≡ min A (max (min H x) (min K y))
+inside A H K x y s u e f = ap₂ (λ (p q : ℕ). max (min p x) (min q y)) e f ∙ (ap₂ max (within A H x) (within A K y) ∙ either A (min H x) (min K y))
+  where
+    within : (A H x : ℕ) → min (min A H) x ≡ min A (min H x)
+    within A H x = omega arith
+
+    either : (A x y : ℕ) → max (min A x) (min A y) ≡ min A (max x y)
+    either A x y = omega arith
+
+-- The two sets of one node of a part.
+pub part-node : (l m n : List ℕ) (a h low high : ℕ) → a < mostNodes → h ≤ 1 → arcCells ≤ length l → m ≡ joined l (a + h * mostNodes) low
+    → n ≡ joined m (a + h * mostNodes + mostNodes) high → Grown (λ j b. min (is a (j % mostNodes)) (leads h low high j b)) l n
+unfolding leads
+part-node l m n a h low high q p g em en =
+    let i = a + h * mostNodes in
+    let F = grown-joined l i low (omega arith) g in
+    rw (en, em)
+    (grown-then (λ j b. min (is i j) (bit low b)) (λ j b. min (is (i + mostNodes) j) (bit high b)) (λ j b. min (is a (j % mostNodes)) (leads h low high j b)) l
+    (joined l i low) (joined (joined l i low) (i + mostNodes) high) F
+    (grown-joined (joined l i low) (i + mostNodes) high (omega arith) (omega (arith, F .long)))
+    (λ j b r s. inside (is a (j % mostNodes)) (is h (j / mostNodes)) (is (h + 1) (j / mostNodes)) (bit low b) (bit high b) (is i j) (is (i + mostNodes) j) (slot a h j q)
+    (ap (λ (x : ℕ). is x j) (omega arith) ∙ slot a (h + 1) j q)))
+
+-- The two parts of the row together: what the former row does not have, and what it has.
+module _ (row F all : ℕ) (l₀ l₁ l₂ : List ℕ) (free low high new old : ℕ) (ef : free ≡ differenceOf all row) (el : low ≡ meetOf free F) (eh : high ≡ differenceOf free F)
+    (en : new ≡ differenceOf row F) (eo : old ≡ meetOf row F) where
+  -- A node is in one of them.
+  part-new : (c : ℕ) → c < mostNodes → bit new c ≡ bit row c - bit F c
+  part-new c l = ap (λ (x : ℕ). bit x c) en ∙ bit-difference row F c l
+
+  part-old : (c : ℕ) → c < mostNodes → bit old c ≡ min (bit row c) (bit F c)
+  part-old c l = ap (λ (x : ℕ). bit x c) eo ∙ bit-meet row F c l
+
+  pub parts-row : (c : ℕ) → c < mostNodes → bit new c + bit old c ≡ bit row c
+  parts-row c l = omega (arith, part-new c l, part-old c l, bit-le row c, bit-le F c)
+
+  -- So each node of the row leads at the weights that the former row gives.
+  parts-lead : (j b : ℕ) → j < arcCells → b < mostNodes
+      → max (min (bit new (j % mostNodes)) (leads 0 low high j b)) (min (bit old (j % mostNodes)) (leads 1 low high j b))
+      ≡ min (bit row (j % mostNodes)) (min (bit (differenceOf all row) b) (weighs F (j / mostNodes) (j % mostNodes) b))
+  unfolding leads
+  parts-lead j b p q =
+      let a = j % mostNodes in
+      let h = j / mostNodes in
+      let T = differenceOf all row in
+      let A = bit row a in
+      let x = bit (meetOf T F) b in
+      let y = bit (differenceOf T F) b in
+      ap₂ (λ (u v : ℕ). max (min (bit new a) (max (min (is 0 h) u) (min (is 1 h) v))) (min (bit old a) (max (min (is 1 h) u) (min (is 2 h) v))))
+      (ap (λ (u : ℕ). bit u b) (el ∙ ap (λ (v : ℕ). meetOf v F) ef)) (ap (λ (u : ℕ). bit u b) (eh ∙ ap (λ (v : ℕ). differenceOf v F) ef))
+      ∙ ⊎-elim
+      (λ o. let e : bit F a ≡ 0 = omega arith in
+      first A (bit new a) (bit old a) (is 0 h) (is 1 h) (is 2 h) x y (omega (arith, part-new a (omega arith))) (omega (arith, part-old a (omega arith)))
+      ∙ by-weight a F T h A (min A (is 0 h)) (min A (is 1 h)) b q (bit-le row a) (ap (λ (k : ℕ). min A (is k h)) (sym e)) (ap (λ (k : ℕ). min A (is (1 + k) h)) (sym e)))
+      (λ o. let e : bit F a ≡ 1 = omega (arith, bit-le F a) in
+      second A (bit new a) (bit old a) (is 0 h) (is 1 h) (is 2 h) x y (omega (arith, part-new a (omega arith), bit-le row a)) (omega (arith, part-old a (omega arith), bit-le row a))
+      ∙ by-weight a F T h A (min A (is 1 h)) (min A (is 2 h)) b q (bit-le row a) (ap (λ (k : ℕ). min A (is k h)) (sym e)) (ap (λ (k : ℕ). min A (is (1 + k) h)) (sym e)))
+      (lt-or-ge (bit F a) 1)
+    where
+      first : (A n o H K L x y : ℕ) → n ≡ A → o ≡ 0
+          → max (min n (max (min H x) (min K y))) (min o (max (min K x) (min L y))) ≡ max (min (min A H) x) (min (min A K) y)
+      first A n o H K L x y e f =
+          ap₂ (λ (p q : ℕ). max (min p (max (min H x) (min K y))) (min q (max (min K x) (min L y)))) e f
+          ∙ (left A (max (min H x) (min K y)) (max (min K x) (min L y)) ∙ sym (inside A H K x y (min A H) (min A K) refl refl))
+        where
+          left : (A u v : ℕ) → max (min A u) (min 0 v) ≡ min A u
+          left A u v = omega arith
+
+      second : (A n o H K L x y : ℕ) → n ≡ 0 → o ≡ A
+          → max (min n (max (min H x) (min K y))) (min o (max (min K x) (min L y))) ≡ max (min (min A K) x) (min (min A L) y)
+      second A n o H K L x y e f =
+          ap₂ (λ (p q : ℕ). max (min p (max (min H x) (min K y))) (min q (max (min K x) (min L y)))) e f
+          ∙ (right A (max (min H x) (min K y)) (max (min K x) (min L y)) ∙ sym (inside A K L x y (min A K) (min A L) refl refl))
+        where
+          right : (A u v : ℕ) → max (min 0 u) (min A v) ≡ min A v
+          right A u v = omega arith
+
+  pub spare-all : Grown (λ j b. min (bit new (j % mostNodes)) (leads 0 low high j b)) l₀ l₁ → Grown (λ j b. min (bit old (j % mostNodes)) (leads 1 low high j b)) l₁ l₂
+      → Grown (λ j b. min (bit row (j % mostNodes)) (min (bit (differenceOf all row) b) (weighs F (j / mostNodes) (j % mostNodes) b))) l₀ l₂
+  spare-all G H =
+      grown-then (λ j b. min (bit new (j % mostNodes)) (leads 0 low high j b)) (λ j b. min (bit old (j % mostNodes)) (leads 1 low high j b))
+      (λ j b. min (bit row (j % mostNodes)) (min (bit (differenceOf all row) b) (weighs F (j / mostNodes) (j % mostNodes) b))) l₀ l₁ l₂ G H parts-lead
+
+  pub spare-counts : (m₀ m₁ m₂ : List ℕ) → Added (bit new) m₀ m₁ → Added (bit old) m₁ m₂ → Added (bit row) m₀ m₂
+  spare-counts m₀ m₁ m₂ G H = added-then (bit new) (bit old) (bit row) m₀ m₁ m₂ G H parts-row
+
+-- Where the row has a zone to spare, that is what it allows.
+pub spare-moves : (mates : List ℕ) (all z row former : ℕ) (l m : List ℕ) → true ≡ ltb z (coverOf mates row)
+    → Grown (λ j b. min (bit row (j % mostNodes)) (min (bit (differenceOf all row) b) (weighs former (j / mostNodes) (j % mostNodes) b))) l m
+    → Grown (moves mates all z row former) l m
+unfolding moves targetsOf
+spare-moves mates all z row former l m e G =
+    record {
+      long = G .long;
+      bits = λ j b p q.
+          G .bits j b p q
+          ∙ ap (λ (t : ℕ). max (bit (getD l j 0) b) (min (bit row (j % mostNodes)) (min (bit t b) (weighs former (j / mostNodes) (j % mostNodes) b))))
+          (sym (targets-spare all row (getD mates (j % mostNodes) 0) (ltb z (coverOf mates row)) (coveredOf mates row) (sym e)));
+      rest = G .rest;
+    }
 
 -- ---- the rows
 

@@ -43,6 +43,10 @@ cellOf rows former P mates caps all z j =
 unfoldable pub arcsOf : List ℕ → List ℕ → ℕ → List ℕ → List ℕ → ℕ → ℕ → List ℕ → List ℕ
 arcsOf rows former P mates caps all z l = cond (ltb (length l) arcCells) l (tab (cellOf rows former P mates caps all z) arcCells ++ drop arcCells l)
 
+-- 1 where b is of `low` and cell j is at weight h - 1, or b is of `high` and the cell is at weight h.
+unfoldable pub leads : ℕ → ℕ → ℕ → ℕ → ℕ → ℕ
+leads h low high j b = max (min (is h (j / mostNodes)) (bit low b)) (min (is (h + 1) (j / mostNodes)) (bit high b))
+
 -- The list with the members of s added to the set in cell i.
 unfoldable pub joined : List ℕ → ℕ → ℕ → List ℕ
 joined l i s = set l i (unionOf (getD l i 0) s)

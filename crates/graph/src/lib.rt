@@ -7,17 +7,17 @@ ghost use mathlib.Core.Path.{_≡_};
 ghost use mathlib.Core.Bool.{false};
 ghost use mathlib.Core.List.{_++_};
 ghost use lib.Dec.{ltb};
-ghost use Prim.Native.Nat.{ℕ, _+_, _*_, _%_, _^_, _≤_, _<_, min};
+ghost use Prim.Native.Nat.{ℕ, _+_, _*_, _/_, _%_, _^_, _≤_, _<_, min};
 ghost use lib.ListN.{length, getD, drop};
 ghost use Rattle.sums.specs.TermsSums.{tab};
 ghost use Rattle.sums.specs.ModelSums.{is};
 ghost use Rattle.cells.specs.ModelCells.{put};
 ghost use Rattle.cluster.specs.Terms.{mostNodes, bufferRows};
 ghost use Rattle.cycles.specs.ModelGraph.{arcCells};
-ghost use Rattle.sets.specs.ModelBits.{bit, withoutOf, unionOf, leastOf};
+ghost use Rattle.sets.specs.ModelBits.{bit, withoutOf, unionOf, differenceOf, leastOf};
 ghost use Rattle.swaps.specs.ModelBlocks.{blockRows};
 ghost use Rattle.swaps.specs.ModelSwaps.{coverOf, coveredOf};
-ghost use Rattle.graph.specs.ModelArcs.{joined, noted, moves, movesTo, copiesTo, arcsOf};
+ghost use Rattle.graph.specs.ModelArcs.{joined, noted, leads, weighs, moves, movesTo, copiesTo, arcsOf};
 ghost use Rattle.graph.specs.ModelGrowth.{Grown, Added};
 ghost use Rattle.graph.specs.ModelKept.{mostBlocks, blockCells, keptCells, wide, Kept, Filled, Few, wholeOf, Gathered, heldIn};
 use cluster::Cluster;
@@ -97,6 +97,39 @@ fn zones(mates: &[u32], row: u32, z: u32) -> Spread
     }
 }
 
+// Adds the nodes `low` to the sets of the nodes of `part` at weight h - 1 and the nodes `high` to those at weight h, and counts the nodes of `part`.
+fn add_part(arcs: &mut [u32], counts: &mut [u32], part: u32, h: usize, low: u32, high: u32)
+    requires { ⌜ (arcCells ≤ length (now arcs)) × (mostNodes ≤ length (now counts)) × (h ≤ 1) × ((c : ℕ) → c < mostNodes → getD (now counts) c 0 + bit part c < 2 ^ 32) ⌝ }
+    ensures { λ _. ⌜ Grown (λ j b. min (bit part (j % mostNodes)) (leads h low high j b)) (now (arcs .entry)) (now (arcs .exit)) × Added (bit part) (now (counts .entry)) (now (counts .exit)) ⌝ }
+{
+    let at = h * Cluster::NODES;
+    let mut left = part;
+    while left != 0 {
+        let a = sets::least(left);
+        let k = a as usize;
+        join(arcs, k + at, low);
+        join(arcs, k + at + Cluster::NODES, high);
+        counts[k] = counts[k] + 1;
+        left = sets::without(left, a);
+    }
+}
+
+// Adds what a row with a zone to spare allows, and counts its nodes: each may give way to any node outside the row, and those that the former row has
+// to the same nodes at the same weights, and the others too.
+fn add_spare(arcs: &mut [u32], counts: &mut [u32], row: u32, former: u32, all: u32)
+    requires { ⌜ (arcCells ≤ length (now arcs)) × (mostNodes ≤ length (now counts)) × ((c : ℕ) → c < mostNodes → getD (now counts) c 0 + 1 < 2 ^ 32) ⌝ }
+    ensures { λ _. ⌜ Grown (λ j b. min (bit row (j % mostNodes)) (min (bit (differenceOf all row) b) (weighs former (j / mostNodes) (j % mostNodes) b))) (now (arcs .entry)) (now (arcs .exit))
+        × Added (bit row) (now (counts .entry)) (now (counts .exit)) ⌝ }
+{
+    let free = sets::difference(all, row);
+    let low = sets::meet(free, former);
+    let high = sets::difference(free, former);
+    let new = sets::difference(row, former);
+    add_part(arcs, counts, new, 0, low, high);
+    let old = sets::meet(row, former);
+    add_part(arcs, counts, old, 1, low, high);
+}
+
 // Adds what one row allows, and counts its nodes.
 fn add_row(
     arcs: &mut [u32],
@@ -111,13 +144,16 @@ fn add_row(
     ensures { λ _. ⌜ Grown (moves (now (mates .entry)) all z row former) (now (arcs .entry)) (now (arcs .exit)) × Added (bit row) (now (counts .entry)) (now (counts .exit)) ⌝ }
 {
     let t = zones(mates, row, z);
+    if t.spare {
+        add_spare(arcs, counts, row, former, all);
+        return;
+    }
     let nodes = t.nodes;
-    let spare = t.spare;
     let mut left = row;
     while left != 0 {
         let a = sets::least(left);
         let i = a as usize;
-        let to = swaps::targets_in(all, row, swaps::cell(mates, i), spare, nodes);
+        let to = swaps::targets_in(all, row, swaps::cell(mates, i), false, nodes);
         note(arcs, a, former, to);
         counts[i] = counts[i] + 1;
         left = sets::without(left, a);

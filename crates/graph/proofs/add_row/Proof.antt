@@ -2,13 +2,14 @@
 -- The measure is the number of nodes that are left. Assumes nothing.
 use Prim.Native.Nat.{ℕ, _-_, _≤_, _<_}
 use mathlib.Core.Path.{sym, ap, _∙_, subst}
+use mathlib.Core.Bool.{false}
 use lib.ListN.{length}
 use Rattle.sets.specs.ModelBits.{bit, countOf, withoutOf}
 use Rattle.graph.proofs.Spare.{targets-told}
 use Rattle.graph.specs.ModelGrowth.{Grown, Added}
 use Rattle.graph.proofs.Growing.{added-same}
 use Rattle.sets.proofs.Scan.{Left, left-all, least-word, left-less}
-use Rattle.graph.proofs.Turns.{doing, row-none, row-turn, row-all, count-turn, count-all}
+use Rattle.graph.proofs.Turns.{doing, row-none, row-turn, row-all, count-turn, count-all, spare-moves}
 use Rattle.sets.proofs.Laws.{bit-le, least-at, least-taken}
 use borrow.Author.Needs.{needs}
 use native.Mathlib.Omega.{arith}
@@ -18,7 +19,7 @@ use Rattle.graph.proofs.add_row.Statement.{statement}
 use Rattle.graph.proofs.add_row.Tie as tie
 
 abbrev Inv-loop : tie.InvT-loop
-Inv-loop arcs₀ counts₀ row former mates all z nodes spare left₀ arcs counts left =
+Inv-loop arcs₀ counts₀ row former mates all z nodes left₀ arcs counts left =
     (arcCells ≤ length arcs₀)
     × (mostNodes ≤ length counts₀)
     × Left row left
@@ -26,14 +27,35 @@ Inv-loop arcs₀ counts₀ row former mates all z nodes spare left₀ arcs count
     × Added (λ c. bit row c - bit left c) counts₀ counts
 
 abbrev μ-loop : tie.MeasureT-loop
-μ-loop arcs₀ counts₀ row former mates all z nodes spare left₀ arcs counts left = countOf left
+μ-loop arcs₀ counts₀ row former mates all z nodes left₀ arcs counts left = countOf left
 
 zones-requires : tie.Need-zones-requires Inv-loop μ-loop
 zones-requires c κs = search needs
 
+add-spare-requires : tie.Need-add-spare-requires Inv-loop μ-loop
+add-spare-requires c κs =
+    let s = c .before .before .before .before .before .before .before in
+    (search needs, search needs, s .pre .2)
+
+same-length : tie.Need-same-length Inv-loop μ-loop
+same-length c = search needs
+
+same-length-2 : tie.Need-same-length-2 Inv-loop μ-loop
+same-length-2 c = search needs
+
+returns : tie.Need-returns Inv-loop μ-loop
+returns c =
+    let p = c .before .before .before .before in
+    let t = p .before .before .before in
+    let f = t .before .zones in
+    let a = t .before .before .before .before .before .args in (
+      spare-moves (a .mates .now) (a .all) (a .z) (a .row) (a .former) (a .arcs .now) (p .add-spare .last .0) (sym (t .if1 .taken) ∙ f .ensures .0) (p .add-spare .ensures .0),
+      p .add-spare .ensures .1,
+    )
+
 loop-holds : tie.Need-loop-holds Inv-loop μ-loop
 loop-holds c =
-    let a = c .before .before .before .before .args in (
+    let a = c .before .before .before .before .before .args in (
       search needs,
       search needs,
       left-all (a .row) (search needs),
@@ -49,7 +71,7 @@ bounds : (c : tie.After-least Inv-loop μ-loop)
     → (c .least .result < mostNodes) × (arcCells ≤ length (c .before .before .loop .arcs)) × (mostNodes ≤ length (c .before .before .loop .counts))
 bounds c =
     let k = c .before .before in
-    let w = least-word (k .before .before .before .before .before .args .row) (k .loop .left) (k .loop .inv .2) (c .before .loop-test .taken) in
+    let w = least-word (k .before .before .before .before .before .before .args .row) (k .loop .left) (k .loop .inv .2) (c .before .loop-test .taken) in
     omega (arith, w, c .least .ensures, k .loop .inv .3 .long, k .loop .inv .4 .long)
 
 cast-i : tie.Need-cast-i Inv-loop μ-loop
@@ -74,14 +96,14 @@ add-counts : tie.Need-add-counts Inv-loop μ-loop
 add-counts c =
     let l = c .before .before .before .before .before .before .before in
     let k = l .before .before in
-    let a = k .before .before .before .before .before .args in
+    let a = k .before .before .before .before .before .before .args in
     let w = least-word (a .row) (k .loop .left) (k .loop .inv .2) (l .before .loop-test .taken) in
     let i = l .least .result in
     let h = bounds l .0 in
     omega (
       arith,
       k .loop .inv .4 .cells i h,
-      k .before .before .before .before .before .pre .2 i h,
+      k .before .before .before .before .before .before .pre .2 i h,
       bit-le (a .row) i,
       least-at (k .loop .left) w,
       ap (bit (k .loop .left)) (l .least .ensures),
@@ -107,15 +129,16 @@ loop-again c =
     let k = c .before .before .before .before .before .before .before .before .before .before in
     let n = c .before .before .before .before in
     let t = c .before .before .before .before .before .before .before .before .before .loop-test .taken in
-    let a = k .before .before .before .before .before .args in
+    let a = k .before .before .before .before .before .before .args in
     let i = n .before .before .before .before .least .result in
     let ei = n .before .before .before .before .least .ensures in
     let en = c .without .ensures ∙ ap (λ (x : ℕ). withoutOf (k .loop .left) x) ei in
     let s = n .before .before in
-    let f = k .before .zones in
+    let f = k .before .before .zones in
+    let o = k .before .if1 .left in
     let e =
-    targets-told (a .mates .now) (a .all) (a .z) (a .row) i (f .result .spare) (f .result .nodes) (s .before .cell .result) (s .targets-in .result) (f .ensures .0)
-    (f .ensures .1) (s .before .cell .ensures) (s .targets-in .ensures) in (
+    targets-told (a .mates .now) (a .all) (a .z) (a .row) i false (f .result .nodes) (s .before .cell .result) (s .targets-in .result) (sym o ∙ f .ensures .0)
+    (λ w. f .ensures .1 o) (s .before .cell .ensures) (s .targets-in .ensures) in (
       k .loop .inv .0,
       k .loop .inv .1,
       subst (λ (x : ℕ). Left (a .row) x) (sym en) (left-less (a .row) (k .loop .left) (k .loop .inv .2) t),
@@ -124,16 +147,16 @@ loop-again c =
       count-turn (a .row) (k .loop .left) i (c .without .result) (a .counts .now) (k .loop .counts) (k .loop .inv .2) t (k .loop .inv .1) ei (c .without .ensures) (k .loop .inv .4),
     )
 
-same-length : tie.Need-same-length Inv-loop μ-loop
-same-length c = c .before .loop .inv .3 .long
+same-length-3 : tie.Need-same-length-3 Inv-loop μ-loop
+same-length-3 c = c .before .loop .inv .3 .long
 
-same-length-2 : tie.Need-same-length-2 Inv-loop μ-loop
-same-length-2 c = c .before .loop .inv .4 .long
+same-length-4 : tie.Need-same-length-4 Inv-loop μ-loop
+same-length-4 c = c .before .loop .inv .4 .long
 
-returns : tie.Need-returns Inv-loop μ-loop
-returns c =
+returns-2 : tie.Need-returns-2 Inv-loop μ-loop
+returns-2 c =
     let k = c .before in
-    let a = k .before .before .before .before .before .args in (
+    let a = k .before .before .before .before .before .before .args in (
       row-all (a .mates .now) (a .all) (a .z) (a .row) (a .former) (a .arcs .now) (k .loop .left) (k .loop .arcs) (c .loop-test .left) (k .loop .inv .3),
       count-all (a .row) (k .loop .left) (a .counts .now) (k .loop .counts) (c .loop-test .left) (k .loop .inv .4),
     )
@@ -145,6 +168,10 @@ add-row-spec =
     Inv-loop
     μ-loop
     zones-requires
+    add-spare-requires
+    same-length
+    same-length-2
+    returns
     loop-holds
     least-requires
     cast-i
@@ -159,6 +186,6 @@ add-row-spec =
     without-requires
     loop-less
     loop-again
-    same-length
-    same-length-2
-    returns)
+    same-length-3
+    same-length-4
+    returns-2)
