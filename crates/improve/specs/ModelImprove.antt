@@ -1,5 +1,5 @@
 -- One improvement of rows of masks, and the run of improvements: the walk that was turned last, where it stands again in the rows, else the cycle found
--- in the graph of the rows; the exchanges of that walk; until there is none or the allowance is spent. Nobody has to believe this file: the theorem of crates/planner/proofs/Demands.antt says in
+-- in the graph of the rows; the exchanges of that walk; until there is none or the allowance is spent. Nobody has to believe this file: the theorem of crates/planning/proofs/Demands.antt says in
 -- the paper's terms what it achieves.
 -- Assumes nothing.
 use Prim.Native.Nat.{ℕ}

@@ -13,7 +13,7 @@ use Rattle.cluster.specs.Terms.{layoutCells, scratchCells, mostNodes, Topology,
 use Rattle.cluster.specs.declared.Cluster.{Cluster}
 use Rattle.sizing.specs.ModelSizing.{sizeOf}
 use Rattle.sums.specs.TermsSums.{everyTo}
-use Rattle.planner.specs.ModelPlan.{planOf}
+use Rattle.planning.specs.ModelPlan.{planOf}
 use Rattle.planner.specs.TermsPlan.{unusable, planRefusal, refusedWith, answered, plannedOf, assignmentAfter, scratchAfter}
 use Rattle.sums.proofs.Tests.{every-cong}
 

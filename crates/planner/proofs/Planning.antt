@@ -18,7 +18,7 @@ use Rattle.sizing.proofs.Reading.{size-in}
 use Rattle.planner.specs.TermsPlan.{unusable, planRefusal, planIn, refusedWith, answered, plannedOf, assignmentAfter, scratchAfter, Owed}
 use Rattle.planner.specs.declared.Planned.{Planned}
 use Rattle.planner.proofs.Refusals.{usable-has, lent-former}
-use Rattle.planner.proofs.Demands.{demand3, no-layout}
+use Rattle.planning.proofs.Demands.{demand3, no-layout}
 
 module _ (c : Cluster) (former : List ℕ) (allowance : ℕ) (assignment scratch : List ℕ) where
   abbrev a : ℕ

@@ -25,11 +25,11 @@ use Rattle.sizing.specs.ModelSizing.{nodesOf, mateCells, capCells, sizeOf, deal
 use Rattle.sizing.proofs.Reading.{deal-in, deal-length}
 use Rattle.improve.specs.ModelRun.{Ran}
 use Rattle.improve.specs.ModelImprove.{State, ranIn, agreementIn, sharedIn}
-use Rattle.planner.specs.ModelPlan.{formerMasks, dealtAt, startRows, ranFrom, layoutRows, farRows, planFrom, planOf}
+use Rattle.planning.specs.ModelPlan.{formerMasks, dealtAt, startRows, ranFrom, layoutRows, farRows, planFrom, planOf}
 use Rattle.planner.specs.TermsPlan.{planIn, answered}
 use Rattle.planner.specs.declared.Planned.{Planned}
 use Rattle.improve.proofs.Ground.{run-good}
-use Rattle.planner.proofs.Machines.{GoodRows, start-good, fm-long, ground, measure}
+use Rattle.planning.proofs.Machines.{GoodRows, start-good, fm-long, ground, measure}
 
 -- ---- the numbers of a cluster without fault
 

@@ -1,3 +1,1 @@
-pub mod Demand
-pub mod ModelPlan
 pub mod TermsPlan

@@ -10,8 +10,8 @@ use Rattle.sums.specs.TermsSums.{everyTo}
 use Rattle.cluster.specs.Terms.{layoutCells, scratchCells, Topology, topology, partitions, Layout, ValidAt, IsFormer, rowAt, formed, rowsIn, cellsOf, faultOf}
 use Rattle.cluster.specs.declared.Cluster.{Cluster}
 use Rattle.sizing.specs.ModelSizing.{sizeOf}
-use Rattle.planner.specs.Demand.{Answer, Demand3}
-use Rattle.planner.specs.ModelPlan.{planOf}
+use Rattle.planning.specs.Demand.{Answer, Demand3}
+use Rattle.planning.specs.ModelPlan.{planOf}
 use Rattle.planner.specs.declared.Planned.{Planned}
 
 -- "8: any buffer too short. 6: more than 32 boxes. 4: bits, replication, redundancy or an id out of range. 5: ids not rising, or one of the

@@ -9,7 +9,7 @@ ghost use Rattle.masks.specs.ModelMasks.{rowsFormed, idsTotal};
 ghost use Rattle.cluster.specs.TermsReading.{Fits32};
 ghost use Rattle.sizing.specs.ModelSizing.{sizeOf};
 ghost use Rattle.improve.specs.ModelImprove.{agreementIn};
-ghost use Rattle.planner.specs.ModelPlan.{dealtAt, ranFrom};
+ghost use Rattle.planning.specs.ModelPlan.{dealtAt, ranFrom};
 ghost use Rattle.planner.specs.TermsPlan.{planIn, answered};
 use super::Planned;
 use cluster::Cluster;

@@ -22,11 +22,11 @@ use Rattle.incidence.proofs.TieRows.{known-id}
 use Rattle.incidence.proofs.TieDistance.{former-few, distance-law}
 use Rattle.sizing.specs.ModelSizing.{sizeOf, dealtBits}
 use Rattle.sizing.proofs.Sizes.{size-best, size-largest, beginning-valid}
-use Rattle.planner.specs.Demand.{Demand3, Rules}
-use Rattle.planner.specs.ModelPlan.{planOf}
+use Rattle.planning.specs.Demand.{Demand3, Rules}
+use Rattle.planning.specs.ModelPlan.{planOf}
 use Rattle.planner.specs.TermsPlan.{unusable, planRefusal, planIn, refusedWith, answered, plannedOf, assignmentAfter}
 use Rattle.planner.proofs.Refusals.{Usable, usable-has}
-use Rattle.planner.proofs.Demands.{demand3}
+use Rattle.planning.proofs.Demands.{demand3}
 
 -- ---- refused or not
 

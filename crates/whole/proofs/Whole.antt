@@ -20,8 +20,8 @@ use Rattle.masks.proofs.Laws.{holds-formed}
 use Rattle.layouts.specs.TermsCheck.{fault, checkOf}
 use Rattle.layouts.proofs.CheckMeaning.{valid-fits, valid-passed}
 use Rattle.sizing.specs.ModelSizing.{sizeOf}
-use Rattle.planner.specs.Demand.{Answer, Demand3, Rules}
-use Rattle.planner.specs.ModelPlan.{planOf}
+use Rattle.planning.specs.Demand.{Answer, Demand3, Rules}
+use Rattle.planning.specs.ModelPlan.{planOf}
 use Rattle.planner.specs.TermsPlan.{unusable, planRefusal, planIn, answered, plannedOf, assignmentAfter}
 use Rattle.planner.specs.declared.Planned.{Planned}
 use Rattle.planner.proofs.Refusals.{Usable, usable, lent-former}

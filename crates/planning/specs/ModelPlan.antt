@@ -12,7 +12,7 @@ use Rattle.incidence.specs.ModelIncidence.{incidence, layoutOf, formerPairs, zo
 use Rattle.sizing.specs.ModelSizing.{nodesOf, mateCells, capCells, sizeOf, dealtRows}
 use Rattle.improve.specs.ModelRun.{Ran, run}
 use Rattle.improve.specs.ModelImprove.{State, begun, improvesIn, nextIn, ranIn, agreementIn}
-use Rattle.planner.specs.Demand.{Answer}
+use Rattle.planning.specs.Demand.{Answer}
 
 -- ---- the plan of a topology
 

@@ -29,8 +29,8 @@ use Rattle.sizing.proofs.Sizes.{size-is, beginning-within}
 use Rattle.sizing.proofs.Reading.{mates-hold, deal-length, deal-cell, deal-bit}
 use Rattle.improve.specs.ModelImprove.{State, begun, ranIn, agreementIn}
 use Rattle.improve.proofs.Ground.{Ground, Good, GoodState, agreement-weighs, begun-good, next-good, next-gains, none-heavier, none-former, run-finishes}
-use Rattle.planner.specs.ModelPlan.{matesOf, formerMasks, startRows, layoutRows, farRows, layoutAt, farAt, improvesAt, nextAt}
-use Rattle.planner.proofs.Rules.{Machine}
+use Rattle.planning.specs.ModelPlan.{matesOf, formerMasks, startRows, layoutRows, farRows, layoutAt, farAt, improvesAt, nextAt}
+use Rattle.planning.proofs.Rules.{Machine}
 
 -- Rows of nodes of the cluster, within the caps at its size.
 abbrev pub GoodRows : Topology → List ℕ → Type 0

@@ -11,8 +11,8 @@ use Rattle.sums.proofs.Sum.{lt-or-ge}
 use Rattle.cluster.specs.Terms.{Topology, partitions, Layout, row, ValidAt, IsSize, distance}
 use Rattle.improve.specs.ModelRun.{Ran, run}
 use Rattle.cluster.specs.TermsReading.{mostImprovements}
-use Rattle.planner.specs.Demand.{Answer, Rules}
-use Rattle.planner.specs.ModelPlan.{reached, answerAt}
+use Rattle.planning.specs.Demand.{Answer, Rules}
+use Rattle.planning.specs.ModelPlan.{reached, answerAt}
 use Rattle.sums.proofs.Tests.{true-or-false}
 use Rattle.improve.proofs.Runs.{not-both, run-is, run-none, run-keeps, stopped-improves, finished-done, stopped-spent, finished-larger, finished-smallest, stopped-next}
 

@@ -12,11 +12,11 @@ use Rattle.incidence.proofs.TieLayouts.{valid-of-within}
 use Rattle.sizing.specs.ModelSizing.{sizeOf}
 use Rattle.sizing.proofs.Sizes.{size-none, none-size, size-largest}
 use Rattle.improve.specs.ModelImprove.{begun}
-use Rattle.planner.specs.Demand.{Rules, Demand3}
-use Rattle.planner.specs.ModelPlan.{planFrom, planOf, startRows, layoutRows, layoutAt, farAt, improvesAt, nextAt}
+use Rattle.planning.specs.Demand.{Rules, Demand3}
+use Rattle.planning.specs.ModelPlan.{planFrom, planOf, startRows, layoutRows, layoutAt, farAt, improvesAt, nextAt}
 use Rattle.sets.specs.ModelBits.{bitsAt}
-use Rattle.planner.proofs.Rules.{rules}
-use Rattle.planner.proofs.Machines.{GoodRows, GoodAt, start-good, machine}
+use Rattle.planning.proofs.Rules.{rules}
+use Rattle.planning.proofs.Machines.{GoodRows, GoodAt, start-good, machine}
 
 -- From any good first rows the answers of planning obey the rules of planning by allowance, with the layout of these rows as the beginning.
 pub rules-from : (t : Topology) → Accepted t → Fits32 t → 1 ≤ sizeOf t → (F : Layout) → IsFormer t F → (start : List ℕ) → GoodRows t start
