@@ -114,8 +114,8 @@ fn add_part(arcs: &mut [u32], counts: &mut [u32], part: u32, h: usize, low: u32,
     }
 }
 
-// Adds what a row with a zone to spare allows, and counts its nodes: each may give way to any node outside the row, and those that the former row has
-// to the same nodes at the same weights, and the others too.
+// Adds what a row with a zone to spare allows, and counts its nodes: each may give way to any node outside, and the weights hang on nothing of it but
+// whether the former row has it, so that the row is added in two parts.
 fn add_spare(arcs: &mut [u32], counts: &mut [u32], row: u32, former: u32, all: u32)
     requires { ⌜ (arcCells ≤ length (now arcs)) × (mostNodes ≤ length (now counts)) × ((c : ℕ) → c < mostNodes → getD (now counts) c 0 + 1 < 2 ^ 32) ⌝ }
     ensures { λ _. ⌜ Grown (λ j b. min (bit row (j % mostNodes)) (min (bit (differenceOf all row) b) (weighs former (j / mostNodes) (j % mostNodes) b))) (now (arcs .entry)) (now (arcs .exit))
