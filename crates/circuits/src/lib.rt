@@ -4,12 +4,13 @@
 ghost use mathlib.Core.Path.{_≡_};
 ghost use mathlib.Core.Bool.{true};
 ghost use Prim.Native.Nat.{_+_, _-_, _≤_, _<_};
-ghost use lib.ListN.{length, getD};
+ghost use lib.ListN.{length, getD, set};
 ghost use Rattle.cells.specs.ModelCells.{put};
 ghost use Rattle.cluster.specs.Terms.{mostNodes, bufferRows};
 ghost use Rattle.exchange.specs.ModelUncross.{split, Same};
-ghost use Rattle.sets.specs.ModelBits.{bitsAt};
+ghost use Rattle.sets.specs.ModelBits.{bitsAt, withOf, withoutOf};
 ghost use Rattle.swaps.specs.ModelBlocks.{ChangedIn};
+ghost use Rattle.holders.specs.ModelHolders.{Held};
 ghost use Rattle.walks.specs.ModelWalks.{walkIn, renewed, stands};
 ghost use Rattle.circuits.specs.ModelCircuits.{cycleOf, freedOf, walkedOf, turnedOf};
 
@@ -21,14 +22,17 @@ pub fn load(
     walk: &[u32],
     m: usize,
     rows: &[u32],
+    held: &[u32],
     former: &[u32],
+    had: &[u32],
     partitions: usize,
     mates: &[u32],
     arcs: &[u32],
     all: u32,
     z: u32,
 )
-    requires { ⌜ (m < length (now y)) × (m ≤ length (now q)) × (m < length (now walk)) × (partitions ≤ bufferRows) ⌝ }
+    requires { ⌜ (m < length (now y)) × (m ≤ length (now q)) × (m < length (now walk)) × (partitions ≤ bufferRows)
+        × Held (now rows) partitions (now held) × Held (now former) partitions (now had) ⌝ }
     ensures { λ _. ⌜ (length (now (y .exit)) ≡ length (now (y .entry))) × (length (now (q .exit)) ≡ length (now (q .entry)))
         × Same (cycleOf (now (rows .entry)) (now (former .entry)) partitions (now (mates .entry)) (now (arcs .entry)) all z (now (walk .entry)) m)
         (walkIn m (now (y .exit)) (now (q .exit))) ⌝ }
@@ -38,7 +42,9 @@ pub fn load(
         y[t] = walk[t];
         q[t] = walks::witness(
             rows,
+            held,
             former,
+            had,
             partitions,
             mates,
             arcs,
@@ -59,14 +65,17 @@ pub fn renew(
     q: &mut [u32],
     m: usize,
     rows: &[u32],
+    held: &[u32],
     former: &[u32],
+    had: &[u32],
     partitions: usize,
     mates: &[u32],
     caps: &[u32],
     all: u32,
     z: u32,
 ) -> bool
-    requires { ⌜ (m < length (now y)) × (m ≤ length (now q)) × (partitions ≤ bufferRows) ⌝ }
+    requires { ⌜ (m < length (now y)) × (m ≤ length (now q)) × (partitions ≤ bufferRows)
+        × Held (now rows) partitions (now held) × Held (now former) partitions (now had) ⌝ }
     ensures { λ r. ⌜ (length (now (q .exit)) ≡ length (now (q .entry)))
         × (r ≡ stands (now (rows .entry)) (now (former .entry)) partitions (now (mates .entry)) all z (now (caps .entry)) (walkIn m (now (y .entry)) (now (q .entry))))
         × (r ≡ true
@@ -77,7 +86,9 @@ pub fn renew(
     while t < m {
         let arc = walks::renewed(
             rows,
+            held,
             former,
+            had,
             partitions,
             mates,
             caps,
@@ -166,18 +177,36 @@ fn free(
     len
 }
 
+// Node u of the row of partition p gives way to node v, and the sets of partitions follow.
+fn swap(rows: &mut [u32], held: &mut [u32], partitions: usize, p: usize, u: u32, v: u32)
+    requires { ⌜ (p < partitions) × (partitions ≤ length (now rows)) × (partitions ≤ bufferRows) × Held (now rows) partitions (now held) ⌝ }
+    ensures { λ _. ⌜ (now (rows .exit) ≡ set (now (rows .entry)) p (withOf (withoutOf (getD (now (rows .entry)) p 0) u) v))
+        × Held (now (rows .exit)) partitions (now (held .exit)) ⌝ }
+{
+    rows[p] = sets::with(sets::without(rows[p], u), v);
+    holders::exchange(held, p, u, v);
+}
+
 // The exchanges of the walk are made: each takes its source from its row and adds its target. The blocks of the changed rows are answered.
-fn make(rows: &mut [u32], partitions: usize, y: &[u32], q: &[u32], m: usize) -> u32
-    requires { ⌜ (m < length (now y)) × (m ≤ length (now q)) × (partitions ≤ length (now rows)) × (partitions ≤ bufferRows) ⌝ }
+fn make(
+    rows: &mut [u32],
+    held: &mut [u32],
+    partitions: usize,
+    y: &[u32],
+    q: &[u32],
+    m: usize,
+) -> u32
+    requires { ⌜ (m < length (now y)) × (m ≤ length (now q)) × (partitions ≤ length (now rows)) × (partitions ≤ bufferRows)
+        × Held (now rows) partitions (now held) ⌝ }
     ensures { λ r. ⌜ (now (rows .exit) ≡ walkedOf partitions (walkIn m (now (y .entry)) (now (q .entry))) (now (rows .entry)))
-        × ChangedIn r (now (rows .entry)) (now (rows .exit)) ⌝ }
+        × ChangedIn r (now (rows .entry)) (now (rows .exit)) × Held (now (rows .exit)) partitions (now (held .exit)) ⌝ }
 {
     let mut changed = 0;
     let mut i = 0;
     while i < m {
         let p = q[i] as usize;
         if p < partitions {
-            rows[p] = sets::with(sets::without(rows[p], y[i + 1]), y[i]);
+            swap(rows, held, partitions, p, y[i + 1], y[i]);
             changed = sets::with(changed, (p / swaps::BLOCK) as u32);
         }
         i += 1;
@@ -197,21 +226,23 @@ pub fn turn(
     q: &mut [u32],
     m: usize,
     rows: &mut [u32],
+    held: &mut [u32],
     former: &[u32],
     partitions: usize,
     mates: &[u32],
     all: u32,
     z: u32,
 ) -> Turned
-    requires { ⌜ (m ≤ mostNodes) × (m < length (now y)) × (m ≤ length (now q)) × (partitions ≤ length (now rows)) × (partitions ≤ bufferRows) ⌝ }
+    requires { ⌜ (m ≤ mostNodes) × (m < length (now y)) × (m ≤ length (now q)) × (partitions ≤ length (now rows)) × (partitions ≤ bufferRows)
+        × Held (now rows) partitions (now held) ⌝ }
     ensures { λ r. ⌜ (r .len ≤ m) × (length (now (y .exit)) ≡ length (now (y .entry))) × (length (now (q .exit)) ≡ length (now (q .entry)))
         × (now (rows .exit)
         ≡ turnedOf (now (rows .entry)) (now (former .entry)) partitions (now (mates .entry)) all z (walkIn m (now (y .entry)) (now (q .entry))))
         × Same (freedOf (now (rows .entry)) (now (former .entry)) partitions (now (mates .entry)) all z (walkIn m (now (y .entry)) (now (q .entry))))
         (walkIn (r .len) (now (y .exit)) (now (q .exit)))
-        × ChangedIn (r .changed) (now (rows .entry)) (now (rows .exit)) ⌝ }
+        × ChangedIn (r .changed) (now (rows .entry)) (now (rows .exit)) × Held (now (rows .exit)) partitions (now (held .exit)) ⌝ }
 {
     let n = free(y, q, m, rows, former, partitions, mates, all, z);
-    let changed = make(rows, partitions, y, q, n);
+    let changed = make(rows, held, partitions, y, q, n);
     Turned { len: n, changed }
 }

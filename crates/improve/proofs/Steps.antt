@@ -34,6 +34,20 @@ use Rattle.improve.specs.ModelImprove.{State, begun, arcsIn, cycleIn, fo
 -- ---- the walk to turn next
 
 module _ (former : List ℕ) (P : ℕ) (mates caps : List ℕ) (n z : ℕ) (rows : List ℕ) where
+  -- The cycle that is found in the graph, as a walk.
+  pub found-walk : (all : ℕ) → all ≡ belowOf n → (u : Walk) (arcs nodes : List ℕ) (m : ℕ) → arcs ≡ arcsOf rows former P mates caps all z (replicate arcCells 0)
+      → m ≡ foundLength arcs n (replicate walkCells 0) → nodes ≡ foundWalk arcs n (replicate walkCells 0)
+      → Same (cycleOf rows former P mates arcs all z nodes m) u → Same (foundIn former P mates caps n z rows) u
+  unfolding foundIn cycleIn arcsIn
+  found-walk all e-all u arcs nodes m e-arcs e-m e-nodes s =
+      subst (λ (v : Walk). Same v u)
+      ((λ i. cycleOf rows former P mates arcs all z (e-nodes i) (e-m i))
+      ∙ (λ i. cycleOf rows former P mates (the-arcs i) (e-all i) z (foundWalk (the-arcs i) n (replicate walkCells 0)) (foundLength (the-arcs i) n (replicate walkCells 0))))
+      s
+    where
+      the-arcs : arcs ≡ arcsOf rows former P mates caps (belowOf n) z (replicate arcCells 0)
+      the-arcs = e-arcs ∙ ap (λ (x : ℕ). arcsOf rows former P mates caps x z (replicate arcCells 0)) e-all
+
   module _ (all : ℕ) (e-all : all ≡ belowOf n) (w u : Walk) (b : Bool) (e : b ≡ stands rows former P mates all z caps w) where
     -- Whether the last walk stands.
     the-test : stands rows former P mates (belowOf n) z caps w ≡ b
@@ -45,19 +59,9 @@ module _ (former : List ℕ) (P : ℕ) (mates caps : List ℕ) (n z : ℕ) (rows
     sought-again y s = rw (the-test ∙ y) (subst (λ (x : ℕ). Same (renewed rows former P mates x z w) u) e-all s)
 
     -- Else the cycle that is found in the graph is.
-    pub sought-found : b ≡ false → (arcs nodes : List ℕ) (m : ℕ) → arcs ≡ arcsOf rows former P mates caps all z (replicate arcCells 0)
-        → m ≡ foundLength arcs n (replicate walkCells 0) → nodes ≡ foundWalk arcs n (replicate walkCells 0)
-        → Same (cycleOf rows former P mates arcs all z nodes m) u → Same (soughtIn former P mates caps n z rows w) u
-    unfolding soughtIn foundIn cycleIn arcsIn
-    sought-found y arcs nodes m e-arcs e-m e-nodes s =
-        rw (the-test ∙ y)
-        (subst (λ (v : Walk). Same v u)
-        ((λ i. cycleOf rows former P mates arcs all z (e-nodes i) (e-m i))
-        ∙ (λ i. cycleOf rows former P mates (the-arcs i) (e-all i) z (foundWalk (the-arcs i) n (replicate walkCells 0)) (foundLength (the-arcs i) n (replicate walkCells 0))))
-        s)
-      where
-        the-arcs : arcs ≡ arcsOf rows former P mates caps (belowOf n) z (replicate arcCells 0)
-        the-arcs = e-arcs ∙ ap (λ (x : ℕ). arcsOf rows former P mates caps x z (replicate arcCells 0)) e-all
+    pub sought-found : b ≡ false → Same (foundIn former P mates caps n z rows) u → Same (soughtIn former P mates caps n z rows w) u
+    unfolding soughtIn
+    sought-found y s = rw (the-test ∙ y) s
 
   -- It goes by the entries of the last walk up to its length.
   sought-same : {w u : Walk} → Same w u → Same (soughtIn former P mates caps n z rows w) (soughtIn former P mates caps n z rows u)

@@ -8,9 +8,10 @@ ghost use Rattle.cluster.specs.Terms.{mostNodes, bufferRows};
 ghost use Rattle.cycles.specs.ModelGraph.{walkCells};
 ghost use Rattle.exchange.specs.ModelUncross.{Same};
 ghost use Rattle.sets.specs.ModelBits.{belowOf};
+ghost use Rattle.holders.specs.ModelHolders.{Held};
 ghost use Rattle.walks.specs.ModelWalks.{walkIn};
 ghost use Rattle.graph.specs.ModelKept.{keptCells, Kept};
-ghost use Rattle.improve.specs.ModelImprove.{soughtIn, steppedIn, ranIn, sharedIn};
+ghost use Rattle.improve.specs.ModelImprove.{foundIn, soughtIn, steppedIn, ranIn, sharedIn};
 use cluster::Cluster;
 
 mod sum;
@@ -27,33 +28,31 @@ struct Left {
     stale: u32,
 }
 
-// The walk to turn next into y and q, which hold the one that was turned last; it has no arcs where there is none. `kept` holds what the blocks of rows
-// allow that are not stale, before and after.
-fn seek(
+// The walk of a cycle of the exchange graph into y and q. Its length is answered, 0 where there is none. `kept` holds what the blocks of rows allow that
+// are not stale, and then what all allow.
+fn search(
     y: &mut [u32],
     q: &mut [u32],
-    last: Left,
     rows: &[u32],
+    held: &[u32],
     former: &[u32],
+    had: &[u32],
     partitions: usize,
     mates: &[u32],
     caps: &[u32],
     nodes: u32,
     z: u32,
+    stale: u32,
     kept: &mut [u32],
-) -> Left
-    requires { ⌜ (last .len ≤ mostNodes) × (walkCells ≤ length (now y)) × (walkCells ≤ length (now q)) × (partitions ≤ bufferRows)
-        × Kept (now rows) (now former) partitions (now mates) (belowOf nodes) z (last .stale) (now kept) ⌝ }
-    ensures { λ r. ⌜ (r .len ≤ mostNodes) × (length (now (y .exit)) ≡ length (now (y .entry))) × (length (now (q .exit)) ≡ length (now (q .entry)))
-        × Same (soughtIn (now (former .entry)) partitions (now (mates .entry)) (now (caps .entry)) nodes z (now (rows .entry)) (walkIn (last .len) (now (y .entry)) (now (q .entry))))
-        (walkIn (r .len) (now (y .exit)) (now (q .exit)))
-        × Kept (now (rows .entry)) (now (former .entry)) partitions (now (mates .entry)) (belowOf nodes) z (r .stale) (now (kept .exit)) ⌝ }
+) -> usize
+    requires { ⌜ (walkCells ≤ length (now y)) × (walkCells ≤ length (now q)) × (partitions ≤ bufferRows)
+        × Kept (now rows) (now former) partitions (now mates) (belowOf nodes) z stale (now kept)
+        × Held (now rows) partitions (now held) × Held (now former) partitions (now had) ⌝ }
+    ensures { λ r. ⌜ (r ≤ mostNodes) × (length (now (y .exit)) ≡ length (now (y .entry))) × (length (now (q .exit)) ≡ length (now (q .entry)))
+        × Same (foundIn (now (former .entry)) partitions (now (mates .entry)) (now (caps .entry)) nodes z (now (rows .entry))) (walkIn r (now (y .exit)) (now (q .exit)))
+        × Kept (now (rows .entry)) (now (former .entry)) partitions (now (mates .entry)) (belowOf nodes) z 0 (now (kept .exit)) ⌝ }
 {
     let all = sets::below(nodes);
-    let len = last.len;
-    if circuits::renew(y, q, len, rows, former, partitions, mates, caps, all, z) {
-        return last;
-    }
     let mut arcs = [0u32; cycles::ARCS];
     graph::build(
         rows,
@@ -63,7 +62,7 @@ fn seek(
         caps,
         all,
         z,
-        last.stale,
+        stale,
         kept,
         &mut arcs,
     );
@@ -75,14 +74,78 @@ fn seek(
         &walk,
         m,
         rows,
+        held,
         former,
+        had,
         partitions,
         mates,
         &arcs,
         all,
         z,
     );
-    Left { len: m, stale: 0 }
+    m
+}
+
+// The walk to turn next into y and q, which hold the one that was turned last; it has no arcs where there is none. `kept` holds what the blocks of rows
+// allow that are not stale, before and after.
+fn seek(
+    y: &mut [u32],
+    q: &mut [u32],
+    last: Left,
+    rows: &[u32],
+    held: &[u32],
+    former: &[u32],
+    had: &[u32],
+    partitions: usize,
+    mates: &[u32],
+    caps: &[u32],
+    nodes: u32,
+    z: u32,
+    kept: &mut [u32],
+) -> Left
+    requires { ⌜ (last .len ≤ mostNodes) × (walkCells ≤ length (now y)) × (walkCells ≤ length (now q)) × (partitions ≤ bufferRows)
+        × Kept (now rows) (now former) partitions (now mates) (belowOf nodes) z (last .stale) (now kept)
+        × Held (now rows) partitions (now held) × Held (now former) partitions (now had) ⌝ }
+    ensures { λ r. ⌜ (r .len ≤ mostNodes) × (length (now (y .exit)) ≡ length (now (y .entry))) × (length (now (q .exit)) ≡ length (now (q .entry)))
+        × Same (soughtIn (now (former .entry)) partitions (now (mates .entry)) (now (caps .entry)) nodes z (now (rows .entry)) (walkIn (last .len) (now (y .entry)) (now (q .entry))))
+        (walkIn (r .len) (now (y .exit)) (now (q .exit)))
+        × Kept (now (rows .entry)) (now (former .entry)) partitions (now (mates .entry)) (belowOf nodes) z (r .stale) (now (kept .exit)) ⌝ }
+{
+    let all = sets::below(nodes);
+    let len = last.len;
+    if circuits::renew(
+        y,
+        q,
+        len,
+        rows,
+        held,
+        former,
+        had,
+        partitions,
+        mates,
+        caps,
+        all,
+        z,
+    ) {
+        return last;
+    }
+    let stale = last.stale;
+    let len = search(
+        y,
+        q,
+        rows,
+        held,
+        former,
+        had,
+        partitions,
+        mates,
+        caps,
+        nodes,
+        z,
+        stale,
+        kept,
+    );
+    Left { len, stale: 0 }
 }
 
 // The walk to turn next; where it is allowed, it is turned, and what is left of it stays in y and q.
@@ -91,7 +154,9 @@ fn step(
     q: &mut [u32],
     last: Left,
     rows: &mut [u32],
+    held: &mut [u32],
     former: &[u32],
+    had: &[u32],
     partitions: usize,
     mates: &[u32],
     caps: &[u32],
@@ -101,20 +166,24 @@ fn step(
     kept: &mut [u32],
 ) -> Left
     requires { ⌜ (last .len ≤ mostNodes) × (walkCells ≤ length (now y)) × (walkCells ≤ length (now q)) × (partitions ≤ bufferRows) × (partitions ≤ length (now rows))
-        × Kept (now rows) (now former) partitions (now mates) (belowOf nodes) z (last .stale) (now kept) ⌝ }
+        × Kept (now rows) (now former) partitions (now mates) (belowOf nodes) z (last .stale) (now kept)
+        × Held (now rows) partitions (now held) × Held (now former) partitions (now had) ⌝ }
     ensures { λ r. ⌜ (r .len ≤ mostNodes) × (length (now (y .exit)) ≡ length (now (y .entry))) × (length (now (q .exit)) ≡ length (now (q .entry)))
         × (now (rows .exit)
         ≡ steppedIn (now (former .entry)) partitions (now (mates .entry)) (now (caps .entry)) nodes z allowed (now (rows .entry)) (walkIn (last .len) (now (y .entry)) (now (q .entry))) .rows)
         × Same (steppedIn (now (former .entry)) partitions (now (mates .entry)) (now (caps .entry)) nodes z allowed (now (rows .entry)) (walkIn (last .len) (now (y .entry)) (now (q .entry))) .last)
         (walkIn (r .len) (now (y .exit)) (now (q .exit)))
-        × Kept (now (rows .exit)) (now (former .entry)) partitions (now (mates .entry)) (belowOf nodes) z (r .stale) (now (kept .exit)) ⌝ }
+        × Kept (now (rows .exit)) (now (former .entry)) partitions (now (mates .entry)) (belowOf nodes) z (r .stale) (now (kept .exit))
+        × Held (now (rows .exit)) partitions (now (held .exit)) ⌝ }
 {
     let next = seek(
         y,
         q,
         last,
         rows,
+        held,
         former,
+        had,
         partitions,
         mates,
         caps,
@@ -126,7 +195,18 @@ fn step(
         return next;
     }
     let all = sets::below(nodes);
-    let turned = circuits::turn(y, q, next.len, rows, former, partitions, mates, all, z);
+    let turned = circuits::turn(
+        y,
+        q,
+        next.len,
+        rows,
+        held,
+        former,
+        partitions,
+        mates,
+        all,
+        z,
+    );
     let len = turned.len;
     let stale = sets::union(next.stale, turned.changed);
     Left { len, stale }
@@ -147,7 +227,9 @@ fn go(
     y: &mut [u32],
     q: &mut [u32],
     rows: &mut [u32],
+    held: &mut [u32],
     former: &[u32],
+    had: &[u32],
     partitions: usize,
     mates: &[u32],
     caps: &[u32],
@@ -157,7 +239,7 @@ fn go(
     kept: &mut [u32],
 ) -> Ended
     requires { ⌜ (partitions ≤ bufferRows) × (partitions ≤ length (now rows)) × (now y ≡ replicate walkCells 0) × (now q ≡ replicate walkCells 0)
-        × (length (now kept) ≡ keptCells) ⌝ }
+        × (length (now kept) ≡ keptCells) × Held (now rows) partitions (now held) × Held (now former) partitions (now had) ⌝ }
     ensures { λ r. ⌜ (now (rows .exit)
         ≡ ranIn (now (former .entry)) partitions (now (mates .entry)) (now (caps .entry)) nodes z allowance (now (rows .entry)) .state .rows)
         × (r .finished
@@ -174,7 +256,9 @@ fn go(
             q,
             last,
             rows,
+            held,
             former,
+            had,
             partitions,
             mates,
             caps,
@@ -193,7 +277,9 @@ fn go(
         q,
         last,
         rows,
+        held,
         former,
+        had,
         partitions,
         mates,
         caps,
@@ -227,11 +313,17 @@ pub fn run(
     let mut y = [0u32; cycles::WALK];
     let mut q = [0u32; cycles::WALK];
     let mut kept = [0u32; graph::KEPT];
+    let mut held = [0u32; holders::CELLS];
+    holders::fill(rows, partitions, &mut held);
+    let mut had = [0u32; holders::CELLS];
+    holders::fill(former, partitions, &mut had);
     go(
         &mut y,
         &mut q,
         rows,
+        &mut held,
         former,
+        &had,
         partitions,
         mates,
         caps,

@@ -16,18 +16,13 @@ use Rattle.swaps.specs.ModelSwaps.{targetsOf}
 use Rattle.exchange.specs.ModelCircuit.{cost}
 use Rattle.exchange.specs.ModelUncross.{Walk, crosses, wrap, inner, walk-costs}
 use Rattle.exchange.proofs.Uncross.{wrap-low, wrap-end}
-use Rattle.walks.specs.ModelWalks.{okOf, suitsOf, suitsAt, walkIn, innerGains}
+use Rattle.walks.specs.ModelWalks.{okOf, walkIn, innerGains}
 
 -- ---- tests, as the code runs them on cells that it read
 
 -- A test for a member of a cell.
 pub member-at : (cells : List ℕ) (i v x : ℕ) (r b : Bool) → r ≡ memberOf x v → x ≡ getD cells i 0 → r ≡ b → memberOf (getD cells i 0) v ≡ b
 member-at cells i v x r b e f g = ap (λ (y : ℕ). memberOf y v) (sym f) ∙ (sym e ∙ g)
-
--- The test of a partition.
-pub suits-at : (rows former mates : List ℕ) (all z w u v p x y : ℕ) (r : Bool) → r ≡ suitsOf mates all z x y w u v → x ≡ getD rows p 0 → y ≡ getD former p 0
-    → r ≡ suitsAt rows former mates all z w u v p
-suits-at rows former mates all z w u v p x y r o e f = o ∙ ap₂ (λ (m n : ℕ). suitsOf mates all z m n w u v) e f
 
 -- The test for an exchange.
 pub ok-at : (rows mates : List ℕ) (all z p a b x to : ℕ) (r : Bool) → r ≡ memberOf to b → to ≡ targetsOf mates all z x a → x ≡ getD rows p 0

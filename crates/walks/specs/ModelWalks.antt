@@ -1,13 +1,14 @@
 -- What is read off a walk, over sets of nodes as masks and slices as lists: the test for an exchange, the witness of an arc, the same arcs again in
 -- other rows, and whether a part of a walk gains.
 -- Assumes nothing.
-use Prim.Native.Nat.{ℕ, suc, _+_, _-_}
+use Prim.Native.Nat.{ℕ, suc, _+_, _-_, _<_}
+use mathlib.Core.Path.{_≡_}
 use mathlib.Core.Bool.{Bool, _&&_, not, cond}
 use mathlib.Core.List.{List}
 use lib.ListN.{getD}
 use lib.Dec.{eqb, ltb}
 use Rattle.sums.specs.TermsSums.{everyTo}
-use Rattle.sets.specs.ModelBits.{bit, bitsAt, memberOf}
+use Rattle.sets.specs.ModelBits.{maskBits, bit, bitsAt, memberOf}
 use Rattle.swaps.specs.ModelSwaps.{targetsOf}
 use Rattle.cycles.specs.ModelGraph.{weightOf}
 use Rattle.sums.specs.ModelSums.{firstFrom}
@@ -18,6 +19,18 @@ use Rattle.exchange.specs.ModelUncross.{Walk, walk, inner, walk-costs}
 -- Whether node a of row p may give way to node b.
 unfoldable pub okOf : List ℕ → List ℕ → ℕ → ℕ → ℕ → ℕ → ℕ → Bool
 okOf rows mates all z p a b = memberOf (targetsOf mates all z (getD rows p 0) a) b
+
+-- Whether the number j of a word is in `own` and not in `other`, and that exchange has the weight w, where the two had `owned` and `othered`.
+unfoldable pub picked : ℕ → ℕ → ℕ → ℕ → ℕ → ℕ → Bool
+picked own other owned othered w j = memberOf own j && not (memberOf other j) && eqb (1 + bit owned j) (w + bit othered j)
+
+-- The set r of those numbers.
+abbrev pub Picks : ℕ → ℕ → ℕ → ℕ → ℕ → ℕ → Type 0
+Picks own other owned othered w r = (j : ℕ) → j < maskBits → memberOf r j ≡ picked own other owned othered w j
+
+-- The first of the numbers of a word, which begins at partition `base`, in whose row u may give way to v; the width where there is none.
+unfoldable pub siftedOf : List ℕ → List ℕ → ℕ → ℕ → ℕ → ℕ → ℕ → ℕ → ℕ
+siftedOf rows mates all z u v base word = firstFrom (λ j. memberOf word j && okOf rows mates all z (base + j) u v) maskBits 0
 
 -- Whether the exchange of u for v is one of the row, at the weight w, where the partition had the row old.
 unfoldable pub suitsOf : List ℕ → ℕ → ℕ → ℕ → ℕ → ℕ → ℕ → ℕ → Bool

@@ -1,16 +1,21 @@
 // What is read off a closed walk of the exchange graph: the partition in which an arc is an exchange, the next one in which it is the same exchange
-// again, the first pair of arcs that can be crossed, and whether the part between two arcs gains. A row is a set of nodes; a walk is two slices, its nodes and the partitions of its arcs. Every
-// public function is total: a cell past a slice's end counts as 0, and the arcs are numbered by u32, so that the next one is always an index.
+// again, the first pair of arcs that can be crossed, and whether the part between two arcs gains. A row is a set of nodes; a walk is two slices, its nodes
+// and the partitions of its arcs. Partitions are looked for in the sets of those that each node holds (`held`) and held in the former rows (`had`). A cell
+// past a slice's end counts as 0, and the arcs are numbered by u32, so that the next one is always an index.
 ghost use mathlib.Core.Path.{_≡_};
 ghost use Prim.Native.Nat.{_+_, _-_, _≤_, _<_, _^_};
 ghost use lib.ListN.{getD};
+ghost use Rattle.cluster.specs.Terms.{bufferRows};
 ghost use Rattle.sums.specs.ModelSums.{firstFrom};
-ghost use Rattle.sets.specs.ModelBits.{bit, bitsAt};
+ghost use Rattle.sets.specs.ModelBits.{maskBits, bit, bitsAt};
 ghost use Rattle.exchange.specs.ModelCircuit.{cost};
 ghost use Rattle.exchange.specs.ModelUncross.{crosses, partner, firstCrossed};
 ghost use Rattle.cycles.specs.ModelGraph.{weightOf};
-ghost use Rattle.walks.specs.ModelWalks.{okOf, suitsOf, suitsAt, witnessOf, walkIn, innerGains, roomAt, renewedAt, standsAt};
+ghost use Rattle.holders.specs.ModelHolders.{Held};
+ghost use Rattle.walks.specs.ModelWalks.{Picks, okOf, siftedOf, suitsAt, witnessOf, walkIn, innerGains, roomAt, renewedAt, standsAt};
 use cluster::Cluster;
+use holders::BITS;
+use holders::WORDS;
 
 // Digit i of s.
 fn digit(s: u32, i: u32) -> u32
@@ -32,27 +37,54 @@ fn weight(arcs: &[u32], u: u32, v: u32) -> u32
     2
 }
 
-// Whether the exchange of u for v is one of the row, at the weight w, where the partition had the row old.
-fn suits(mates: &[u32], all: u32, z: u32, row: u32, old: u32, w: u32, u: u32, v: u32) -> bool
+// The partitions of a word that are in `own` and not in `other`, and of these the ones where that exchange has the weight w.
+fn candidates(own: u32, other: u32, owned: u32, othered: u32, w: u32) -> u32
     requires { ⌜ w ≤ 2 ⌝ }
-    ensures { λ r. ⌜ r ≡ suitsOf (now (mates .entry)) all z row old w u v ⌝ }
+    ensures { λ r. ⌜ Picks own other owned othered w r ⌝ }
 {
-    if !sets::member(row, u) {
-        return false;
+    let here = sets::difference(own, other);
+    let lost = sets::difference(owned, othered);
+    let won = sets::difference(othered, owned);
+    if w == 0 {
+        return sets::meet(here, won);
     }
-    if sets::member(row, v) {
-        return false;
+    if w == 1 {
+        return sets::difference(here, sets::union(lost, won));
     }
-    if 1 + digit(old, u) != w + digit(old, v) {
-        return false;
-    }
-    sets::member(swaps::targets(mates, all, z, row, u), v)
+    sets::meet(here, lost)
 }
 
-// The first partition from `start` on with the exchange of u for v at the weight w.
+// The first of the partitions of a word, which begins at `base`, in whose row u may give way to v; WIDTH where there is none.
+fn sift(
+    rows: &[u32],
+    mates: &[u32],
+    all: u32,
+    z: u32,
+    u: u32,
+    v: u32,
+    base: usize,
+    word: u32,
+) -> u32
+    requires { ⌜ base < bufferRows ⌝ }
+    ensures { λ r. ⌜ (r ≡ siftedOf (now (rows .entry)) (now (mates .entry)) all z u v base word) × (r ≤ maskBits) ⌝ }
+{
+    let mut left = word;
+    while left != 0 {
+        let j = sets::least(left);
+        if allows(rows, mates, all, z, base + j as usize, u, v) {
+            return j;
+        }
+        left = sets::without(left, j);
+    }
+    sets::WIDTH
+}
+
+// The first partition from `start` on with the exchange of u for v at the weight w. A node past the last is in no row.
 fn first(
     rows: &[u32],
+    held: &[u32],
     former: &[u32],
+    had: &[u32],
     partitions: usize,
     mates: &[u32],
     all: u32,
@@ -62,25 +94,37 @@ fn first(
     v: u32,
     start: usize,
 ) -> usize
-    requires { ⌜ (w ≤ 2) × (start ≤ partitions) ⌝ }
+    requires { ⌜ (w ≤ 2) × (start ≤ partitions) × (partitions ≤ bufferRows) × Held (now rows) partitions (now held) × Held (now former) partitions (now had) ⌝ }
     ensures { λ r. ⌜ (r ≡ firstFrom (suitsAt (now (rows .entry)) (now (former .entry)) (now (mates .entry)) all z w u v) (partitions - start) start) × (r ≤ partitions) ⌝ }
 {
+    if Cluster::NODES <= u as usize {
+        return partitions;
+    }
+    if Cluster::NODES <= v as usize {
+        return partitions;
+    }
     let mut p = start;
     while p < partitions {
-        let row = swaps::cell(rows, p);
-        let old = swaps::cell(former, p);
-        if suits(mates, all, z, row, old, w, u, v) {
-            return p;
+        let k = p / BITS;
+        let i = WORDS * u as usize + k;
+        let j = WORDS * v as usize + k;
+        let word = candidates(held[i], held[j], had[i], had[j], w);
+        let left = sets::difference(word, sets::below((p % BITS) as u32));
+        let found = sift(rows, mates, all, z, u, v, BITS * k, left);
+        if found < sets::WIDTH {
+            return BITS * k + found as usize;
         }
-        p += 1;
+        p = BITS * k + BITS;
     }
-    p
+    partitions
 }
 
 // The first partition with the exchange of u for v at the arc's weight.
 pub fn witness(
     rows: &[u32],
+    held: &[u32],
     former: &[u32],
+    had: &[u32],
     partitions: usize,
     mates: &[u32],
     arcs: &[u32],
@@ -89,10 +133,24 @@ pub fn witness(
     u: u32,
     v: u32,
 ) -> usize
+    requires { ⌜ (partitions ≤ bufferRows) × Held (now rows) partitions (now held) × Held (now former) partitions (now had) ⌝ }
     ensures { λ r. ⌜ (r ≡ witnessOf (now (rows .entry)) (now (former .entry)) partitions (now (mates .entry)) (now (arcs .entry)) all z u v) × (r ≤ partitions) ⌝ }
 {
     let w = weight(arcs, u, v);
-    first(rows, former, partitions, mates, all, z, w, u, v, 0)
+    first(
+        rows,
+        held,
+        former,
+        had,
+        partitions,
+        mates,
+        all,
+        z,
+        w,
+        u,
+        v,
+        0,
+    )
 }
 
 // Whether node a of the row of partition p may give way to node b.
@@ -223,17 +281,16 @@ pub fn gains(y: &[u32], q: &[u32], i: u32, j: u32, former: &[u32], partitions: u
     sum < (j - i) as usize
 }
 
-// Whether node u has fewer copies in the rows than its cap.
-fn room(rows: &[u32], partitions: usize, caps: &[u32], u: u32) -> bool
+// Whether node u has fewer copies in the rows than its cap. A node past the last has none.
+fn room(rows: &[u32], held: &[u32], partitions: usize, caps: &[u32], u: u32) -> bool
+    requires { ⌜ (partitions ≤ bufferRows) × Held (now rows) partitions (now held) ⌝ }
     ensures { λ r. ⌜ r ≡ roomAt (now (rows .entry)) partitions (now (caps .entry)) u ⌝ }
 {
-    let mut copies = 0usize;
-    let mut p = 0;
-    while p < partitions {
-        copies += digit(swaps::cell(rows, p), u) as usize;
-        p += 1;
+    let cap = swaps::cell(caps, u as usize);
+    if Cluster::NODES <= u as usize {
+        return 0 < cap;
     }
-    copies < swaps::cell(caps, u as usize) as usize
+    holders::count(rows, partitions, held, u) < cap
 }
 
 // An arc in other rows: whether it stands in them, and at which partition.
@@ -246,7 +303,9 @@ pub struct Arc {
 // store stands where u has room.
 pub fn renewed(
     rows: &[u32],
+    held: &[u32],
     former: &[u32],
+    had: &[u32],
     partitions: usize,
     mates: &[u32],
     caps: &[u32],
@@ -256,6 +315,7 @@ pub fn renewed(
     u: u32,
     v: u32,
 ) -> Arc
+    requires { ⌜ (partitions ≤ bufferRows) × Held (now rows) partitions (now held) × Held (now former) partitions (now had) ⌝ }
     ensures { λ r. ⌜ (r .stands ≡ standsAt (now (rows .entry)) (now (former .entry)) partitions (now (mates .entry)) all z (now (caps .entry)) q u v)
         × (r .partition ≡ renewedAt (now (rows .entry)) (now (former .entry)) partitions (now (mates .entry)) all z q u v)
         × (r .partition ≤ partitions) ⌝ }
@@ -263,12 +323,25 @@ pub fn renewed(
     let start = q as usize;
     if partitions <= start {
         return Arc {
-            stands: room(rows, partitions, caps, u),
+            stands: room(rows, held, partitions, caps, u),
             partition: partitions,
         };
     }
     let w = arc_cost(former, partitions, q, u, v) as u32;
-    let p = first(rows, former, partitions, mates, all, z, w, u, v, start);
+    let p = first(
+        rows,
+        held,
+        former,
+        had,
+        partitions,
+        mates,
+        all,
+        z,
+        w,
+        u,
+        v,
+        start,
+    );
     Arc {
         stands: p < partitions,
         partition: p,

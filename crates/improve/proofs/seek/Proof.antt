@@ -1,13 +1,8 @@
 -- `improve::seek` meets its contract. Assumes nothing.
-use Prim.Native.Nat.{ℕ, _≤_, _<_}
-use mathlib.Core.Path.{sym, subst}
-use borrow.Author.Needs.{needs}
 use native.Mathlib.Omega.{arith}
-use lib.ListN.{length}
-use Rattle.cluster.specs.Terms.{mostNodes}
-use Rattle.graph.specs.ModelKept.{Kept}
 use Rattle.walks.specs.ModelWalks.{walkIn}
-use Rattle.improve.proofs.Steps.{sought-again, sought-found, found-few}
+use Rattle.improve.proofs.Steps.{sought-again, sought-found}
+use borrow.Author.Needs.{needs}
 use Rattle.improve.proofs.seek.Statement.{statement}
 use Rattle.improve.proofs.seek.Tie as tie
 
@@ -15,7 +10,7 @@ below-requires : tie.Need-below-requires
 below-requires c κs = search needs
 
 renew-requires : tie.Need-renew-requires
-renew-requires c κs = search needs
+renew-requires c κs = let p = c .before .before .before .before .before .before .before .before .before .before .before .before .pre in (omega (arith, p .0, p .1), omega (arith, p .0, p .2), p .3, p .5, p .6)
 
 same-length : tie.Need-same-length
 same-length c = search needs
@@ -26,7 +21,7 @@ same-length-2 c = search needs
 returns : tie.Need-returns
 returns c = let r = c .before .before .before .renew in
     let b = c .before .before .before .before .before .before .below in
-    let s = c .before .before .before .before .before .before .before .before .before .before .before .before .before .before in
+    let s = c .before .before .before .before .before .before .before .before .before .before .before .before .before .before .before .before in
     let a = s .args in (
       omega arith,
       search needs,
@@ -36,40 +31,8 @@ returns c = let r = c .before .before .before .renew in
       s .pre .4,
     )
 
-slice-aggregate-build : tie.Need-slice-aggregate-build
-slice-aggregate-build c = search needs
-
-build-requires : tie.Need-build-requires
-build-requires c κs = let s = c .before .before .before .before .before .before .before .before .before .before .before .before .before .before .before .before in
-    let a = s .args in
-    (s .pre .3, subst (λ (x : ℕ). Kept (a .rows .now) (a .former .now) (a .partitions) (a .mates .now) x (a .z) (a .last .stale) (a .kept .now)) (sym (c .before .before .before .before .before .before .before .before .below .ensures)) (s .pre .4))
-
-slice-aggregate-find : tie.Need-slice-aggregate-find
-slice-aggregate-find c = search needs
-
-slice-aggregate-find-2 : tie.Need-slice-aggregate-find-2
-slice-aggregate-find-2 c = search needs
-
-find-requires : tie.Need-find-requires
-find-requires c κs = search needs
-
-cast-m : tie.Need-cast-m
-cast-m c = search needs
-
-slice-aggregate-load : tie.Need-slice-aggregate-load
-slice-aggregate-load c = search needs
-
-slice-aggregate-load-2 : tie.Need-slice-aggregate-load-2
-slice-aggregate-load-2 c = search needs
-
-load-requires : tie.Need-load-requires
-load-requires c κs = let f = c .before .before .before .before .before .find in
-    let r = c .before .before .before .before .before .before .before .before .before .before .before .before .before .before .before .before .before .renew in
-    let s = c .before .before .before .before .before .before .before .before .before .before .before .before .before .before .before .before .before .before .before .before .before .before .before .before .before .before .before .before in
-    let few : f .result ≤ mostNodes = found-few _ _ _ (f .result) (f .ensures .0) in
-    let nodes-fit : f .result < length (s .args .y .now) = omega (arith, few, s .pre .1) in
-    let partitions-fit : f .result ≤ length (r .last .1 .0) = omega (arith, few, s .pre .2, r .ensures .0) in
-    (nodes-fit, partitions-fit, search needs, s .pre .3)
+search-requires : tie.Need-search-requires
+search-requires c κs = let p = c .before .before .before .before .before .before .before .before .before .before .before .before .before .before .before .before .before .before .before .pre in (p .1, omega (arith, p .2, c .before .before .before .before .before .before .renew .ensures .0), p .3, p .4, p .5, p .6)
 
 same-length-3 : tie.Need-same-length-3
 same-length-3 c = search needs
@@ -81,18 +44,15 @@ same-length-5 : tie.Need-same-length-5
 same-length-5 c = search needs
 
 returns-2 : tie.Need-returns-2
-returns-2 c = let l = c .before .before .before .before .load in
-    let f = c .before .before .before .before .before .before .before .before .before .before .find in
-    let g = c .before .before .before .before .before .before .before .before .before .before .before .before .before .before .before .before .build in
-    let r = c .before .before .before .before .before .before .before .before .before .before .before .before .before .before .before .before .before .before .before .before .before .before .renew in
-    let b = c .before .before .before .before .before .before .before .before .before .before .before .before .before .before .before .before .before .before .before .before .before .before .before .before .before .below in
-    let a = c .before .before .before .before .before .before .before .before .before .before .before .before .before .before .before .before .before .before .before .before .before .before .before .before .before .before .before .before .before .before .before .before .before .args in (
-      found-few _ _ _ (f .result) (f .ensures .0),
+returns-2 c = let l = c .before .before .before .before .before .before .search in
+    let r = c .before .before .before .before .before .before .before .before .before .before .before .before .before .renew in
+    let b = c .before .before .before .before .before .before .before .before .before .before .before .before .before .before .before .before .below in
+    let a = c .before .before .before .before .before .before .before .before .before .before .before .before .before .before .before .before .before .before .before .before .before .before .before .before .before .before .args in (
+      l .ensures .0,
       search needs,
       search needs,
-      sought-found (a .former .now) (a .partitions) (a .mates .now) (a .caps .now) (a .nodes) (a .z) (a .rows .now) (b .result) (b .ensures) (walkIn (a .last .len) (a .y .now) (a .q .now)) (walkIn (f .result) (l .last .0) (l .last .1 .0)) (r .result) (r .ensures .1)
-          (c .before .before .before .before .before .before .before .before .before .before .before .before .before .before .before .before .before .before .before .if1 .left) _ _ (f .result) (g .ensures .0) (f .ensures .0) (f .ensures .1) (l .ensures .2),
-      subst (λ (x : ℕ). Kept (a .rows .now) (a .former .now) (a .partitions) (a .mates .now) x (a .z) 0 (g .last .1 .1 .1 .1 .1 .1 .1 .1 .0)) (b .ensures) (g .ensures .1),
+      sought-found (a .former .now) (a .partitions) (a .mates .now) (a .caps .now) (a .nodes) (a .z) (a .rows .now) (b .result) (b .ensures) (walkIn (a .last .len) (a .y .now) (a .q .now)) (walkIn (l .result) (l .last .0) (l .last .1 .0)) (r .result) (r .ensures .1) (c .before .before .before .before .before .before .before .before .before .before .if1 .left) (l .ensures .3),
+      l .ensures .4,
     )
 
 pub seek-spec : {M : Type 1} → statement M
@@ -104,15 +64,7 @@ seek-spec =
     same-length
     same-length-2
     returns
-    slice-aggregate-build
-    build-requires
-    slice-aggregate-find
-    slice-aggregate-find-2
-    find-requires
-    cast-m
-    slice-aggregate-load
-    slice-aggregate-load-2
-    load-requires
+    search-requires
     same-length-3
     same-length-4
     same-length-5

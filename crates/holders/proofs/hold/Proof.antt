@@ -1,0 +1,74 @@
+-- `holders::hold` meets its contract. The nodes of the row that are left no more have taken the partition on. Assumes nothing.
+use Prim.Native.Nat.{ℕ}
+use mathlib.Core.Path.{_≡_, refl, sym, ap, _∙_, subst}
+use native.Mathlib.Omega.{arith}
+use lib.ListN.{length}
+use Rattle.sets.specs.ModelBits.{withoutOf, countOf, leastOf}
+use Rattle.sets.proofs.Scan.{Left, left-all, left-less}
+use Rattle.holders.specs.ModelHolders.{takenOn}
+use Rattle.holders.proofs.Holding.{fewer, length-taken-on, Partly, partly-none, partly-more, partly-all}
+use borrow.Author.Needs.{needs}
+use Rattle.holders.proofs.hold.Statement.{statement}
+use Rattle.holders.proofs.hold.Tie as tie
+
+abbrev Inv-loop : tie.InvT-loop
+Inv-loop held₀ p row left₀ held left = (length held ≡ length held₀) × Left row left × Partly row left p held₀ held
+
+abbrev μ-loop : tie.MeasureT-loop
+μ-loop held₀ p row left₀ held left = countOf left
+
+loop-holds : tie.Need-loop-holds Inv-loop μ-loop
+loop-holds c = let a = c .before .args in (refl, left-all (a .row) (omega arith), partly-none (a .row) (a .p) (a .held .now))
+
+least-requires : tie.Need-least-requires Inv-loop μ-loop
+least-requires c κs = search needs
+
+take-on-requires : tie.Need-take-on-requires Inv-loop μ-loop
+take-on-requires c κs = search needs
+
+without-requires : tie.Need-without-requires Inv-loop μ-loop
+without-requires c κs = search needs
+
+loop-less : tie.Need-loop-less Inv-loop μ-loop
+loop-less c = let t = c .before .before .before in
+    let k = t .before .before .before .before in
+    fewer (k .loop .left) (t .before .before .least .result) (c .without .result) (k .loop .inv .1 .word) (t .before .before .before .loop-test .taken)
+    (t .before .before .least .ensures) (c .without .ensures)
+
+loop-again : tie.Need-loop-again Inv-loop μ-loop
+loop-again c = let t = c .before .before .before in
+    let l = t .before .before in
+    let k = l .before .before in
+    let a = k .before .before .args in
+    let n = l .before .loop-test .taken in
+    let e = c .without .ensures ∙ ap (withoutOf (k .loop .left)) (l .least .ensures) in
+    let h = t .take-on .ensures ∙ ap (takenOn (k .loop .held) (a .p)) (l .least .ensures) in (
+      ap length h ∙ (length-taken-on (k .loop .held) (a .p) (leastOf (k .loop .left)) ∙ k .loop .inv .0),
+      subst (Left (a .row)) (sym e) (left-less (a .row) (k .loop .left) (k .loop .inv .1) n),
+      subst (λ (x : ℕ). Partly (a .row) x (a .p) (a .held .now) (t .take-on .last .0)) (sym e)
+          (subst (Partly (a .row) (withoutOf (k .loop .left) (leastOf (k .loop .left))) (a .p) (a .held .now)) (sym h)
+          (partly-more (a .row) (a .p) (a .held .now) (k .loop .left) (k .loop .held) (omega arith) (omega arith) (k .loop .inv .1) n (k .loop .inv .2))),
+    )
+
+same-length : tie.Need-same-length Inv-loop μ-loop
+same-length c = search needs
+
+returns : tie.Need-returns Inv-loop μ-loop
+returns c = let k = c .before in
+    let a = k .before .before .args in
+    (omega arith, partly-all (a .row) (a .p) (a .held .now) (k .loop .left) (k .loop .held) (omega arith) (k .loop .inv .2))
+
+pub hold-spec : {M : Type 1} → statement M
+hold-spec =
+    tie.close
+    (tie.spec
+    Inv-loop
+    μ-loop
+    loop-holds
+    least-requires
+    take-on-requires
+    without-requires
+    loop-less
+    loop-again
+    same-length
+    returns)
