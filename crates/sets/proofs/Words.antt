@@ -3,17 +3,19 @@
 use Prim.Native.Nat.{ℕ, zero, suc, _-_, _*_, _/_, _%_, _^_, _<_, min, max}
 use mathlib.Core.Path.{_≡_, refl, sym, ap, _∙_}
 use mathlib.Core.Logic.{⊎-elim}
-use native.Mathlib.Nat.{one-mul}
+use mathlib.Core.Bool.{Bool}
+use native.Mathlib.Nat.{one-mul, pow-suc}
 use native.Mathlib.Omega.{arith}
 use lib.Bits.{bitOr, bitAnd, or-lt, and-lt}
 use lib.Count.{ones, trailingZeros, under}
-use lib.Dec.{eqb}
+use lib.Dec.{eqb, eqb·suc-suc}
 use lib.Pow.{pow-pos, pow-lt, pow-mono, ones-lt, ones-sub-lt, shl-exact}
+use Rattle.sums.specs.TermsSums.{one-if}
 use Rattle.sums.specs.ModelSums.{is}
-use Rattle.sums.proofs.Sum.{lt-or-ge, is-le}
+use Rattle.sums.proofs.Sum.{lt-or-ge, is-eq, is-ne, is-le}
 use Rattle.sets.specs.ModelBits.{maskBits, bit, firstTo, memberOf, withOf, withoutOf, unionOf, meetOf, differenceOf, belowOf, countOf, leastOf}
 use Rattle.sets.proofs.Bits.{bit-le, bit-zero, bit-shr, bit-high, bit-ext, bit-or, bit-and, bit-not, bit-pow, ones-bits, mask-unique}
-use Rattle.sets.proofs.Laws.{bit-below, bit-below-not, below-lt}
+use Rattle.sets.proofs.Laws.{without-none, bit-below, bit-below-not, below-lt, least-none}
 
 -- A shift and a remainder tell a member.
 pub word-member : (s i : ℕ) → eqb (s / 2 ^ i % 2) 1 ≡ memberOf s i
@@ -86,3 +88,32 @@ first-bit (suc k) m = ap (under (m % 2)) (first-bit k (m / 2))
 pub word-least : (s : ℕ) → trailingZeros maskBits s ≡ leastOf s
 unfolding leastOf
 word-least s = first-bit maskBits s
+
+-- One less has the same digits above the lowest set one, and not that one.
+less-bit : (k s i : ℕ) → s < 2 ^ k → (s ≡ 0 → ⊥) → min (bit s i) (bit (s - 1) i) ≡ bit s i - is (firstTo k (λ j. bit s j)) i
+unfolding bit firstTo is
+less-bit zero s i h n = absurd (n (omega arith))
+less-bit (suc k) s i h n = go (λ z i. less-bit k (s / 2) i (omega (arith, pow-suc 2 k)) z) (s % 2) refl i
+  where
+    go : ((s / 2 ≡ 0 → ⊥) → (i : ℕ) → min (bit (s / 2) i) (bit (s / 2 - 1) i) ≡ bit (s / 2) i - is (firstTo k (λ j. bit (s / 2) j)) i)
+        → (v : ℕ) → s % 2 ≡ v → (i : ℕ) → min (bit s i) (bit (s - 1) i) ≡ bit s i - is (under v (firstTo k (λ j. bit (s / 2) j))) i
+    go rec zero e zero = omega (arith, e)
+    go rec zero e (suc i) =
+        let l : (s - 1) / 2 ≡ s / 2 - 1 = omega (arith, e, n) in
+        ap (λ (x : ℕ). min (bit (s / 2) i) (bit x i)) l
+        ∙ (rec (λ z. n (omega (arith, e, z))) i ∙ ap (λ (t : Bool). bit (s / 2) i - one-if t) (sym (eqb·suc-suc (firstTo k (λ j. bit (s / 2) j)) i)))
+    go rec (suc v) e zero = omega (arith, e, is-eq {a = 0} {b = 0} refl)
+    go rec (suc v) e (suc i) =
+        let l : (s - 1) / 2 ≡ s / 2 = omega (arith, e) in
+        ap (λ (x : ℕ). min (bit (s / 2) i) (bit x i)) l ∙ omega (arith, is-ne {a = 0} {b = suc i} (λ z. omega (arith, z)))
+
+-- An and with one less takes the least member.
+pub word-rest : (s : ℕ) → s < 2 ^ maskBits → (s ≡ 0 → ⊥) → bitAnd s (s - 1) ≡ withoutOf s (leastOf s)
+unfolding withoutOf leastOf
+word-rest s h n =
+    mask-unique maskBits (bitAnd s (s - 1)) (λ j. bit s j - is (leastOf s) j) (and-lt maskBits s (s - 1) h (omega arith))
+    (λ j l. omega (arith, bit-and s (s - 1) j, less-bit maskBits s j h n, bit-le s j))
+
+-- The empty set has nothing to take.
+pub rest-none : (s : ℕ) → s ≡ 0 → withoutOf s (leastOf s) ≡ 0
+rest-none s e = ap (λ (x : ℕ). withoutOf x (leastOf x)) e ∙ (ap (withoutOf 0) least-none ∙ without-none 0 maskBits (omega arith) (omega arith))

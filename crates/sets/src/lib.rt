@@ -26,6 +26,13 @@ pub fn without(s: u32, i: u32) -> u32
     if i < WIDTH { s & !(1 << i) } else { s }
 }
 
+// The members of s but the least.
+pub fn rest(s: u32) -> u32
+    ensures { λ r. ⌜ r ≡ withoutOf s (leastOf s) ⌝ }
+{
+    if s == 0 { 0 } else { s & (s - 1) }
+}
+
 // The members of s and those of t.
 pub fn union(s: u32, t: u32) -> u32
     ensures { λ r. ⌜ r ≡ unionOf s t ⌝ }
