@@ -18,15 +18,15 @@ pub(crate) fn row_fault(bytes: &[u8], bits: u32, next: usize, start: usize, coun
     if cluster::partitions(bits) <= partition {
         return refusal::RANGE;
     }
+    // Ids that rise have no 0 among them, so those of a row without fault are scanned once.
+    if fields::ids::ids_rise(bytes, start + 2, count) {
+        if partition < next {
+            return refusal::ORDER;
+        }
+        return 0;
+    }
     if fields::ids::has_zero(bytes, start + 2, count) {
         return refusal::RANGE;
     }
-    if partition < next {
-        return refusal::ORDER;
-    }
-    if fields::ids::ids_rise(bytes, start + 2, count) {
-        0
-    } else {
-        refusal::ORDER
-    }
+    refusal::ORDER
 }
