@@ -1,6 +1,6 @@
 -- `cluster_record::row_faults::row_fault` meets its contract: ids that rise have no 0 among them, so of those the order is all that is left.
 -- Assumes nothing.
-use Prim.Native.Nat.{_+_, _^_, _≤_, _<_}
+use Prim.Native.Nat.{_+_, _-_, _/_, _^_, _≤_, _<_}
 use mathlib.Core.Path.{_≡_, sym, _∙_}
 use mathlib.Core.Bool.{true, false, or-true}
 use borrow.Author.Tests.{le-leb, lt-leb, lt-ltb, le-ltb}
@@ -30,6 +30,9 @@ below c =
     let b = c .before .before .before .before in
     omega (arith, c .before .before .pair-at .ensures, c .before .partitions .ensures, partitions-in-range (b .args .bits) (b .pre .0))
 
+sub-count : tie.Need-sub-count
+sub-count c = search needs
+
 pair-at-requires : tie.Need-pair-at-requires
 pair-at-requires c κs = search needs
 
@@ -52,11 +55,11 @@ ids-rise-requires c κs = search needs
 
 -- Where the ids rise none of them is 0.
 rise : (c : tie.Then2) → let a = c .before .before .before .before .before .before .args in
-    (mem 0 (idsAt (a .bytes .now) (a .start + 2) (a .count)) ≡ false) × (rising (idsAt (a .bytes .now) (a .start + 2) (a .count)) ≡ true)
+    (mem 0 (idsAt (a .bytes .now) (a .start + 2) ((a .len - 2) / 4)) ≡ false) × (rising (idsAt (a .bytes .now) (a .start + 2) ((a .len - 2) / 4)) ≡ true)
 rise c =
     let a = c .before .before .before .before .before .before .args in
     let e = sym (c .before .ids-rise .ensures) ∙ c .if2 .taken in
-    (rising-fresh 0 0 (idsAt (a .bytes .now) (a .start + 2) (a .count)) e (omega arith), e)
+    (rising-fresh 0 0 (idsAt (a .bytes .now) (a .start + 2) ((a .len - 2) / 4)) e (omega arith), e)
 
 returns-2 : tie.Need-returns-2
 returns-2 c =
@@ -108,6 +111,7 @@ pub row-fault-spec : {M : Type 1} → statement M
 row-fault-spec =
     tie.close
     (tie.spec
+    sub-count
     pair-at-requires
     cast-partition
     partitions-requires
