@@ -1,6 +1,6 @@
 -- The faults of a field by its tag, over plain numbers.
 -- Assumes nothing.
-use Prim.Native.Nat.{ℕ, _+_, _-_, _/_}
+use Prim.Native.Nat.{ℕ, _+_, _-_, _/_, _^_}
 use mathlib.Core.Path.{_≡_, sym, ap, ap₂, _∙_}
 use mathlib.Core.Bool.{Bool, _||_, not, cond}
 use mathlib.Core.List.{List}
@@ -8,10 +8,16 @@ use native.Mathlib.Omega.{arith}
 use lib.Dec.{ltb, leb, eqb}
 use lib.ListN.{length}
 use borrow.Author.Tests.{le-ltb}
-use Rattle.cluster.specs.Terms.{mostBits, mostCopies, mostNodes, Topology, partitions, idsOf, mem, rising}
+use Rattle.cluster.specs.Terms.{mostBits, mostCopies, mostNodes, Topology, idsOf, mem, rising}
 use Rattle.fields.specs.RecordField.{numberAt, nodeAtByte, idsAt}
 use Rattle.cluster_record.specs.RecordClusterFaults.{itemIn, lastOf, faultIn}
-use Rattle.cluster_record.proofs.Items.{below-one, item-bits, item-replication, item-redundancy, item-node, item-row}
+use Rattle.cluster_record.proofs.Items.{below-one, item-bits, item-replication, item-redundancy, item-node, item-five}
+
+-- What is said of a fault r of a row in a body of len bytes, in a cluster of so many bits.
+abbrev pub RowFault : List ℕ → ℕ → ℕ → ℕ → ℕ → ℕ → Type 0
+RowFault s bits next start len r =
+    r ≡ cond (leb (2 ^ bits) (numberAt s start 2) || mem 0 (idsAt s (start + 2) ((len - 2) / 4))) 4
+    (cond (ltb (numberAt s start 2) next || not (rising (idsAt s (start + 2) ((len - 2) / 4)))) 5 0)
 
 module _ (t : Topology) (next : ℕ) (s : List ℕ) (tag start len : ℕ) where
   pub bits-fault : (v r : ℕ) → tag ≡ 1 → v ≡ numberAt s start 1 → r ≡ cond (ltb v 0 || ltb mostBits v) 4 0 → r ≡ faultIn t next (itemIn s tag start len)
@@ -40,9 +46,6 @@ module _ (t : Topology) (next : ℕ) (s : List ℕ) (tag start len : ℕ) where
       ∙ (ap (λ (x : ℕ). cond (eqb x 0) 4 (cond (leb x (lastOf 0 (idsOf (t .nodes)))) 5 (cond (leb mostNodes (length (t .nodes))) 6 0))) d
       ∙ ap (faultIn t next) (sym (item-node s start len tag e))))
 
-  pub row-fault : (r : ℕ) → (tag ≡ 1 → ⊥) → (tag ≡ 2 → ⊥) → (tag ≡ 3 → ⊥) → (tag ≡ 4 → ⊥)
-      → r ≡ cond (leb (partitions t) (numberAt s start 2) || mem 0 (idsAt s (start + 2) ((len - 2) / 4))) 4
-      (cond (ltb (numberAt s start 2) next || not (rising (idsAt s (start + 2) ((len - 2) / 4)))) 5 0)
-      → r ≡ faultIn t next (itemIn s tag start len)
+  pub row-fault : (r : ℕ) → tag ≡ 5 → RowFault s (t .bits) next start len r → r ≡ faultIn t next (itemIn s tag start len)
   unfolding faultIn
-  row-fault r a b c d f = f ∙ ap (faultIn t next) (sym (item-row s start len tag a b c d))
+  row-fault r e f = f ∙ ap (faultIn t next) (sym (item-five s start len tag e))

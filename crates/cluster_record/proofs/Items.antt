@@ -43,12 +43,6 @@ module _ (s : List ℕ) (start len : ℕ) where
   unfolding itemIn
   item-node tag e = ap (λ (k : ℕ). itemIn s k start len) e
 
-  -- Any other tag is that of a row.
-  pub item-row : (tag : ℕ) → (tag ≡ 1 → ⊥) → (tag ≡ 2 → ⊥) → (tag ≡ 3 → ⊥) → (tag ≡ 4 → ⊥)
-      → itemIn s tag start len ≡ FormerRow (numberAt s start 2) (idsAt s (start + 2) ((len - 2) / 4))
-  unfolding itemIn
-  item-row tag a b c d = simp (ne-eqb tag 1 a, ne-eqb tag 2 b, ne-eqb tag 3 c, ne-eqb tag 4 d)
-
   pub item-five : (tag : ℕ) → tag ≡ 5 → itemIn s tag start len ≡ FormerRow (numberAt s start 2) (idsAt s (start + 2) ((len - 2) / 4))
   unfolding itemIn
   item-five tag e = ap (λ (k : ℕ). itemIn s k start len) e

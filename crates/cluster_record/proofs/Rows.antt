@@ -3,7 +3,7 @@
 use Prim.Native.Nat.{ℕ, zero, suc, _+_, _-_, _*_, _/_, _%_, _≤_, _<_}
 use mathlib.Core.Path.{_≡_, refl, sym, ap, ap₂, _∙_}
 use mathlib.Core.List.{List, [], _∷_, _++_}
-use mathlib.Core.Logic.{_⊎_, ⊎-elim}
+use mathlib.Core.Logic.{⊎-elim}
 use native.Mathlib.Omega.{arith}
 use lib.ListN.{length, getD, replicate, length-append, length-replicate, List·getD-append, List·getD-eq-default}
 use lib.Seq.{getD-append-add, getD-at, ext-getD}
@@ -132,17 +132,17 @@ cells-none =
     (λ c l. getD-cellsOf [] c (omega (arith, length-cellsOf [])) ∙ sym (replicate-at layoutCells c 0))
 
 -- A row that is written into its cells is taken in.
-pub taken-row : (s : List ℕ) (F : Layout) (tag start len p : ℕ) (rows rows′ : List ℕ) → tag ≡ 5 → p ≡ numberAt s start 2 → numberAt s start 2 < bufferRows
+pub taken-row : (s : List ℕ) (F : Layout) (start len p : ℕ) (rows rows′ : List ℕ) → p ≡ numberAt s start 2 → numberAt s start 2 < bufferRows
     → len ≤ rowWidth mostCopies → length F ≤ numberAt s start 2 → rows ≡ cellsOf F
     → rows′ ≡ put (p * rowCells) (λ j. numberAt s (start + 2 + 4 * j) 4) ((len - 2) / 4) rows
-    → (rows′ ≡ cellsOf (formerWith F (itemIn s tag start len))) × (p + 1 ≡ length (formerWith F (itemIn s tag start len)))
+    → (rows′ ≡ cellsOf (formerWith F (itemIn s 5 start len))) × (p + 1 ≡ length (formerWith F (itemIn s 5 start len)))
 unfolding formerWith
-taken-row s F tag start len p rows rows′ e q inside few passed c d =
+taken-row s F start len p rows rows′ q inside few passed c d =
     let n : ℕ = numberAt s start 2 in
     let m : ℕ = (len - 2) / 4 in
     let l : List ℕ = idsAt s (start + 2) m in
     let f : (ℕ → ℕ) = λ j. numberAt s (start + 2 + 4 * j) 4 in
-    let i = sym (item-five s start len tag e) in (
+    let i = sym (item-five s start len 5 refl) in (
       d
           ∙ (ap₂ (λ (k : ℕ) (r : List ℕ). put (k * rowCells) f m r) q c
           ∙ (cells-next F n l passed f m inside (length-ids s (start + 2) m) (omega arith) (λ j h. getD-ids s (start + 2) m j h)

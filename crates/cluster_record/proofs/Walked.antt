@@ -14,10 +14,11 @@ use Rattle.cluster.proofs.CellLayouts.{length-cellsOf}
 use Rattle.fields.specs.RecordField.{numberAt, rowWidth, fieldAt, Whole, nodeAtByte, idsAt}
 use Rattle.fields.specs.declared.Field.the-variants.{Body, Refused}
 use Rattle.fields.proofs.RecordField.{whole, refused-some}
-use Rattle.cluster_record.specs.RecordClusterFaults.{itemIn, Reading, ClusterRead, nothingRead, allowedAfter, withItem, formerWith, readingWith, faultIn, clusterRefused, ended, walk, readCluster}
+use Rattle.cluster_record.specs.RecordClusterFaults.{Item, itemIn, Reading, ClusterRead, nothingRead, allowedAfter, withItem, formerWith, readingWith, faultIn, clusterRefused, ended, walk, readCluster}
 use Rattle.cluster_record.specs.declared.ReadCluster.{ReadCluster}
 use Rattle.cluster_record.specs.RecordClusterAnswer.{clusterAnswer}
-use Rattle.cluster_record.proofs.Items.{item-node, item-five, sound-node, sound-row}
+use Rattle.cluster_record.proofs.Items.{item-node, item-five, former-kept, sound-node, sound-row}
+use Rattle.cluster_record.proofs.FieldFaults.{RowFault, row-fault}
 use Rattle.cluster.proofs.Accepting.{few-partitions}
 use Rattle.cluster_record.proofs.Rows.{cells-none, cells-upTo}
 use Rattle.cluster.proofs.Slots.{topology-slots}
@@ -135,6 +136,9 @@ module _ {s rows : List ℕ} {c : Cluster} {last next at tag start len : ℕ} (m
   pub walked-row : tag ≡ 5 → (rowWidth 1 ≤ len) × (len ≤ rowWidth mostCopies)
   walked-row q = let b = row-bytes walked-whole q in (b .0, b .1)
 
+  pub walked-row-fault : tag ≡ 5 → {x : ℕ} → RowFault s (c .bits) next start len x → x ≡ faultIn (topology c) next (itemIn s tag start len)
+  walked-row-fault q {x} f = row-fault (topology c) next s tag start len x q f
+
   module _ {x : ℕ} (g : x ≡ faultIn (topology c) next (itemIn s tag start len)) where
     fault-read : faultIn (m .walked .reading .cluster) (length (m .walked .reading .former)) (itemIn s tag start len) ≡ x
     fault-read = sym (g ∙ ap₂ (λ (t : Topology) (n : ℕ). faultIn t n (itemIn s tag start len)) (walked-topology (m .walked)) (m .walked .passed))
@@ -167,15 +171,12 @@ module _ {s rows : List ℕ} {c : Cluster} {last next at tag start len : ℕ} (m
       pub walked-partition : tag ≡ 5 → numberAt s start 2 < bufferRows
       walked-partition q = omega (arith, row-tests q .0, few-partitions (m .walked .reading .cluster .bits) (m .walked .well .accepted .bits))
 
-      -- One field further.
-      pub walked-on : (rows′ : List ℕ) (c′ : Cluster) (next′ : ℕ)
-          → ((t : Topology) (len : ℕ) → c ≡ slotsOf t → c′ ≡ slotsOf (withItem t (itemIn s tag start len)))
-          → ((F : Layout) → 1 ≤ tag → tag ≤ 5 → rows ≡ cellsOf F → next ≡ length F → (tag ≡ 5 → length F ≤ numberAt s start 2)
-          → (rows′ ≡ cellsOf (formerWith F (itemIn s tag start len))) × (next′ ≡ length (formerWith F (itemIn s tag start len))))
+      -- One field further, where the cluster and the rows are those with what it says.
+      walked-on : {rows′ : List ℕ} {c′ : Cluster} {next′ : ℕ} → c′ ≡ slotsOf (withItem (m .walked .reading .cluster) (itemIn s tag start len))
+          → rows′ ≡ cellsOf (formerWith (m .walked .reading .former) (itemIn s tag start len)) → next′ ≡ length (formerWith (m .walked .reading .former) (itemIn s tag start len))
           → Walked s rows′ c′ tag next′ (start + len)
       unfolding readingWith
-      walked-on rows′ c′ next′ cl rw′ =
-          let b = rw′ (m .walked .reading .former) (walked-tag .0) (walked-tag .1) (m .walked .cells) (m .walked .passed) (λ q. row-tests q .1) in
+      walked-on slots cells passed =
           let z = fault-read ∙ none in
           record {
             reading = readingWith (m .walked .reading) tag (itemIn s tag start len);
@@ -185,7 +186,30 @@ module _ {s rows : List ℕ} {c : Cluster} {last next at tag start len : ℕ} (m
             inside = walked-inside .1;
             well = well-step s (m .walked .reading) tag start len (m .walked .well) walked-kind (λ q. walked-row q .1) z;
             tag-read = refl;
-            slots = cl (m .walked .reading .cluster) len (m .walked .slots);
-            passed = b .1;
-            cells = b .0;
+            slots = slots;
+            passed = passed;
+            cells = cells;
           }
+
+      -- A row leaves the cluster as it is,
+      pub walked-on-row : tag ≡ 5 → (rows′ : List ℕ) (next′ : ℕ)
+          → ((F : Layout) → rows ≡ cellsOf F → length F ≤ numberAt s start 2
+          → (rows′ ≡ cellsOf (formerWith F (itemIn s 5 start len))) × (next′ ≡ length (formerWith F (itemIn s 5 start len))))
+          → Walked s rows′ c tag next′ (start + len)
+      unfolding withItem
+      walked-on-row q rows′ next′ taken =
+          let F : Layout = m .walked .reading .former in
+          let b = taken F (m .walked .cells) (row-tests q .1) in
+          let e : itemIn s 5 start len ≡ itemIn s tag start len = ap (λ (k : ℕ). itemIn s k start len) (sym q) in
+          walked-on
+          (m .walked .slots ∙ ap (λ (i : Item). slotsOf (withItem (m .walked .reading .cluster) i)) (sym (item-five s start len tag q)))
+          (b .0 ∙ ap (λ (i : Item). cellsOf (formerWith F i)) e)
+          (b .1 ∙ ap (λ (i : Item). length (formerWith F i)) e)
+
+      -- and any other field the rows.
+      pub walked-on-other : tag ≤ 4 → (c′ : Cluster) → ((t : Topology) (len : ℕ) → c ≡ slotsOf t → c′ ≡ slotsOf (withItem t (itemIn s tag start len)))
+          → Walked s rows c′ tag next (start + len)
+      walked-on-other q c′ with-it =
+          let F : Layout = m .walked .reading .former in
+          let kept = sym (former-kept s start len F tag (walked-tag .0) q) in
+          walked-on (with-it (m .walked .reading .cluster) len (m .walked .slots)) (m .walked .cells ∙ ap cellsOf kept) (m .walked .passed ∙ ap (λ (l : Layout). length l) kept)

@@ -2,12 +2,10 @@
 // many nodes; 0 where there is none.
 ghost use mathlib.Core.Path.{_≡_};
 ghost use mathlib.Core.Bool.{_||_, cond};
-ghost use Prim.Native.Nat.{_+_, _≤_, _<_};
+ghost use Prim.Native.Nat.{ℕ, _≤_};
 ghost use lib.Dec.{ltb, leb, eqb};
-ghost use lib.ListN.{length};
-ghost use Rattle.cluster.specs.Terms.{mostBits, mostNodes, topology, idsOf};
+ghost use Rattle.cluster.specs.Terms.{mostNodes, topology, idsOf};
 ghost use Rattle.cluster_record.specs.RecordClusterFaults.{itemIn, lastOf, faultIn};
-use super::row_faults;
 use cluster::Cluster;
 use cluster::refusal;
 
@@ -52,17 +50,10 @@ fn node_fault(count: usize, last: u32, id: u32) -> u32
     0
 }
 
-// Of a whole field.
-pub(crate) fn field_fault(
-    bytes: &[u8],
-    c: Cluster,
-    next: usize,
-    tag: u8,
-    start: usize,
-    len: usize,
-) -> u32
-    requires { ⌜ (c .count ≤ mostNodes) × (c .bits ≤ mostBits) × (start + len ≤ length (now bytes)) × (1 ≤ tag) × (4 < tag → 2 ≤ len) ⌝ }
-    ensures { λ r. ⌜ r ≡ faultIn (topology c) next (itemIn (now (bytes .entry)) tag start len) ⌝ }
+// Of a whole field that is no former row.
+pub(crate) fn field_fault(bytes: &[u8], c: Cluster, tag: u8, start: usize) -> u32
+    requires { ⌜ (c .count ≤ mostNodes) × (1 ≤ tag) × (tag ≤ 4) ⌝ }
+    ensures { λ r. ⌜ ((next len : ℕ) → r ≡ faultIn (topology c) next (itemIn (now (bytes .entry)) tag start len)) ⌝ }
 {
     if tag == 1 {
         return number_fault(0, Cluster::BITS, fields::byte_at(bytes, start));
@@ -73,9 +64,6 @@ pub(crate) fn field_fault(
     if tag == 3 {
         return number_fault(1, c.replication, fields::byte_at(bytes, start));
     }
-    if tag == 4 {
-        let n = fields::node_at(bytes, start);
-        return node_fault(c.count, last_id(c), n.id);
-    }
-    row_faults::row_fault(bytes, c.bits, next, start, (len - 2) / 4)
+    let n = fields::node_at(bytes, start);
+    node_fault(c.count, last_id(c), n.id)
 }

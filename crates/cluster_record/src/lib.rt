@@ -76,12 +76,20 @@ fn walk(bytes: &[u8], rows: &mut [u32]) -> ReadCluster
         let Field::Body { tag, start, len } = f else {
             return refused(fields::refusal_of(f), fields::place_of(f));
         };
-        let fault = faults::field_fault(r.src, c, next, tag, start, len);
-        if fault != 0 {
-            return refused(fault, r.at);
+        // There may be 256 former rows, and none of them copies the cluster.
+        if tag == 5 {
+            let fault = row_faults::row_fault(r.src, c.bits, next, start, len);
+            if fault != 0 {
+                return refused(fault, r.at);
+            }
+            next = taking::take_row(rows, r.src, start, len);
+        } else {
+            let fault = faults::field_fault(r.src, c, tag, start);
+            if fault != 0 {
+                return refused(fault, r.at);
+            }
+            c = taking::cluster_with(r.src, c, tag, start);
         }
-        c = taking::cluster_with(r.src, c, tag, start);
-        next = taking::take_row(rows, r.src, next, tag, start, len);
         last = tag as u32;
         r.at = start + len;
     }

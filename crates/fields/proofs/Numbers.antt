@@ -171,6 +171,24 @@ number-byte s at =
     (λ g. number-none s at 1 (omega arith) ∙ sym (List·getD-eq-default s 0 g))
     (lt-or-ge at (length s))
 
+-- The number in four bytes, byte by byte.
+pub number-word : (s : List ℕ) (at : ℕ) → at + 4 ≤ length s
+    → numberAt s at 4 ≡ getD s at 0 * 16777216 + getD s (at + 1) 0 * 65536 + getD s (at + 2) 0 * 256 + getD s (at + 3) 0
+number-word s at h =
+    let e : at + 2 + 1 ≡ at + 3 = omega arith in
+    let d = ap (λ (k : ℕ). numberAt s k 1) e in
+    omega (
+      arith,
+      number-split s at 2 2 h,
+      number-split s at 1 1 (omega arith),
+      number-split s (at + 2) 1 1 (omega arith),
+      number-byte s at,
+      number-byte s (at + 1),
+      number-byte s (at + 2),
+      number-byte s (at + 3),
+      d,
+    )
+
 -- A number of w bytes is below 256 ^ w.
 pub number-at-lt : (s : List ℕ) (at w : ℕ) → Bytes s → numberAt s at w < 256 ^ w
 number-at-lt s at w b =

@@ -33,7 +33,7 @@ abbrev pub tail : ℕ → Code → Code
 tail zero b = b
 tail (suc k) b = tail k (rest-of b)
 
--- The k-th arm of a `switch`.
+-- The k-th arm of a `switch`, or of an `if`.
 abbrev arm-in : ℕ → Arms → Code
 arm-in zero (arm keys b arms) = b
 arm-in zero (default b) = b
@@ -42,13 +42,17 @@ arm-in (suc k) (arm keys b arms) = arm-in k arms
 arm-in (suc k) (default b) = skip
 arm-in (suc k) noDefault = skip
 
+abbrev either : ℕ → Code → Code → Code
+either zero a b = a
+either (suc k) a b = b
+
 abbrev pub arm-of : ℕ → Code → Code
 arm-of k skip = skip
 arm-of k (seq a b) = skip
 arm-of k (assign p r) = skip
 arm-of k (block b) = skip
 arm-of k (loop b) = skip
-arm-of k (cond c a b) = skip
+arm-of k (cond c a b) = either k a b
 arm-of k (switch c arms) = arm-in k arms
 arm-of k (exit n) = skip
 arm-of k return = skip

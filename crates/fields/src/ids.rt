@@ -5,7 +5,7 @@ ghost use lib.ListN.{length};
 ghost use Rattle.cells.specs.ModelCells.{put};
 ghost use Rattle.cluster.specs.Terms.{rowCells, mem, rising};
 ghost use Rattle.fields.specs.RecordField.{numberAt, idsAt};
-use super::word_at;
+use super::word_in;
 use cluster::Cluster;
 
 // How many whole ids a record of n bytes has from byte `from` on.
@@ -25,7 +25,7 @@ pub fn has_zero(bytes: &[u8], from: usize, count: usize) -> bool
     let mut at = from;
     let mut left = count;
     while 0 < left {
-        if word_at(bytes, at) == 0 {
+        if word_in(bytes, at) == 0 {
             return true;
         }
         at += 4;
@@ -45,7 +45,7 @@ pub fn ids_rise(bytes: &[u8], from: usize, count: usize) -> bool
     let mut at = from;
     let mut left = count;
     while 0 < left {
-        let id = word_at(bytes, at);
+        let id = word_in(bytes, at);
         if id <= last {
             return false;
         }
@@ -63,7 +63,7 @@ pub fn put_ids(cells: &mut [u32], bytes: &[u8], row: usize, from: usize, count: 
 {
     let mut j = 0;
     while j < count {
-        cells[row * Cluster::ROW + j] = word_at(bytes, from + 4 * j);
+        cells[row * Cluster::ROW + j] = word_in(bytes, from + 4 * j);
         j += 1;
     }
 }

@@ -1,6 +1,6 @@
 // Numbers and fields in the bytes of a record: a one-byte tag, a two-byte length and a body; numbers unsigned, high byte first.
 ghost use mathlib.Core.Path.{_≡_};
-ghost use Prim.Native.Nat.{_<_, _^_};
+ghost use Prim.Native.Nat.{_+_, _^_, _≤_, _<_};
 ghost use lib.ListN.{length};
 ghost use Rattle.fields.specs.ModelTags.{tagsOf};
 ghost use Rattle.fields.specs.RecordField.{has, bytesOf, numberAt, written, nodeAtByte, ruleOf, legalAs, fieldAt, Within, refusalOf, placeOf};
@@ -123,12 +123,20 @@ pub fn pair_at(s: &[u8], at: usize) -> u32
     }
 }
 
+// The number in four bytes that are there, read with no further test.
+pub(crate) fn word_in(s: &[u8], at: usize) -> u32
+    requires { ⌜ at + 4 ≤ length (now s) ⌝ }
+    ensures { λ r. ⌜ (r ≡ numberAt (now (s .entry)) at 4) × (r < 2 ^ 32) ⌝ }
+{
+    s[at] as u32 * 16777216 + s[at + 1] as u32 * 65536 + s[at + 2] as u32 * 256 + s[at + 3] as u32
+}
+
 // The number in four bytes; 0 where the record does not have them all.
 pub fn word_at(s: &[u8], at: usize) -> u32
     ensures { λ r. ⌜ (r ≡ numberAt (now (s .entry)) at 4) × (r < 2 ^ 32) ⌝ }
 {
     if reaches(s.len(), at, 4) {
-        pair_at(s, at) * 65536 + pair_at(s, at + 2)
+        word_in(s, at)
     } else {
         0
     }

@@ -1,43 +1,22 @@
--- `fields::word_at` meets its contract: the high part, and then the low part.
+-- `fields::word_at` meets its contract.
 -- Assumes nothing.
-use Prim.Native.Nat.{ℕ, _+_, _*_, _≤_}
-use mathlib.Core.Path.{sym, ap₂, _∙_}
+use mathlib.Core.Path.{sym, _∙_}
 use borrow.Author.Needs.{needs}
-use native.Mathlib.Omega.{arith}
 use lib.ListN.{length}
-use Rattle.fields.proofs.Numbers.{true-has, false-has, number-split, number-none}
+use Rattle.fields.proofs.Numbers.{true-has, false-has, number-none}
 use Rattle.fields.proofs.word_at.Statement.{statement}
 use Rattle.fields.proofs.word_at.Tie as tie
-
-there : (c : tie.Then1) → c .before .before .before .args .at + 4 ≤ length (c .before .before .before .args .s .now)
-there c =
-    let a = c .before .before .before .args in
-    true-has (length (a .s .now)) (a .at) 4 (sym (c .before .reaches .ensures) ∙ c .if1 .taken)
 
 reaches-requires : tie.Need-reaches-requires
 reaches-requires c κs = search needs
 
-pair-at-requires : tie.Need-pair-at-requires
-pair-at-requires c κs = search needs
-
-mul-result : tie.Need-mul-result
-mul-result c = search needs
-
-add-pair-at : tie.Need-add-pair-at
-add-pair-at c = omega (arith, there (c .before))
-
-pair-at-requires-2 : tie.Need-pair-at-requires-2
-pair-at-requires-2 c κs = search needs
-
-add-result : tie.Need-add-result
-add-result c = search needs
+word-in-requires : tie.Need-word-in-requires
+word-in-requires c κs =
+    let a = c .before .before .before .args in
+    true-has (length (a .s .now)) (a .at) 4 (sym (c .before .reaches .ensures) ∙ c .if1 .taken)
 
 returns : tie.Need-returns
-returns c =
-    let a = c .before .before .before .before .before .args in
-    let h = c .before .pair-at in
-    let l = c .pair-at2 in
-    (ap₂ (λ (x y : ℕ). x * 65536 + y) (h .ensures .0) (l .ensures .0) ∙ sym (number-split (a .s .now) (a .at) 2 2 (there (c .before .before))), omega arith)
+returns c = search needs
 
 returns-2 : tie.Need-returns-2
 returns-2 c =
@@ -45,14 +24,4 @@ returns-2 c =
     (sym (number-none (a .s .now) (a .at) 4 (false-has (length (a .s .now)) (a .at) 4 (sym (c .before .reaches .ensures) ∙ c .if1 .left))), search needs)
 
 pub word-at-spec : {M : Type 1} → statement M
-word-at-spec =
-    tie.close
-    (tie.spec
-    reaches-requires
-    pair-at-requires
-    mul-result
-    add-pair-at
-    pair-at-requires-2
-    add-result
-    returns
-    returns-2)
+word-at-spec = tie.close (tie.spec reaches-requires word-in-requires returns returns-2)

@@ -1,13 +1,12 @@
 -- `cluster_record::faults::field_fault` meets its contract: the faults by the tag.
 -- Assumes nothing.
-use Prim.Native.Nat.{_≤_}
 use mathlib.Core.Path.{_≡_, sym, ap}
 use lib.ListN.{length}
 use lib.Seq.{length-take-le}
 use Rattle.cells.proofs.Cells.{length-of-map}
 use Rattle.cluster.specs.Terms.{topology}
 use Rattle.cluster.specs.declared.Node.{Node}
-use Rattle.cluster_record.proofs.FieldFaults.{bits-fault, replication-fault, redundancy-fault, node-fault, row-fault}
+use Rattle.cluster_record.proofs.FieldFaults.{bits-fault, replication-fault, redundancy-fault, node-fault}
 use borrow.Author.Needs.{needs}
 use native.Mathlib.Omega.{arith}
 use Rattle.cluster_record.proofs.faults.field_fault.Statement.{statement}
@@ -17,16 +16,11 @@ use Rattle.cluster_record.proofs.faults.field_fault.Lts as lts
 use Rattle.cluster_record.proofs.faults.last_id.Reads as last-id-reads
 use Rattle.cluster_record.proofs.faults.node_fault.Reads as node-fault-reads
 use Rattle.cluster_record.proofs.faults.number_fault.Reads as number-fault-reads
-use Rattle.cluster_record.proofs.row_faults.row_fault.Reads as row-fault-reads
 use Rattle.fields.proofs.byte_at.Reads as byte-at-reads
 use Rattle.fields.proofs.node_at.Reads as node-at-reads
 
 long : (c : tie.Start) → length (c .args .c .nodes) ≡ 32
 long c = search length-of-map
-
--- The tag is that of a row, so there are bytes of a partition.
-long-row : (c : tie.Else4) → 2 ≤ c .before .before .before .before .before .args .len
-long-row c = c .before .before .before .before .before .pre .4 (omega arith)
 
 byte-at-requires : tie.Need-byte-at-requires
 byte-at-requires c κs = search needs
@@ -35,9 +29,9 @@ number-fault-requires : tie.Need-number-fault-requires
 number-fault-requires c κs = search needs
 
 returns : tie.Need-returns
-returns c =
+returns c = λ next len.
     let a = c .before .before .before .before .args in
-    bits-fault (topology (a .c)) (a .next) (a .bytes .now) (a .tag) (a .start) (a .len) (c .before .byte-at .result) (c .number-fault .result)
+    bits-fault (topology (a .c)) next (a .bytes .now) (a .tag) (a .start) len (c .before .byte-at .result) (c .number-fault .result)
     (c .before .before .if1 .taken) (c .before .byte-at .ensures .0) (c .number-fault .ensures)
 
 byte-at-requires-2 : tie.Need-byte-at-requires-2
@@ -47,9 +41,9 @@ number-fault-requires-2 : tie.Need-number-fault-requires-2
 number-fault-requires-2 c κs = search needs
 
 returns-2 : tie.Need-returns-2
-returns-2 c =
+returns-2 c = λ next len.
     let a = c .before .before .before .before .before .args in
-    replication-fault (topology (a .c)) (a .next) (a .bytes .now) (a .tag) (a .start) (a .len) (c .before .byte-at2 .result) (c .number-fault2 .result)
+    replication-fault (topology (a .c)) next (a .bytes .now) (a .tag) (a .start) len (c .before .byte-at2 .result) (c .number-fault2 .result)
     (c .before .before .if2 .taken) (c .before .byte-at2 .ensures .0) (c .number-fault2 .ensures)
 
 byte-at-requires-3 : tie.Need-byte-at-requires-3
@@ -59,9 +53,9 @@ number-fault-requires-3 : tie.Need-number-fault-requires-3
 number-fault-requires-3 c κs = search needs
 
 returns-3 : tie.Need-returns-3
-returns-3 c =
+returns-3 c = λ next len.
     let a = c .before .before .before .before .before .before .args in
-    redundancy-fault (topology (a .c)) (a .next) (a .bytes .now) (a .tag) (a .start) (a .len) (c .before .byte-at3 .result) (c .number-fault3 .result)
+    redundancy-fault (topology (a .c)) next (a .bytes .now) (a .tag) (a .start) len (c .before .byte-at3 .result) (c .number-fault3 .result)
     (c .before .before .if3 .taken) (c .before .byte-at3 .ensures .0) (c .number-fault3 .ensures)
 
 node-at-requires : tie.Need-node-at-requires
@@ -74,25 +68,13 @@ node-fault-requires : tie.Need-node-fault-requires
 node-fault-requires c κs = search needs
 
 returns-4 : tie.Need-returns-4
-returns-4 c =
+returns-4 c = λ next len.
     let k = c .before .before .before in
-    let b = k .before .before .before .before .before in
+    let b = k .before .before .before .before in
     let a = b .args in
-    node-fault (topology (a .c)) (a .next) (a .bytes .now) (a .tag) (a .start) (a .len) (c .before .before .node-at .result .id) (c .before .last-id .result)
-    (a .c .count) (c .node-fault .result) (k .if4 .taken) (ap (λ (n : Node). n .id) (c .before .before .node-at .ensures)) (c .before .last-id .ensures)
+    node-fault (topology (a .c)) next (a .bytes .now) (a .tag) (a .start) len (c .before .before .node-at .result .id) (c .before .last-id .result)
+    (a .c .count) (c .node-fault .result) (omega arith) (ap (λ (n : Node). n .id) (c .before .before .node-at .ensures)) (c .before .last-id .ensures)
     (sym (length-take-le (a .c .count) (a .c .nodes) (omega (arith, long b, b .pre .0)))) (c .node-fault .ensures)
-
-sub-row-fault : tie.Need-sub-row-fault
-sub-row-fault c = long-row c
-
-row-fault-requires : tie.Need-row-fault-requires
-row-fault-requires c κs = (c .before .before .before .before .before .pre .1, omega (arith, long-row c, c .before .before .before .before .before .pre .2))
-
-returns-5 : tie.Need-returns-5
-returns-5 c =
-    let a = c .before .before .before .before .before .before .args in
-    row-fault (topology (a .c)) (a .next) (a .bytes .now) (a .tag) (a .start) (a .len) (c .row-fault .result)
-    (c .before .before .before .before .if1 .left) (c .before .before .before .if2 .left) (c .before .before .if3 .left) (c .before .if4 .left) (c .row-fault .ensures)
 
 pub field-fault-spec : {M : Type 1} → statement M
 field-fault-spec =
@@ -110,7 +92,4 @@ field-fault-spec =
     node-at-requires
     last-id-requires
     node-fault-requires
-    returns-4
-    sub-row-fault
-    row-fault-requires
-    returns-5)
+    returns-4)

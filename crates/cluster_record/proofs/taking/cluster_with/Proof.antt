@@ -6,7 +6,7 @@ use Rattle.cluster.specs.Terms.{mostNodes}
 use Rattle.cluster.specs.declared.Node.{Node}
 use Rattle.cluster_record.specs.RecordClusterFaults.{Item, BitsOf, ReplicationOf, RedundancyOf, OneNode, withItem}
 use Rattle.cluster.specs.TermsReading.{slotsOf}
-use Rattle.cluster_record.proofs.Items.{item-bits, item-replication, item-redundancy, item-node, item-row}
+use Rattle.cluster_record.proofs.Items.{item-bits, item-replication, item-redundancy, item-node}
 use Rattle.cluster_record.proofs.Slots.{slots-bits, slots-replication, slots-redundancy, slots-node}
 use borrow.Author.Needs.{needs}
 use native.Mathlib.Omega.{arith}
@@ -18,8 +18,8 @@ use Rattle.fields.proofs.byte_at.Reads as byte-at-reads
 use Rattle.fields.proofs.node_at.Reads as node-at-reads
 
 -- A node has a slot.
-room : (c : tie.Then4) → c .before .before .before .before .before .args .c .count < mostNodes
-room c = c .before .before .before .before .before .pre (c .if4 .taken)
+room : (c : tie.Else3) → c .before .before .before .before .args .c .count < mostNodes
+room c = c .before .before .before .before .pre .2 (omega arith)
 
 byte-at-requires : tie.Need-byte-at-requires
 byte-at-requires c κs = search needs
@@ -66,18 +66,10 @@ add-next c = omega (arith, room (c .before))
 returns-4 : tie.Need-returns-4
 returns-4 c = λ t len e.
     let k = c .before in
-    let a = k .before .before .before .before .before .args in
+    let a = k .before .before .before .before .args in
     slots-node t (a .c) e (c .node-at .result) (room k)
     ∙ (ap (λ (n : Node). slotsOf (withItem t (OneNode n))) (c .node-at .ensures)
-    ∙ ap (λ (i : Item). slotsOf (withItem t i)) (sym (item-node (a .bytes .now) (a .start) len (a .tag) (k .if4 .taken))))
-
-returns-5 : tie.Need-returns-5
-unfolding withItem
-returns-5 c = λ t len e.
-    let a = c .before .before .before .before .before .args in
-    e
-    ∙ ap (λ (i : Item). slotsOf (withItem t i))
-    (sym (item-row (a .bytes .now) (a .start) len (a .tag) (c .before .before .before .if1 .left) (c .before .before .if2 .left) (c .before .if3 .left) (c .if4 .left)))
+    ∙ ap (λ (i : Item). slotsOf (withItem t i)) (sym (item-node (a .bytes .now) (a .start) len (a .tag) (omega arith))))
 
 pub cluster-with-spec : {M : Type 1} → statement M
 cluster-with-spec =
@@ -93,5 +85,4 @@ cluster-with-spec =
     mul-t12
     element-set-from-next
     add-next
-    returns-4
-    returns-5)
+    returns-4)

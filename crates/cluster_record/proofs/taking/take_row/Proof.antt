@@ -1,11 +1,5 @@
 -- `cluster_record::taking::take_row` meets its contract.
 -- Assumes nothing.
-use Prim.Native.Nat.{_+_, _≤_, _<_}
-use mathlib.Core.Path.{_≡_, sym, ap, _∙_}
-use lib.ListN.{length}
-use Rattle.cluster.specs.Terms.{mostCopies, bufferRows, layoutCells, Layout, cellsOf}
-use Rattle.fields.specs.RecordField.{numberAt, rowWidth}
-use Rattle.cluster_record.proofs.Items.{former-kept}
 use Rattle.cluster_record.proofs.Rows.{taken-row}
 use borrow.Author.Needs.{needs}
 use native.Mathlib.Omega.{arith}
@@ -16,17 +10,6 @@ use Rattle.cluster_record.proofs.taking.take_row.Lts as lts
 use Rattle.fields.proofs.ids.put_ids.Reads as put-ids-reads
 use Rattle.fields.proofs.pair_at.Reads as pair-at-reads
 
--- What is known of a row.
-facts : (c : tie.Else1) → let a = c .before .before .before .args in
-    (length (a .rows .now) ≡ layoutCells) × (numberAt (a .bytes .now) (a .start) 2 < bufferRows) × (rowWidth 1 ≤ a .len) × (a .len ≤ rowWidth mostCopies) × (a .start + a .len ≤ length (a .bytes .now))
-facts c = c .before .before .before .pre (c .if1 .left)
-
-returns : tie.Need-returns
-returns c = λ F a b e n g.
-    let k = c .before .before .before .args in
-    let kept = sym (former-kept (k .bytes .now) (k .start) (k .len) F (k .tag) a (omega arith)) in
-    (e ∙ ap cellsOf kept, n ∙ ap (λ (l : Layout). length l) kept)
-
 pair-at-requires : tie.Need-pair-at-requires
 pair-at-requires c κs = search needs
 
@@ -34,15 +17,13 @@ cast-partition : tie.Need-cast-partition
 cast-partition c = search needs
 
 add-put-ids : tie.Need-add-put-ids
-add-put-ids c = omega (arith, facts (c .before .before))
+add-put-ids c = search needs
 
 sub-put-ids : tie.Need-sub-put-ids
-sub-put-ids c = omega (arith, facts (c .before .before))
+sub-put-ids c = search needs
 
 put-ids-requires : tie.Need-put-ids-requires
-put-ids-requires c κs =
-    let f = facts (c .before .before) in
-    (omega (arith, f, c .before .pair-at .ensures), omega (arith, f))
+put-ids-requires c κs = (omega (arith, c .before .pair-at .ensures), search needs)
 
 add-result : tie.Need-add-result
 add-result c = search needs
@@ -50,19 +31,18 @@ add-result c = search needs
 same-length : tie.Need-same-length
 same-length c = search needs
 
-returns-2 : tie.Need-returns-2
-returns-2 c = λ F a b e n g.
+returns : tie.Need-returns
+returns c = λ F e g.
     let j = c .before .before .before .before in
-    let k = j .before in
-    let q = k .before .before .before .args in
-    taken-row (q .bytes .now) F (q .tag) (q .start) (q .len) (j .pair-at .result) (q .rows .now) (c .before .before .put-ids .last .0)
-    (k .if1 .left) (j .pair-at .ensures .0) (facts k .1) (facts k .3) (g (k .if1 .left)) e (c .before .before .put-ids .ensures)
+    let s = j .before .before .before in
+    let q = s .args in
+    taken-row (q .bytes .now) F (q .start) (q .len) (j .pair-at .result) (q .rows .now) (c .before .before .put-ids .last .0)
+    (j .pair-at .ensures .0) (s .pre .1) (s .pre .3) g e (c .before .before .put-ids .ensures)
 
 pub take-row-spec : {M : Type 1} → statement M
 take-row-spec =
     tie.close
     (tie.spec
-    returns
     pair-at-requires
     cast-partition
     add-put-ids
@@ -70,4 +50,4 @@ take-row-spec =
     put-ids-requires
     add-result
     same-length
-    returns-2)
+    returns)

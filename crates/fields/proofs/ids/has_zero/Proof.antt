@@ -28,14 +28,14 @@ returns c =
 loop-holds : tie.Need-loop-holds Inv-loop μ-loop
 loop-holds c = (omega (arith, c .before .ids-in .ensures), refl)
 
-word-at-requires : tie.Need-word-at-requires Inv-loop μ-loop
-word-at-requires c κs = search needs
+word-in-requires : tie.Need-word-in-requires Inv-loop μ-loop
+word-in-requires c κs = search needs
 
 returns-2 : tie.Need-returns-2 Inv-loop μ-loop
 returns-2 c =
     let k = c .before .before .before in
     sym (k .loop .inv .1
-    ∙ zero-found (k .before .before .before .before .args .bytes .now) (k .loop .at) (k .loop .left) (search needs) (sym (c .before .word-at .ensures .0) ∙ c .if2 .taken))
+    ∙ zero-found (k .before .before .before .before .args .bytes .now) (k .loop .at) (k .loop .left) (search needs) (sym (c .before .word-in .ensures .0) ∙ c .if2 .taken))
 
 add-at : tie.Need-add-at Inv-loop μ-loop
 add-at c = search needs
@@ -51,7 +51,7 @@ loop-again c =
     let k = c .before .before .before in (
       search needs,
       k .loop .inv .1
-          ∙ zero-passed (k .before .before .before .before .args .bytes .now) (k .loop .at) (k .loop .left) (search needs) (λ e. c .if2 .left (c .before .word-at .ensures .0 ∙ e)),
+          ∙ zero-passed (k .before .before .before .before .args .bytes .now) (k .loop .at) (k .loop .left) (search needs) (λ e. c .if2 .left (c .before .word-in .ensures .0 ∙ e)),
     )
 
 returns-3 : tie.Need-returns-3 Inv-loop μ-loop
@@ -69,7 +69,7 @@ has-zero-spec =
     ids-in-requires
     returns
     loop-holds
-    word-at-requires
+    word-in-requires
     returns-2
     add-at
     sub-left

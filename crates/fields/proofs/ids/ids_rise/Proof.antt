@@ -28,14 +28,14 @@ returns c =
 loop-holds : tie.Need-loop-holds Inv-loop μ-loop
 loop-holds c = (omega (arith, c .before .ids-in .ensures), refl)
 
-word-at-requires : tie.Need-word-at-requires Inv-loop μ-loop
-word-at-requires c κs = search needs
+word-in-requires : tie.Need-word-in-requires Inv-loop μ-loop
+word-in-requires c κs = search needs
 
 returns-2 : tie.Need-returns-2 Inv-loop μ-loop
 returns-2 c =
     let k = c .before .before .before in
     sym (k .loop .inv .1
-    ∙ fall-found (k .before .before .before .before .args .bytes .now) (k .loop .at) (k .loop .left) (search needs) (k .loop .last) (omega (arith, c .before .word-at .ensures .0)))
+    ∙ fall-found (k .before .before .before .before .args .bytes .now) (k .loop .at) (k .loop .left) (search needs) (k .loop .last) (omega (arith, c .before .word-in .ensures .0)))
 
 add-at : tie.Need-add-at Inv-loop μ-loop
 add-at c = search needs
@@ -52,8 +52,8 @@ loop-again c =
     let s = k .before .before .before .before .args .bytes .now in (
       search needs,
       k .loop .inv .1
-          ∙ (rise-passed s (k .loop .at) (k .loop .left) (search needs) (k .loop .last) (omega (arith, c .before .word-at .ensures .0))
-          ∙ ap (λ (x : ℕ). risingFrom x (idsAt s (k .loop .at + 4) (k .loop .left - 1))) (sym (c .before .word-at .ensures .0))),
+          ∙ (rise-passed s (k .loop .at) (k .loop .left) (search needs) (k .loop .last) (omega (arith, c .before .word-in .ensures .0))
+          ∙ ap (λ (x : ℕ). risingFrom x (idsAt s (k .loop .at + 4) (k .loop .left - 1))) (sym (c .before .word-in .ensures .0))),
     )
 
 returns-3 : tie.Need-returns-3 Inv-loop μ-loop
@@ -71,7 +71,7 @@ ids-rise-spec =
     ids-in-requires
     returns
     loop-holds
-    word-at-requires
+    word-in-requires
     returns-2
     add-at
     sub-left

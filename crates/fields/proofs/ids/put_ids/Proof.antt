@@ -23,14 +23,14 @@ abbrev μ-loop : tie.MeasureT-loop
 loop-holds : tie.Need-loop-holds Inv-loop μ-loop
 loop-holds c = (search needs, search needs, put-none _ _ _)
 
-mul-word-at : tie.Need-mul-word-at Inv-loop μ-loop
-mul-word-at c = search needs
+mul-word-in : tie.Need-mul-word-in Inv-loop μ-loop
+mul-word-in c = search needs
 
-add-word-at : tie.Need-add-word-at Inv-loop μ-loop
-add-word-at c = search needs
+add-word-in : tie.Need-add-word-in Inv-loop μ-loop
+add-word-in c = search needs
 
-word-at-requires : tie.Need-word-at-requires Inv-loop μ-loop
-word-at-requires c κs = search needs
+word-in-requires : tie.Need-word-in-requires Inv-loop μ-loop
+word-in-requires c κs = search needs
 
 mul-cells : tie.Need-mul-cells Inv-loop μ-loop
 mul-cells c = search needs
@@ -57,7 +57,7 @@ loop-again c =
     let f : (ℕ → ℕ) = λ i. numberAt (a .bytes .now) (a .from + 4 * i) 4 in (
       search needs,
       search needs,
-      ap₂ (λ (l : List ℕ) (v : ℕ). set l (a .row * rowCells + k .loop .j) v) (k .loop .inv .2) (c .word-at .ensures .0)
+      ap₂ (λ (l : List ℕ) (v : ℕ). set l (a .row * rowCells + k .loop .j) v) (k .loop .inv .2) (c .word-in .ensures .0)
           ∙ put-more (a .row * rowCells) f (k .loop .j) (a .cells .now),
     )
 
@@ -78,9 +78,9 @@ put-ids-spec =
     Inv-loop
     μ-loop
     loop-holds
-    mul-word-at
-    add-word-at
-    word-at-requires
+    mul-word-in
+    add-word-in
+    word-in-requires
     mul-cells
     add-cells
     mul-cells-2
