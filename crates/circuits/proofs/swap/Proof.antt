@@ -5,7 +5,6 @@ use native.Mathlib.Omega.{arith}
 use lib.ListN.{getD, set}
 use Rattle.sets.specs.ModelBits.{withOf, withoutOf}
 use Rattle.holders.specs.ModelHolders.{Held}
-use Rattle.holders.proofs.Holding.{held-exchange}
 use borrow.Author.Needs.{needs}
 use Rattle.circuits.proofs.swap.Statement.{statement}
 use Rattle.circuits.proofs.swap.Tie as tie
@@ -44,8 +43,7 @@ returns c = let w = c .before .before .before .before in
     w .with .ensures ∙ ap (λ (x : ℕ). withOf x (a .v)) (w .before .without .ensures) in (
       ap (set (a .rows .now) (a .p)) e,
       subst (λ (x : ℕ). Held (set (a .rows .now) (a .p) x) (a .partitions) (c .before .before .exchange .last .0)) (sym e)
-          (subst (Held (set (a .rows .now) (a .p) (withOf (withoutOf (getD (a .rows .now) (a .p) 0) (a .u)) (a .v))) (a .partitions)) (sym (c .before .before .exchange .ensures))
-          (held-exchange (a .rows .now) (a .partitions) (a .held .now) (search needs) (a .p) (a .u) (a .v) (omega arith) (omega arith) (omega arith))),
+          (c .before .before .exchange .ensures (a .rows .now) (a .partitions) (omega arith) (omega arith) (omega arith) (search needs)),
     )
 
 pub swap-spec : {M : Type 1} → statement M

@@ -8,7 +8,7 @@ use mathlib.Core.Logic.{⊎-elim}
 use Rattle.sets.specs.ModelBits.{maskOf}
 use Rattle.incidence.specs.ModelIncidence.{cell}
 use Rattle.dealing.specs.ModelDeal.{among}
-use Rattle.tallies.proofs.Masks.{mask-here, mask-not-here}
+use Rattle.sets.proofs.Masks.{mask-here, mask-not-here}
 use Rattle.shares.proofs.Lining.{among-some, among-none}
 use Rattle.shares.proofs.line.row.Statement.{statement}
 use Rattle.shares.proofs.line.row.Tie as tie

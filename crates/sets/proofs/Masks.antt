@@ -3,14 +3,12 @@
 use Prim.Native.Nat.{ℕ, _+_, _≤_, _<_}
 use mathlib.Core.Path.{_≡_, sym, ap, _∙_}
 use native.Mathlib.Numerals.{add-one}
-use Rattle.cluster.specs.Terms.{mostNodes}
-use Rattle.sets.specs.ModelBits.{maskOf, withOf}
-use Rattle.sets.proofs.Bits.{mask-same}
-use Rattle.sets.proofs.Laws.{mask-with}
+use Rattle.sets.specs.ModelBits.{maskBits, maskOf, withOf}
+use Rattle.sets.proofs.Laws.{mask-same, mask-with}
 
 module _ (f : ℕ → ℕ) (n s : ℕ) (e : s ≡ maskOf f n) where
   -- One number more, which is a member.
-  pub mask-here : n < mostNodes → 1 ≤ f n → withOf s n ≡ maskOf f (n + 1)
+  pub mask-here : n < maskBits → 1 ≤ f n → withOf s n ≡ maskOf f (n + 1)
   mask-here l h = ap (λ (m : ℕ). withOf m n) e ∙ (sym (mask-with f n l h) ∙ ap (maskOf f) (sym (add-one n)))
 
   -- One number more, which is none.
