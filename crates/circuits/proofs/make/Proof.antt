@@ -17,7 +17,7 @@ use Rattle.circuits.proofs.make.Tie as tie
 
 abbrev Inv-loop : tie.InvT-loop
 Inv-loop rows₀ tight₀ held₀ partitions mates z y q m changed₀ i₀ rows tight held changed i = (i ≤ m) × (length rows ≡ length rows₀) × (length tight ≡ length tight₀) × (length held ≡ length held₀)
-    × (rows ≡ exchanged partitions (λ t. getD y t 0) (λ t. getD q t 0) i rows₀) 
+    × (rows ≡ exchanged partitions (λ t. getD y t 0) (λ t. getD q t 0) i rows₀)
     × ChangedIn changed rows₀ rows × Tight mates z rows partitions tight × Held rows partitions held
 
 abbrev μ-loop : tie.MeasureT-loop
