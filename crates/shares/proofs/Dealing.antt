@@ -12,7 +12,7 @@ use Rattle.sums.proofs.Sum.{lt-or-ge}
 use Rattle.sets.specs.ModelBits.{maskBits, maskOf, withOf, unionOf}
 use Rattle.sets.proofs.Laws.{bit-zero, bit-ext, with-lt, bit-with, union-lt, bit-union}
 use Rattle.cells.specs.ModelCells.{put}
-use Rattle.cells.proofs.Cells.{length-put, put-none, put-more, getD-put-in, getD-put-out}
+use Rattle.cells.proofs.Cells.{length-put, put-none, put-more, put-over, getD-put-in, getD-put-out}
 use Rattle.cluster.specs.Terms.{mostNodes}
 use Rattle.dealing.specs.ModelDeal.{among}
 use Rattle.tallies.proofs.Masks.{mask-here, mask-not-here}
@@ -20,21 +20,9 @@ use Rattle.shares.proofs.Lining.{after-round, after-on, among-some, amo
 
 -- ---- all rows
 
--- Cells that are written again.
+-- All of the first n cells, written again.
 put-again : (f g : ℕ → ℕ) (n : ℕ) (l : List ℕ) → n ≤ length l → put 0 f n (put 0 g n l) ≡ put 0 f n l
-put-again f g n l h =
-    ext-getD 0 (put 0 f n (put 0 g n l)) (put 0 f n l) (length-put 0 f n (put 0 g n l) ∙ (size ∙ sym (length-put 0 f n l)))
-    (λ q i. ⊎-elim (λ a. written (put 0 g n l) q a (omega (arith, size)) ∙ sym (written l q a h))
-    (λ o. kept f (put 0 g n l) q o ∙ (kept g l q o ∙ sym (kept f l q o))) (lt-or-ge q n))
-  where
-    size : length (put 0 g n l) ≡ length l
-    size = length-put 0 g n l
-
-    written : (r : List ℕ) (q : ℕ) → q < n → n ≤ length r → getD (put 0 f n r) q 0 ≡ f q
-    written r q a k = ap (λ (i : ℕ). getD (put 0 f n r) i 0) (sym (zero-add q)) ∙ getD-put-in 0 f n r q 0 a (omega arith)
-
-    kept : (u : ℕ → ℕ) (r : List ℕ) (q : ℕ) → n ≤ q → getD (put 0 u n r) q 0 ≡ getD r q 0
-    kept u r q o = getD-put-out 0 u n r q 0 (λ j a e. omega arith)
+put-again f g n l h = put-over 0 0 f g n n l (omega arith) (omega arith) (λ i a b. absurd (omega arith))
 
 module _ (P : ℕ) (starts copies : ℕ → ℕ) (l₀ l : List ℕ) (long : P ≤ length l₀) (empty : l ≡ put 0 (λ p. 0) P l₀) where
   -- In empty rows the copies of no node are dealt.
