@@ -4,7 +4,7 @@ ghost use Prim.Native.Nat.{ℕ, _+_, _<_, _≤_};
 ghost use mathlib.Core.List.{List};
 ghost use lib.ListN.{length, take, drop, getD};
 ghost use lib.Dec.{ltb};
-ghost use mathlib.Core.Bool.{cond};
+ghost use mathlib.Core.Bool.{true, cond};
 ghost use Rattle.sets.specs.ModelBits.{bit};
 ghost use Rattle.cells.specs.ModelCells.{put};
 ghost use Rattle.cluster.specs.Terms.{mostNodes, rowCells, topology, idsIn};
@@ -121,19 +121,17 @@ pub fn read_masks(c: Cluster, cells: &[u32], partitions: usize, masks: &mut [u32
     }
 }
 
-// How many ids the first `partitions` rows have, each row that is ill formed or not there counted as nine; 0 where `partitions` is
-// more than a buffer has rows.
+// How many ids the first `partitions` rows have, each of which is rising ids followed by zeros: its cells that are not 0.
 pub fn count_ids(cells: &[u32], partitions: usize) -> u32
+    requires { ⌜ rowsFormed (now cells) partitions ≡ true ⌝ }
     ensures { λ r. ⌜ r ≡ idsTotal (now (cells .entry)) partitions ⌝ }
 {
-    if Cluster::PARTITIONS < partitions {
-        return 0;
-    }
+    let n = partitions * Cluster::ROW;
     let mut total = 0;
-    let mut p = 0;
-    while p < partitions {
-        total += rows::row_ids(cells, p);
-        p += 1;
+    let mut i = 0;
+    while i < n {
+        total += if cells[i] == 0 { 0 } else { 1 };
+        i += 1;
     }
     total
 }
