@@ -161,20 +161,35 @@ fn mask_at(masks: &[u32], partitions: usize, p: usize) -> u32
     if p < partitions { masks[p] } else { 0 }
 }
 
+// Zeros into the row that starts at cell `from`.
+fn blank_row(cells: &mut [u32], from: usize)
+    requires { ⌜ from + rowCells ≤ length (now cells) ⌝ }
+    ensures { λ _. ⌜ now (cells .exit) ≡ put from (λ _. 0) rowCells (now (cells .entry)) ⌝ }
+{
+    let mut j = 0;
+    while j < Cluster::ROW {
+        cells[from + j] = 0;
+        j += 1;
+    }
+}
+
 // The ids of the first eight nodes of the mask, of the n whose ids are given, then zeros, into the row that starts at cell `from`.
 fn write_row(ids: &[u32], n: usize, mask: u32, cells: &mut [u32], from: usize)
     requires { ⌜ (n ≤ mostNodes) × (n ≤ length (now ids)) × (from + rowCells ≤ length (now cells)) ⌝ }
     ensures { λ _. ⌜ ((ns : List Node) → n ≡ length ns → now (ids .entry) ≡ idCells ns
         → now (cells .exit) ≡ put from (λ j. getD (idsWhere ns (bit mask)) j 0) rowCells (now (cells .entry))) ⌝ }
 {
+    blank_row(cells, from);
     let mut rest = mask;
     let mut j = 0;
     while j < Cluster::ROW {
-        let least = sets::least(rest);
-        let b = least as usize;
+        if rest == 0 {
+            return;
+        }
+        let b = sets::least(rest) as usize;
         let id = if b < n { ids[b] } else { 0 };
         cells[from + j] = id;
-        rest = sets::without(rest, least);
+        rest = sets::rest(rest);
         j += 1;
     }
 }
