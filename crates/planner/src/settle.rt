@@ -58,7 +58,8 @@ pub(crate) fn measured(
 ) -> u32
     requires { ⌜ (replication ≤ mostCopies) × (partitions ≤ bufferRows) × (partitions ≤ length (now before)) × (partitions ≤ length (now rows))
         × (idsTotal (now former) partitions ≤ layoutCells)
-        × (2 * agreementIn (now rows) (now before) partitions ≤ replication * partitions + idsTotal (now former) partitions) ⌝ }
+        × (2 * agreementIn (now rows) (now before) partitions ≤ replication * partitions + idsTotal (now former) partitions)
+        × (rowsFormed (now former) partitions ≡ true) ⌝ }
     ensures { λ r. ⌜ r ≡ replication * partitions + idsTotal (now (former .entry)) partitions
         - 2 * agreementIn (now (rows .entry)) (now (before .entry)) partitions ⌝ }
 {
