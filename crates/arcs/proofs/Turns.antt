@@ -1,17 +1,15 @@
 -- One turn of each loop, and what the whole leaves, over plain numbers and lists.
 -- Assumes nothing.
-use Prim.Native.Nat.{ℕ, zero, suc, _+_, _-_, _*_, _/_, _%_, _≤_, _<_, min, max}
+use Prim.Native.Nat.{ℕ, _+_, _-_, _*_, _/_, _%_, _≤_, _<_, min, max}
 use mathlib.Core.Path.{_≡_, refl, sym, ap, ap₂, _∙_}
-use mathlib.Core.Bool.{true}
 use mathlib.Core.List.{List, _++_}
 use mathlib.Core.Logic.{⊎-elim}
 use native.Mathlib.Numerals.{add-one}
 use native.Mathlib.Omega.{arith}
-use lib.ListN.{length, getD, set, drop, length-append, length-drop, List·getD-append}
-use lib.Dec.{ltb}
+use lib.ListN.{length, getD, drop, length-append, length-drop, List·getD-append}
 use Rattle.cluster.specs.Terms.{mostNodes}
 use Rattle.cycles.specs.ModelGraph.{arcCells}
-use Rattle.sums.specs.TermsSums.{sumTo, tab}
+use Rattle.sums.specs.TermsSums.{tab}
 use Rattle.sums.specs.ModelSums.{maxTo, is}
 use Rattle.sums.proofs.Sum.{lt-or-ge}
 use Rattle.sets.specs.ModelBits.{bit, withoutOf, meetOf, differenceOf, leastOf}
@@ -22,7 +20,7 @@ use Rattle.swaps.proofs.Steps.{targets-spare}
 use Rattle.arcs.specs.ModelMoves.{weighs, joined, leads, moves, movesTo, noted}
 use Rattle.arcs.specs.ModelGrowth.{Grown, Written}
 use Rattle.arcs.proofs.Growing.{grown-same, grown-then, grown-joined, slot, by-weight, grown-noted, done-grows}
-use Rattle.sets.proofs.Scan.{Left, least-word, done-more, done-all}
+use Rattle.sets.proofs.Scan.{Left, least-word, done-all}
 
 -- ---- the nodes of a row
 

@@ -101,6 +101,10 @@ module _ {A : Type 0} where
       ∙ (getD-set-same (put b f n l) (b + n) (f n) d (omega (arith, length-put b f n l)) ∙ ap f (sym e)))
       (lt-or-ge j n)
 
+  -- The same of a list written from its first cell on.
+  pub getD-put-first : (f : ℕ → A) (n : ℕ) (l : List A) (j : ℕ) (d : A) → j < n → n ≤ length l → getD (put 0 f n l) j d ≡ f j
+  getD-put-first f n l j d a b = ap (λ (k : ℕ). getD (put 0 f n l) k d) (sym (zero-add j)) ∙ getD-put-in 0 f n l j d a (omega arith)
+
   -- Cells that are written again, all but those that stay the same.
   pub put-over : (d : A) (b : ℕ) (f g : ℕ → A) (m n : ℕ) (l : List A) → m ≤ n → b + n ≤ length l → ((i : ℕ) → m ≤ i → i < n → g i ≡ f i)
       → put b f m (put b g n l) ≡ put b f n l

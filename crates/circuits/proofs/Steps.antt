@@ -5,7 +5,7 @@ use mathlib.Core.Path.{_≡_, refl, sym, ap, _∙_, subst}
 use mathlib.Core.Bool.{Bool, true, false, cond, _&&_, and-true, and-false}
 use mathlib.Core.List.{List}
 use mathlib.Core.Logic.{⊎-elim}
-use native.Mathlib.Nat.{mul-one, one-mul, zero-add}
+use native.Mathlib.Nat.{mul-one, one-mul}
 use native.Mathlib.Numerals.{add-one}
 use native.Mathlib.Omega.{arith}
 use lib.Bits.{bitOr}
@@ -19,11 +19,11 @@ use Rattle.sums.specs.ModelSums.{is}
 use Rattle.sums.proofs.Sum.{lt-or-ge, is-eq}
 use Rattle.sums.proofs.Tests.{every-cong, every-fails}
 use Rattle.cluster.specs.Terms.{bufferRows}
-use Rattle.sets.specs.ModelBits.{maskBits, bit, withOf, withoutOf, bitsAt}
+use Rattle.sets.specs.ModelBits.{bit, withOf, withoutOf, bitsAt}
 use Rattle.sets.proofs.Bits.{bit-or, bit-pow}
 use Rattle.swaps.specs.ModelLeaves.{leafRows, ChangedIn}
 use Rattle.cells.specs.ModelCells.{put}
-use Rattle.cells.proofs.Cells.{put-more, length-put, getD-put-in, getD-put-out}
+use Rattle.cells.proofs.Cells.{put-more, length-put, getD-put-in, getD-put-first, getD-put-out}
 use Rattle.exchange.specs.ModelUncross.{Walk, Same, partner, firstCrossed, inner, outer, walk-costs, split, uncross}
 use Rattle.exchange.proofs.Uncross.{skip-low, skip-high, wrap-low, wrap-end, first-pair}
 use Rattle.exchange.proofs.Walk.{uncross-stop, uncross-go, uncross-same, same-trans}
@@ -31,10 +31,6 @@ use Rattle.walks.specs.ModelWalks.{okOf, witnessOf, walkIn, innerGains, renewed
 use Rattle.circuits.specs.ModelCircuits.{witnessIn, cycleOf, freedOf, exchanged, walkedOf, turnedOf}
 
 -- ---- cells
-
--- The cell of a list written from the beginning.
-pub getD-first : (f : ℕ → ℕ) (n : ℕ) (l : List ℕ) (i : ℕ) → i < n → n ≤ length l → getD (put 0 f n l) i 0 ≡ f i
-getD-first f n l i a b = ap (λ (k : ℕ). getD (put 0 f n l) k 0) (sym (zero-add i)) ∙ getD-put-in 0 f n l i 0 a (omega arith)
 
 -- One cell more that gives way to the one k further on.
 pub shift-more : (l : List ℕ) (b k t : ℕ)
@@ -253,10 +249,10 @@ pub loaded : (rows former : List ℕ) (P : ℕ) (mates arcs : List ℕ) (all z :
 loaded rows former P mates arcs all z nodes m ys qs y₀ q₀ e a f b =
     record {
       lens = refl;
-      nodes = λ t l. sym (ap (λ (s : List ℕ). getD s t 0) e ∙ getD-first (λ t. getD nodes t 0) (m + 1) y₀ t (omega arith) a);
+      nodes = λ t l. sym (ap (λ (s : List ℕ). getD s t 0) e ∙ getD-put-first (λ t. getD nodes t 0) (m + 1) y₀ t 0 (omega arith) a);
       partitions = λ t l.
           ap (λ (k : ℕ). witnessOf rows former P mates arcs all z (getD nodes k 0) (getD nodes t 0)) (sym (add-one t))
-          ∙ sym (ap (λ (s : List ℕ). getD s t 0) f ∙ getD-first (witnessIn nodes rows former P mates arcs all z) m q₀ t l b);
+          ∙ sym (ap (λ (s : List ℕ). getD s t 0) f ∙ getD-put-first (witnessIn nodes rows former P mates arcs all z) m q₀ t 0 l b);
     }
 
 -- New partitions for the arcs of a walk in cells, arc by arc: qs holds those of the first t arcs.
@@ -304,5 +300,5 @@ module _ (rows former : List ℕ) (P : ℕ) (mates : List ℕ) (all z : ℕ) (ca
         nodes = λ t l. refl;
         partitions = λ t l.
             ap (λ (k : ℕ). renewedAt rows former P mates all z (getD q₀ t 0) (getD ys k 0) (getD ys t 0)) (sym (add-one t))
-            ∙ sym (ap (λ (s : List ℕ). getD s t 0) e ∙ getD-first renewedIn m q₀ t l b);
+            ∙ sym (ap (λ (s : List ℕ). getD s t 0) e ∙ getD-put-first renewedIn m q₀ t 0 l b);
       }

@@ -8,8 +8,7 @@ use mathlib.Core.Logic.{⊎-elim}
 use native.Mathlib.Numerals.{add-one}
 use native.Mathlib.Omega.{arith}
 use lib.Dec.{ltb, eqb}
-use lib.ListN.{length, getD, take, List·getD-append}
-use lib.Seq.{length-take-le, getD-append-add, getD-take}
+use lib.ListN.{length, getD, take}
 use borrow.Author.Tests.{lt-ltb, le-ltb, eq-eqb}
 use Rattle.cells.proofs.Parts.{part-before, part-in}
 use Rattle.cluster.specs.Terms.{mostNodes}

@@ -16,19 +16,19 @@ use borrow.Author.Tests.{lt-ltb, le-ltb}
 use Rattle.cluster.specs.Terms.{mostNodes, bufferRows}
 use Rattle.cycles.specs.ModelGraph.{arcCells}
 use Rattle.sums.specs.TermsSums.{one-if, tab}
-use Rattle.sums.specs.ModelSums.{maxTo, is}
+use Rattle.sums.specs.ModelSums.{is}
 use Rattle.sums.proofs.Sum.{lt-or-ge, eq-or-ne, is-ne}
 use Rattle.sets.specs.ModelBits.{maskBits, bit}
 use Rattle.sets.proofs.Bits.{bit-or, bit-not}
-use Rattle.sets.proofs.Laws.{bit-le, bit-zero, bit-shr, bit-high, bit-none, mask-unique}
+use Rattle.sets.proofs.Laws.{bit-le, bit-zero, bit-shr, mask-unique}
 use Rattle.cells.proofs.Cells.{length-tab, getD-tab}
 use Rattle.cells.proofs.Parts.{part-before, part-in, part-after, part-length}
 use Rattle.swaps.specs.ModelLeaves.{leafRows, ChangedIn}
 use Rattle.arcs.specs.ModelMoves.{moves, movesTo}
 use Rattle.arcs.specs.ModelGrowth.{Grown, Written}
 use Rattle.graph.specs.ModelArcs.{copiesTo, roomy, cellOf, arcsOf}
-use Rattle.graph.specs.ModelKept.{parts, branchRows, mostLeaves, keptCells, Part, rowsIn, Leaf, Branch, Kept, Filled, unionAt, Merged, Gathered, Renewed}
-use Rattle.graph.proofs.Unions.{max-cong, union-same, branch-merged, all-moves}
+use Rattle.graph.specs.ModelKept.{parts, branchRows, mostLeaves, keptCells, Part, rowsIn, Leaf, Branch, Kept, Filled, Merged, Gathered, Renewed}
+use Rattle.graph.proofs.Unions.{max-cong, branch-merged, all-moves}
 
 -- ---- digits of the set of stale leaves
 

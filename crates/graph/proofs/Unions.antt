@@ -1,6 +1,6 @@
 -- What parts hold together: the laws of unions of cells, one turn of the loops that make them, and what they are of rows, over plain numbers and lists.
 -- Assumes nothing.
-use Prim.Native.Nat.{ℕ, zero, suc, _+_, _-_, _*_, _/_, _≤_, _<_, min, max}
+use Prim.Native.Nat.{ℕ, zero, suc, _+_, _-_, _*_, _≤_, _<_, min, max}
 use mathlib.Core.Path.{_≡_, refl, sym, ap, ap₂, _∙_}
 use mathlib.Core.List.{List}
 use mathlib.Core.Logic.{⊎-elim}
@@ -17,7 +17,7 @@ use Rattle.sums.proofs.Count.{max-le}
 use Rattle.sets.specs.ModelBits.{maskBits, bit, unionOf}
 use Rattle.sets.proofs.Laws.{bit-le, bit-zero, bit-maskOf, mask-cong, mask-unique}
 use Rattle.cells.specs.ModelCells.{put}
-use Rattle.cells.proofs.Cells.{length-put, put-next, getD-put-in, getD-put-out}
+use Rattle.cells.proofs.Cells.{length-put, put-next, getD-put-in, getD-put-first, getD-put-out}
 use Rattle.swaps.specs.ModelLeaves.{leafRows}
 use Rattle.arcs.specs.ModelMoves.{joined, moves, movesTo}
 use Rattle.graph.specs.ModelKept.{parts, branchRows, mostLeaves, Part, rowsIn, Leaf, Branch, unionTo, unionAt, Merged, Gathered}
@@ -116,12 +116,6 @@ module _ (kept : List ℕ) (k : ℕ) where
 put-read : (F : ℕ → ℕ) (t : ℕ) (l₀ l : List ℕ) → l ≡ put 0 F t l₀ → getD l t 0 ≡ getD l₀ t 0
 put-read F t l₀ l e = ap (λ (x : List ℕ). getD x t 0) e ∙ getD-put-out 0 F t l₀ t 0 (λ j h w. omega arith)
 
--- A cell that is written.
-put-first : (F : ℕ → ℕ) (n t : ℕ) (l : List ℕ) → t < n → n ≤ length l → getD (put 0 F n l) t 0 ≡ F t
-put-first F n t l h g =
-    let e : t ≡ 0 + t = omega arith in
-    ap (λ (k : ℕ). getD (put 0 F n l) k 0) e ∙ getD-put-in 0 F n l t 0 h (omega arith)
-
 -- A set more is joined.
 pub put-joined : (f : ℕ → ℕ) (t : ℕ) (l₀ l m : List ℕ) → l ≡ put 0 (λ t. unionOf (getD l₀ t 0) (f t)) t l₀ → m ≡ joined l t (f t)
     → m ≡ put 0 (λ t. unionOf (getD l₀ t 0) (f t)) (t + 1) l₀
@@ -137,7 +131,7 @@ pub unite-turn : (kept : List ℕ) (k n j : ℕ) (l m : List ℕ) → length l �
 unite-turn kept k n j l m e E em t q =
     let F : ℕ → ℕ = λ t. unionOf (getD l t 0) (getD kept ((k + n) * arcCells + j + t) 0) in
     union-more kept k n (j + t) ((k + n) * arcCells + j + t) (getD l t 0) (getD m t 0) (E t q) (omega arith)
-    (ap (λ (x : List ℕ). getD x t 0) em ∙ put-first F mostNodes t l q (omega arith))
+    (ap (λ (x : List ℕ). getD x t 0) em ∙ getD-put-first F mostNodes l t 0 q (omega arith))
 
 -- ---- a part that is written weight by weight
 

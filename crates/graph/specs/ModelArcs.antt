@@ -1,6 +1,6 @@
 -- The exchange graph of a layout as three sets for each node: cell `mostNodes` * h + a has the nodes that one of a's copies can go to at weight h - 1.
 -- Assumes nothing.
-use Prim.Native.Nat.{ℕ, _+_, _*_, _/_, _%_, min, max}
+use Prim.Native.Nat.{ℕ, _/_, _%_, min, max}
 use mathlib.Core.List.{List, _++_}
 use lib.ListN.{length, getD, drop}
 use lib.Dec.{ltb}

@@ -1,6 +1,6 @@
 -- What is kept of rows, in parts of `arcCells` cells: the sets that the rows of a leaf allow, for each leaf, and those of a branch, for each branch.
 -- Assumes nothing.
-use Prim.Native.Nat.{ℕ, _+_, _-_, _*_, _/_, _≤_, _<_, min}
+use Prim.Native.Nat.{ℕ, _+_, _-_, _*_, _/_, _<_, min}
 use mathlib.Core.Path.{_≡_}
 use mathlib.Core.List.{List}
 use lib.ListN.{length, getD, drop}

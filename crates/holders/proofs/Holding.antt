@@ -14,15 +14,11 @@ use Rattle.sums.specs.TermsSums.{sumTo}
 use Rattle.sums.specs.ModelSums.{is}
 use Rattle.sums.proofs.Sum.{eq-or-ne, is-eq, is-ne, is-le, is-cases, sum-cong, sum-le, sum-const, sum-zero, sum-cut, sum-term, sum-but-one}
 use Rattle.cluster.specs.Terms.{mostNodes, bufferRows}
-use Rattle.sets.specs.ModelBits.{maskBits, bit, bitsAt, memberOf, withOf, withoutOf, countOf, leastOf}
-use Rattle.sets.proofs.Laws.{bit-le, bit-zero, bit-high, member-true, member-false, bit-with, bit-without, least-taken}
+use Rattle.sets.specs.ModelBits.{maskBits, bit, bitsAt, memberOf, withOf, withoutOf, leastOf}
+use Rattle.sets.proofs.Laws.{bit-le, bit-zero, bit-high, member-true, member-false, bit-with, bit-without}
 use Rattle.sets.proofs.Scan.{Left, done-more, done-all}
 use Rattle.exchange.specs.ModelRow.{copies}
 use Rattle.holders.specs.ModelHolders.{setWords, holderCells, holderCell, countCell, holds, Counted, Held, Taken, Gone}
-
--- A set without its least member counts less.
-pub fewer : (left r rest : ℕ) → left < 2 ^ maskBits → (left ≡ 0 → ⊥) → r ≡ leastOf left → rest ≡ withoutOf left r → countOf rest < countOf left
-fewer left r rest h n e f = omega (arith, ap countOf (f ∙ ap (λ (x : ℕ). withoutOf left x) e), least-taken left h n)
 
 -- Two partitions of one word are the same where their numbers in it are.
 place : (p q : ℕ) → p / maskBits ≡ q / maskBits → is (p % maskBits) (q % maskBits) ≡ is p q

@@ -12,7 +12,7 @@ use borrow.Author.Tests.{eq-eqb, ne-eqb}
 use Rattle.sums.specs.ModelSums.{firstFrom}
 use Rattle.sums.proofs.Sum.{lt-or-ge, eq-or-ne}
 use Rattle.sums.proofs.Tests.{both, true-or-false}
-use Rattle.sums.proofs.First.{first-cases, first-cong, first-is-none}
+use Rattle.sums.proofs.First.{first-cases, first-is, first-not, first-cong, first-is-none}
 use Rattle.cluster.specs.Terms.{mostNodes, bufferRows}
 use Rattle.sets.specs.ModelBits.{maskBits, bit, memberOf, withoutOf, unionOf, meetOf, differenceOf, belowOf, countOf, leastOf}
 use Rattle.sets.proofs.Laws.{bit-le, bit-zero, bit-high, member-true, member-false, bit-true, bit-false, bit-without-same, bit-without-other, bit-union, bit-meet, bit-difference, bit-below, bit-below-not, meet-lt, difference-lt, least-before, least-at, least-some}
@@ -20,22 +20,6 @@ use Rattle.swaps.specs.ModelSwaps.{tightOf, targetsIn, targetsOf}
 use Rattle.holders.specs.ModelHolders.{setWords, Held}
 use Rattle.walks.specs.ModelWalks.{picked, Picks, okOf, siftedOf, suitsOf, suitsAt, roomAt}
 use Rattle.holders.proofs.Holding.{holds-at, count-none}
-
--- ---- the first index
-
--- An index that passes, after none that does, is the first.
-pub first-is : (t : ℕ → Bool) (n i r : ℕ) → i ≤ r → r < i + n → t r ≡ true → ((j : ℕ) → i ≤ j → j < r → t j ≡ false) → firstFrom t n i ≡ r
-first-is t n i r a b e h =
-    ⊎-elim
-    (λ s. ⊎-elim (λ l. absurd (false≢true (sym (h (firstFrom t n i) (s .0) l) ∙ s .2)))
-    (λ g. ⊎-elim (λ l. absurd (false≢true (sym (s .3 r a l) ∙ e))) (λ f. omega arith) (lt-or-ge r (firstFrom t n i)))
-    (lt-or-ge (firstFrom t n i) r))
-    (λ s. absurd (false≢true (sym (s .1 r a b) ∙ e))) (first-cases t n i)
-
--- Where none passes, the end is found.
-pub first-not : (t : ℕ → Bool) (n i : ℕ) → ((j : ℕ) → i ≤ j → j < i + n → t j ≡ false) → firstFrom t n i ≡ i + n
-first-not t n i h =
-    ⊎-elim (λ s. absurd (false≢true (sym (h (firstFrom t n i) (s .0) (s .1)) ∙ s .2))) (λ s. s .0) (first-cases t n i)
 
 -- ---- candidates
 

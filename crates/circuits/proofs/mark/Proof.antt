@@ -1,7 +1,5 @@
 -- `circuits::mark` meets its contract. Assumes nothing.
 use borrow.Author.Needs.{needs}
-use Prim.Native.Nat.{ℕ, _/_, max}
-use mathlib.Core.Path.{ap, _∙_}
 use native.Mathlib.Omega.{arith}
 use Rattle.circuits.proofs.Steps.{marked}
 use Rattle.circuits.proofs.mark.Statement.{statement}

@@ -2,7 +2,6 @@
 use borrow.Author.Needs.{needs}
 use Prim.Native.Nat.{ℕ}
 use native.Mathlib.Omega.{arith}
-use Rattle.cluster.specs.Terms.{mostNodes}
 use Rattle.graph.specs.ModelKept.{mostLeaves, unionAt}
 use Rattle.graph.proofs.Unions.{stored-none, stored-more, gathered}
 use Rattle.graph.proofs.gather.Statement.{statement}

@@ -7,13 +7,12 @@ use mathlib.Core.Path.{_≡_, refl, sym, ap, _∙_, subst}
 use mathlib.Core.Logic.{⊎-elim}
 use lib.ListN.{length}
 use Rattle.cluster.specs.Terms.{bufferRows}
-use Rattle.sums.specs.ModelSums.{is}
 use Rattle.sums.proofs.Sum.{lt-or-ge}
 use Rattle.sets.specs.ModelBits.{bit, countOf, leastOf}
 use Rattle.sets.proofs.Laws.{bit-zero, bit-high, bit-without, least-at, least-taken}
 use Rattle.sets.proofs.Scan.{Left, left-all, least-word, left-less}
 use Rattle.swaps.specs.ModelSwaps.{Tight}
-use Rattle.graph.specs.ModelKept.{parts, mostLeaves, keptCells, Filled}
+use Rattle.graph.specs.ModelKept.{parts, keptCells, Filled}
 use Rattle.graph.proofs.Keeping.{Filling, filling-more, renewed}
 use Rattle.graph.proofs.renew.Statement.{statement}
 use Rattle.graph.proofs.renew.Tie as tie

@@ -4,9 +4,9 @@ use mathlib.Core.Path.{sym, ap, _∙_, subst}
 use native.Mathlib.Omega.{arith}
 use Rattle.sums.specs.ModelSums.{is}
 use Rattle.sets.specs.ModelBits.{withoutOf, countOf}
-use Rattle.sets.proofs.Scan.{Left, left-all, left-less}
+use Rattle.sets.proofs.Scan.{Left, left-all, left-less, fewer}
 use Rattle.holders.specs.ModelHolders.{Counted, Taken}
-use Rattle.holders.proofs.Holding.{fewer, Partly, partly-none, partly-more, partly-all}
+use Rattle.holders.proofs.Holding.{Partly, partly-none, partly-more, partly-all}
 use borrow.Author.Needs.{needs}
 use Rattle.holders.proofs.hold.Statement.{statement}
 use Rattle.holders.proofs.hold.Tie as tie

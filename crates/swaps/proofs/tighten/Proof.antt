@@ -3,7 +3,7 @@ use Prim.Native.Nat.{ℕ, _≤_, _-_}
 use mathlib.Core.Path.{_≡_, ap, subst, _∙_}
 use native.Mathlib.Omega.{arith}
 use borrow.Author.Needs.{needs}
-use lib.ListN.{length, length-set, getD}
+use lib.ListN.{length, length-set}
 use Rattle.swaps.specs.ModelSwaps.{tightOf, Tight}
 use Rattle.swaps.proofs.Tightening.{tight-none, tight-more}
 use Rattle.swaps.proofs.tighten.Statement.{statement}
@@ -39,14 +39,13 @@ loop-less c = search needs
 
 loop-again : tie.Need-loop-again Inv-loop μ-loop
 loop-again c =
-    let t = c in
-    let k = t .before .before .before in
+    let k = c .before .before .before in
     let a = k .before .before .before .before .args in (
       search needs,
       search needs,
       simp length-set (search needs),
-      tight-more (a .mates .now) (a .z) (a .rows .now) (k .loop .p) (k .loop .tight) (t .tight .result) (k .loop .inv .3) (search needs)
-          (t .tight .ensures ∙ ap (tightOf (a .mates .now) (a .z)) (t .before .cell .ensures)),
+      tight-more (a .mates .now) (a .z) (a .rows .now) (k .loop .p) (k .loop .tight) (c .tight .result) (k .loop .inv .3) (search needs)
+          (c .tight .ensures ∙ ap (tightOf (a .mates .now) (a .z)) (c .before .cell .ensures)),
     )
 
 same-length : tie.Need-same-length Inv-loop μ-loop

@@ -6,7 +6,7 @@ use Rattle.sets.specs.ModelBits.{maskBits, bit, countOf, leastOf}
 use Rattle.sets.proofs.Laws.{bit-le, bit-without, least-at, least-some}
 use Rattle.swaps.specs.ModelSwaps.{Tight}
 use Rattle.walks.specs.ModelWalks.{siftedOf}
-use Rattle.holders.proofs.Holding.{fewer}
+use Rattle.sets.proofs.Scan.{fewer}
 use Rattle.walks.proofs.Finding.{sift-hit, sift-miss, sift-none}
 use borrow.Author.Needs.{needs}
 use Rattle.walks.proofs.sift.Statement.{statement}
