@@ -294,7 +294,7 @@ fn go(
     verdict(false, allowance)
 }
 
-// The run from the rows in hand, with an allowance of improvements.
+// The run from the rows in hand, with an allowance of improvements. `kept` is room for what the rows allow; it may hold anything.
 pub fn run(
     rows: &mut [u32],
     former: &[u32],
@@ -304,8 +304,9 @@ pub fn run(
     nodes: u32,
     z: u32,
     allowance: u32,
+    kept: &mut [u32],
 ) -> Ended
-    requires { ⌜ (partitions ≤ bufferRows) × (partitions ≤ length (now rows)) ⌝ }
+    requires { ⌜ (partitions ≤ bufferRows) × (partitions ≤ length (now rows)) × (length (now kept) ≡ keptCells) ⌝ }
     ensures { λ r. ⌜ (now (rows .exit)
         ≡ ranIn (now (former .entry)) partitions (now (mates .entry)) (now (caps .entry)) nodes z allowance (now (rows .entry)) .state .rows)
         × (r .finished
@@ -315,7 +316,6 @@ pub fn run(
 {
     let mut y = [0u32; cycles::WALK];
     let mut q = [0u32; cycles::WALK];
-    let mut kept = [0u32; graph::KEPT];
     let mut tight = [0u32; Cluster::PARTITIONS];
     swaps::tighten(mates, z, rows, partitions, &mut tight);
     let mut held = [0u32; holders::CELLS];
@@ -336,7 +336,7 @@ pub fn run(
         nodes,
         z,
         allowance,
-        &mut kept,
+        kept,
     )
 }
 

@@ -1,4 +1,4 @@
-// What planning prepares: clear scratch.
+// What planning leaves: clear scratch.
 ghost use mathlib.Core.Path.{_≡_};
 ghost use mathlib.Core.List.{_++_};
 ghost use Prim.Native.Nat.{_≤_};
