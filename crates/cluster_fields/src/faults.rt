@@ -5,7 +5,7 @@ ghost use mathlib.Core.Bool.{_||_, cond};
 ghost use Prim.Native.Nat.{ℕ, _≤_};
 ghost use lib.Dec.{ltb, leb, eqb};
 ghost use Rattle.cluster.specs.Terms.{mostNodes, topology, idsOf};
-ghost use Rattle.cluster_record.specs.RecordClusterFaults.{itemIn, lastOf, faultIn};
+ghost use Rattle.cluster_fields.specs.RecordClusterFaults.{itemIn, lastOf, faultIn};
 use cluster::Cluster;
 use cluster::refusal;
 
@@ -51,7 +51,7 @@ fn node_fault(count: usize, last: u32, id: u32) -> u32
 }
 
 // Of a whole field that is no former row.
-pub(crate) fn field_fault(bytes: &[u8], c: Cluster, tag: u8, start: usize) -> u32
+pub fn field_fault(bytes: &[u8], c: Cluster, tag: u8, start: usize) -> u32
     requires { ⌜ (c .count ≤ mostNodes) × (1 ≤ tag) × (tag ≤ 4) ⌝ }
     ensures { λ r. ⌜ ((next len : ℕ) → r ≡ faultIn (topology c) next (itemIn (now (bytes .entry)) tag start len)) ⌝ }
 {

@@ -1,10 +1,10 @@
--- `cluster_record::faults::node_fault` meets its contract: the tests stand in the order of the faults.
+-- `cluster_fields::faults::node_fault` meets its contract: the tests stand in the order of the faults.
 -- Assumes nothing.
 use borrow.Author.Tests.{eq-eqb, ne-eqb, le-leb, lt-leb}
-use Rattle.cluster_record.proofs.faults.node_fault.Statement.{statement}
-use Rattle.cluster_record.proofs.faults.node_fault.Tie as tie
-use Rattle.cluster_record.proofs.faults.node_fault.Reads as reads
-use Rattle.cluster_record.proofs.faults.node_fault.Lts as lts
+use Rattle.cluster_fields.proofs.faults.node_fault.Statement.{statement}
+use Rattle.cluster_fields.proofs.faults.node_fault.Tie as tie
+use Rattle.cluster_fields.proofs.faults.node_fault.Reads as reads
+use Rattle.cluster_fields.proofs.faults.node_fault.Lts as lts
 
 returns : tie.Need-returns
 returns c = simp (eq-eqb _ _ (c .if1 .taken))

@@ -10,8 +10,8 @@ use lib.ListN.{length}
 use borrow.Author.Tests.{le-ltb}
 use Rattle.cluster.specs.Terms.{mostBits, mostCopies, mostNodes, Topology, idsOf, mem, rising}
 use Rattle.fields.specs.RecordField.{numberAt, nodeAtByte, idsAt}
-use Rattle.cluster_record.specs.RecordClusterFaults.{itemIn, lastOf, faultIn}
-use Rattle.cluster_record.proofs.Items.{below-one, item-bits, item-replication, item-redundancy, item-node, item-five}
+use Rattle.cluster_fields.specs.RecordClusterFaults.{itemIn, lastOf, faultIn}
+use Rattle.cluster_fields.proofs.Items.{below-one, item-bits, item-replication, item-redundancy, item-node, item-five}
 
 -- What is said of a fault r of a row in a body of len bytes, in a cluster of so many bits.
 abbrev pub RowFault : List ℕ → ℕ → ℕ → ℕ → ℕ → ℕ → Type 0

@@ -9,7 +9,7 @@ ghost use Rattle.fields.specs.RecordField.{numberAt, idsAt};
 use cluster::refusal;
 
 // Of a former row in a body of so many bytes, where the partitions before `next` are passed.
-pub(crate) fn row_fault(bytes: &[u8], bits: u32, next: usize, start: usize, len: usize) -> u32
+pub fn row_fault(bytes: &[u8], bits: u32, next: usize, start: usize, len: usize) -> u32
     requires { ⌜ (bits ≤ mostBits) × (2 ≤ len) × (start + 2 ≤ length (now bytes)) ⌝ }
     ensures { λ r. ⌜ r ≡ cond (leb (2 ^ bits) (numberAt (now (bytes .entry)) start 2) || mem 0 (idsAt (now (bytes .entry)) (start + 2) ((len - 2) / 4))) 4
         (cond (ltb (numberAt (now (bytes .entry)) start 2) next || not (rising (idsAt (now (bytes .entry)) (start + 2) ((len - 2) / 4)))) 5 0) ⌝ }

@@ -1,15 +1,15 @@
--- `cluster_record::faults::last_id` meets its contract.
+-- `cluster_fields::faults::last_id` meets its contract.
 -- Assumes nothing.
 use mathlib.Core.Path.{_≡_, sym}
 use lib.ListN.{length}
 use Rattle.cells.proofs.Cells.{length-of-map}
-use Rattle.cluster_record.proofs.Items.{last-used, last-none}
+use Rattle.cluster_fields.proofs.Items.{last-used, last-none}
 use borrow.Author.Needs.{needs}
 use native.Mathlib.Omega.{arith}
-use Rattle.cluster_record.proofs.faults.last_id.Statement.{statement}
-use Rattle.cluster_record.proofs.faults.last_id.Tie as tie
-use Rattle.cluster_record.proofs.faults.last_id.Reads as reads
-use Rattle.cluster_record.proofs.faults.last_id.Lts as lts
+use Rattle.cluster_fields.proofs.faults.last_id.Statement.{statement}
+use Rattle.cluster_fields.proofs.faults.last_id.Tie as tie
+use Rattle.cluster_fields.proofs.faults.last_id.Reads as reads
+use Rattle.cluster_fields.proofs.faults.last_id.Lts as lts
 
 returns : tie.Need-returns
 returns c = sym (last-none (c .before .args .t1 .nodes) (c .before .args .t1 .count) (c .if1 .taken))

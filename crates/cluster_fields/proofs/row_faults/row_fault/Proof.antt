@@ -1,4 +1,4 @@
--- `cluster_record::row_faults::row_fault` meets its contract: ids that rise have no 0 among them, so of those the order is all that is left.
+-- `cluster_fields::row_faults::row_fault` meets its contract: ids that rise have no 0 among them, so of those the order is all that is left.
 -- Assumes nothing.
 use Prim.Native.Nat.{_+_, _-_, _/_, _^_, _≤_, _<_}
 use mathlib.Core.Path.{_≡_, sym, _∙_}
@@ -11,10 +11,10 @@ use Rattle.cluster.proofs.Accepting.{partitions-in-range}
 use Rattle.cluster.proofs.partitions.Reads as partitions-reads
 use borrow.Author.Needs.{needs}
 use native.Mathlib.Omega.{arith}
-use Rattle.cluster_record.proofs.row_faults.row_fault.Statement.{statement}
-use Rattle.cluster_record.proofs.row_faults.row_fault.Tie as tie
-use Rattle.cluster_record.proofs.row_faults.row_fault.Reads as reads
-use Rattle.cluster_record.proofs.row_faults.row_fault.Lts as lts
+use Rattle.cluster_fields.proofs.row_faults.row_fault.Statement.{statement}
+use Rattle.cluster_fields.proofs.row_faults.row_fault.Tie as tie
+use Rattle.cluster_fields.proofs.row_faults.row_fault.Reads as reads
+use Rattle.cluster_fields.proofs.row_faults.row_fault.Lts as lts
 use Rattle.fields.proofs.ids.has_zero.Reads as has-zero-reads
 use Rattle.fields.proofs.ids.ids_rise.Reads as ids-rise-reads
 use Rattle.fields.proofs.pair_at.Reads as pair-at-reads

@@ -16,7 +16,7 @@ use Rattle.cluster.specs.declared.Node.{Node}
 use Rattle.cluster.specs.Terms.{mostNodes, Topology, partitions, Layout, noNode, idsOf, mem, rising, risingFrom}
 use Rattle.cluster.proofs.Lists.{rising-head, rising-cons, rising-tail, rising-none, rising-fresh}
 use Rattle.fields.specs.RecordField.{numberAt, nodeAtByte, idsAt}
-use Rattle.cluster_record.specs.RecordClusterFaults.{BitsOf, ReplicationOf, RedundancyOf, OneNode, FormerRow, itemIn, formerWith, lastOf, faultIn}
+use Rattle.cluster_fields.specs.RecordClusterFaults.{BitsOf, ReplicationOf, RedundancyOf, OneNode, FormerRow, itemIn, formerWith, lastOf, faultIn}
 
 -- ---- tests
 
@@ -87,14 +87,6 @@ pub rising-snoc : (k : ℕ) (l : List ℕ) (x : ℕ) → risingFrom k l ≡ true
 unfolding lastOf
 rising-snoc k [] x h a = rising-cons k x [] a (rising-none x)
 rising-snoc k (y ∷ l) x h a = rising-cons k y (l ++ (x ∷ [])) (rising-head k y l h) (rising-snoc y l x (rising-tail k y l h) a)
-
--- And conversely.
-pub snoc-rising : (k : ℕ) (l : List ℕ) (x : ℕ) → risingFrom k (l ++ (x ∷ [])) ≡ true → (risingFrom k l ≡ true) × (lastOf k l < x)
-unfolding lastOf
-snoc-rising k [] x h = (rising-none k, rising-head k x [] h)
-snoc-rising k (y ∷ l) x h =
-    let r = snoc-rising y l x (rising-tail k y (l ++ (x ∷ [])) h) in
-    (rising-cons k y l (rising-head k y (l ++ (x ∷ [])) h) (r .0), r .1)
 
 -- ---- the faults
 

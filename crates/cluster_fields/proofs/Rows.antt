@@ -13,8 +13,8 @@ use Rattle.cells.proofs.Cells.{length-put, getD-put-in, getD-put-out}
 use Rattle.cluster.specs.Terms.{mostCopies, rowCells, bufferRows, layoutCells, Layout, row, cellsOf}
 use Rattle.cluster.proofs.CellLayouts.{length-cellsOf, getD-cellsOf}
 use Rattle.fields.specs.RecordField.{numberAt, rowWidth, idsAt}
-use Rattle.cluster_record.specs.RecordClusterFaults.{Item, itemIn, upTo, formerWith}
-use Rattle.cluster_record.proofs.Items.{item-five}
+use Rattle.cluster_fields.specs.RecordClusterFaults.{Item, itemIn, upTo, formerWith}
+use Rattle.cluster_fields.proofs.Items.{item-five}
 use Rattle.fields.proofs.IdBytes.{length-ids, getD-ids}
 
 -- What holds of every element of a list, of one more and of the default holds of every element of the longer list.

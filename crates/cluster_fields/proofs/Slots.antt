@@ -9,7 +9,7 @@ use lib.Seq.{set-append-seam}
 use Rattle.cluster.specs.Terms.{mostNodes, Topology, noNode}
 use Rattle.cluster.specs.declared.Cluster.{Cluster}
 use Rattle.cluster.specs.declared.Node.{Node}
-use Rattle.cluster_record.specs.RecordClusterFaults.{BitsOf, ReplicationOf, RedundancyOf, OneNode, withItem}
+use Rattle.cluster_fields.specs.RecordClusterFaults.{BitsOf, ReplicationOf, RedundancyOf, OneNode, withItem}
 use Rattle.cluster.specs.TermsReading.{slotsOf}
 
 module _ (t : Topology) (c : Cluster) (e : c ≡ slotsOf t) where

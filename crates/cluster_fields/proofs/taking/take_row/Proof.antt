@@ -1,12 +1,12 @@
--- `cluster_record::taking::take_row` meets its contract.
+-- `cluster_fields::taking::take_row` meets its contract.
 -- Assumes nothing.
-use Rattle.cluster_record.proofs.Rows.{taken-row}
+use Rattle.cluster_fields.proofs.Rows.{taken-row}
 use borrow.Author.Needs.{needs}
 use native.Mathlib.Omega.{arith}
-use Rattle.cluster_record.proofs.taking.take_row.Statement.{statement}
-use Rattle.cluster_record.proofs.taking.take_row.Tie as tie
-use Rattle.cluster_record.proofs.taking.take_row.Reads as reads
-use Rattle.cluster_record.proofs.taking.take_row.Lts as lts
+use Rattle.cluster_fields.proofs.taking.take_row.Statement.{statement}
+use Rattle.cluster_fields.proofs.taking.take_row.Tie as tie
+use Rattle.cluster_fields.proofs.taking.take_row.Reads as reads
+use Rattle.cluster_fields.proofs.taking.take_row.Lts as lts
 use Rattle.fields.proofs.ids.put_ids.Reads as put-ids-reads
 use Rattle.fields.proofs.pair_at.Reads as pair-at-reads
 

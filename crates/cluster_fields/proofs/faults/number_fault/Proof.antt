@@ -1,10 +1,10 @@
--- `cluster_record::faults::number_fault` meets its contract.
+-- `cluster_fields::faults::number_fault` meets its contract.
 -- Assumes nothing.
 use borrow.Author.Tests.{lt-ltb, le-ltb}
-use Rattle.cluster_record.proofs.faults.number_fault.Statement.{statement}
-use Rattle.cluster_record.proofs.faults.number_fault.Tie as tie
-use Rattle.cluster_record.proofs.faults.number_fault.Reads as reads
-use Rattle.cluster_record.proofs.faults.number_fault.Lts as lts
+use Rattle.cluster_fields.proofs.faults.number_fault.Statement.{statement}
+use Rattle.cluster_fields.proofs.faults.number_fault.Tie as tie
+use Rattle.cluster_fields.proofs.faults.number_fault.Reads as reads
+use Rattle.cluster_fields.proofs.faults.number_fault.Lts as lts
 
 returns : tie.Need-returns
 returns c = simp (lt-ltb _ _ (c .if1 .taken))

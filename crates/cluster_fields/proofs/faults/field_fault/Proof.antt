@@ -1,4 +1,4 @@
--- `cluster_record::faults::field_fault` meets its contract: the faults by the tag.
+-- `cluster_fields::faults::field_fault` meets its contract: the faults by the tag.
 -- Assumes nothing.
 use mathlib.Core.Path.{_≡_, sym, ap}
 use lib.ListN.{length}
@@ -6,16 +6,16 @@ use lib.Seq.{length-take-le}
 use Rattle.cells.proofs.Cells.{length-of-map}
 use Rattle.cluster.specs.Terms.{topology}
 use Rattle.cluster.specs.declared.Node.{Node}
-use Rattle.cluster_record.proofs.FieldFaults.{bits-fault, replication-fault, redundancy-fault, node-fault}
+use Rattle.cluster_fields.proofs.FieldFaults.{bits-fault, replication-fault, redundancy-fault, node-fault}
 use borrow.Author.Needs.{needs}
 use native.Mathlib.Omega.{arith}
-use Rattle.cluster_record.proofs.faults.field_fault.Statement.{statement}
-use Rattle.cluster_record.proofs.faults.field_fault.Tie as tie
-use Rattle.cluster_record.proofs.faults.field_fault.Reads as reads
-use Rattle.cluster_record.proofs.faults.field_fault.Lts as lts
-use Rattle.cluster_record.proofs.faults.last_id.Reads as last-id-reads
-use Rattle.cluster_record.proofs.faults.node_fault.Reads as node-fault-reads
-use Rattle.cluster_record.proofs.faults.number_fault.Reads as number-fault-reads
+use Rattle.cluster_fields.proofs.faults.field_fault.Statement.{statement}
+use Rattle.cluster_fields.proofs.faults.field_fault.Tie as tie
+use Rattle.cluster_fields.proofs.faults.field_fault.Reads as reads
+use Rattle.cluster_fields.proofs.faults.field_fault.Lts as lts
+use Rattle.cluster_fields.proofs.faults.last_id.Reads as last-id-reads
+use Rattle.cluster_fields.proofs.faults.node_fault.Reads as node-fault-reads
+use Rattle.cluster_fields.proofs.faults.number_fault.Reads as number-fault-reads
 use Rattle.fields.proofs.byte_at.Reads as byte-at-reads
 use Rattle.fields.proofs.node_at.Reads as node-at-reads
 

@@ -1,19 +1,19 @@
--- `cluster_record::taking::cluster_with` meets its contract: each tag puts its values where they belong.
+-- `cluster_fields::taking::cluster_with` meets its contract: each tag puts its values where they belong.
 -- Assumes nothing.
 use Prim.Native.Nat.{ℕ, _<_}
 use mathlib.Core.Path.{sym, ap, _∙_}
 use Rattle.cluster.specs.Terms.{mostNodes}
 use Rattle.cluster.specs.declared.Node.{Node}
-use Rattle.cluster_record.specs.RecordClusterFaults.{Item, BitsOf, ReplicationOf, RedundancyOf, OneNode, withItem}
+use Rattle.cluster_fields.specs.RecordClusterFaults.{Item, BitsOf, ReplicationOf, RedundancyOf, OneNode, withItem}
 use Rattle.cluster.specs.TermsReading.{slotsOf}
-use Rattle.cluster_record.proofs.Items.{item-bits, item-replication, item-redundancy, item-node}
-use Rattle.cluster_record.proofs.Slots.{slots-bits, slots-replication, slots-redundancy, slots-node}
+use Rattle.cluster_fields.proofs.Items.{item-bits, item-replication, item-redundancy, item-node}
+use Rattle.cluster_fields.proofs.Slots.{slots-bits, slots-replication, slots-redundancy, slots-node}
 use borrow.Author.Needs.{needs}
 use native.Mathlib.Omega.{arith}
-use Rattle.cluster_record.proofs.taking.cluster_with.Statement.{statement}
-use Rattle.cluster_record.proofs.taking.cluster_with.Tie as tie
-use Rattle.cluster_record.proofs.taking.cluster_with.Reads as reads
-use Rattle.cluster_record.proofs.taking.cluster_with.Lts as lts
+use Rattle.cluster_fields.proofs.taking.cluster_with.Statement.{statement}
+use Rattle.cluster_fields.proofs.taking.cluster_with.Tie as tie
+use Rattle.cluster_fields.proofs.taking.cluster_with.Reads as reads
+use Rattle.cluster_fields.proofs.taking.cluster_with.Lts as lts
 use Rattle.fields.proofs.byte_at.Reads as byte-at-reads
 use Rattle.fields.proofs.node_at.Reads as node-at-reads
 
