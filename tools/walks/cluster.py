@@ -1,7 +1,7 @@
 # The walk over the fields of a cluster record: `cluster_record::walk`.
 from walk import CELL_TERMS, FIELD, READER, RECORD, RECORD_TERMS, TYPES, U8, U32, USES, USIZE, Callee, Walk, struct, used
 
-OWN = 'cluster_record'
+OWN, FIELDS = 'cluster_record', 'cluster_fields'
 CLUSTER, ANSWER = struct('Cluster', 'Cl'), struct('ReadCluster', 'An')
 
 NONE = Callee('Empty', 'empty', 'cluster', 'Cluster::none', [], CLUSTER, 'r ≡ noNodes')
@@ -10,15 +10,15 @@ NEXT = Callee('Next', 'next', 'fields', 'reader::next', [(READER, 'at'), (U32, '
               '(r ≡ fieldAt bytes at (tagsOf al) 0) × Within n at (tagsOf al) 0 r')
 REFUSAL = Callee('RefusalOf', 'refusal-of', 'fields', 'refusal_of', [(FIELD, 'f')], U32, 'r ≡ refusalOf f')
 PLACE = Callee('PlaceOf', 'place-of', 'fields', 'place_of', [(FIELD, 'f')], USIZE, 'r ≡ placeOf f')
-FAULT = Callee('Fault', 'fault', OWN, 'faults::field_fault', [(RECORD, 's'), (CLUSTER, 'c'), (U8, 'tag'), (USIZE, 'start')], U32,
+FAULT = Callee('Fault', 'fault', FIELDS, 'faults::field_fault', [(RECORD, 's'), (CLUSTER, 'c'), (U8, 'tag'), (USIZE, 'start')], U32,
                '(next len : ℕ) → r ≡ faultIn (topology c) next (itemIn bytes tag start len)', '(c .count ≤ mostNodes) × (1 ≤ tag) × (tag ≤ 4)')
-ROW_FAULT = Callee('OfRow', 'row-fault', OWN, 'row_faults::row_fault', [(RECORD, 's'), (U32, 'bits'), (USIZE, 'next'), (USIZE, 'start'), (USIZE, 'len')], U32,
+ROW_FAULT = Callee('OfRow', 'row-fault', FIELDS, 'row_faults::row_fault', [(RECORD, 's'), (U32, 'bits'), (USIZE, 'next'), (USIZE, 'start'), (USIZE, 'len')], U32,
                    'RowFault bytes bits next start len r', '(bits ≤ mostBits) × (2 ≤ len) × (start + 2 ≤ n)')
 REFUSED = Callee('Refusing', 'refused', OWN, 'refused', [(U32, 'refusal'), (USIZE, 'byte')], ANSWER, 'r ≡ clusterAnswer (clusterRefused refusal byte)')
-WITH = Callee('With', 'with', OWN, 'taking::cluster_with', [(RECORD, 's'), (CLUSTER, 'c'), (U8, 'tag'), (USIZE, 'start')], CLUSTER,
+WITH = Callee('With', 'with', FIELDS, 'taking::cluster_with', [(RECORD, 's'), (CLUSTER, 'c'), (U8, 'tag'), (USIZE, 'start')], CLUSTER,
               '(t : Topology) (len : ℕ) → c ≡ slotsOf t → r ≡ slotsOf (withItem t (itemIn bytes tag start len))',
               '(1 ≤ tag) × (tag ≤ 4) × (tag ≡ 4 → c .count < mostNodes)')
-ROW = Callee('Row', 'row', OWN, 'taking::take_row', [(RECORD, 's'), (USIZE, 'start'), (USIZE, 'len')], USIZE,
+ROW = Callee('Row', 'row', FIELDS, 'taking::take_row', [(RECORD, 's'), (USIZE, 'start'), (USIZE, 'len')], USIZE,
              '(F : Layout) → ys ≡ cellsOf F → length F ≤ numberAt bytes start 2\n'
              '      → (zs ≡ cellsOf (formerWith F (itemIn bytes 5 start len))) × (r ≡ length (formerWith F (itemIn bytes 5 start len)))',
              '(length ys ≡ layoutCells) × (numberAt bytes start 2 < bufferRows) × (rowWidth 1 ≤ len) × (len ≤ rowWidth mostCopies) × (start + len ≤ n)',
@@ -61,12 +61,13 @@ use Rattle.cluster.specs.declared.Cluster.{{Cluster}}
 use Rattle.cluster.proofs.Cluster as Cl
 use Rattle.cluster.proofs.Cluster.Laws as Cl′
 use {SPECS}.declared.ReadCluster.{{ReadCluster}}
-use {SPECS}.RecordClusterFaults.{{Reading, allowedAfter, itemIn, withItem, formerWith, faultIn, clusterRefused, ended as endedOf}}
+use Rattle.{FIELDS}.specs.RecordClusterFaults.{{itemIn, withItem, formerWith, faultIn}}
+use {SPECS}.RecordClusterReading.{{Reading, allowedAfter, clusterRefused, ended as endedOf}}
 use {SPECS}.RecordClusterAnswer.{{clusterAnswer}}
 use {PROOFS}.ReadCluster as An
 use {PROOFS}.ReadCluster.Laws as An′
 use {PROOFS}.Walked.{{Walked, Met, Says, says-refused, says-ended, walked-start, walked-bits, walked-count, walked-length, walked-refused, walked-tag, walked-inside, walked-row, walked-row-fault, walked-fault, walked-room, walked-partition, walked-on-row, walked-on-other}}
-use {PROOFS}.FieldFaults.{{RowFault}}
+use Rattle.{FIELDS}.proofs.FieldFaults.{{RowFault}}
 {w.uses()}'''
 STAYED = f'''
 abbrev stayed : Stays (walk.ended .signature .params) (walk.ended .kept)

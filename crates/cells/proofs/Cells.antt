@@ -101,6 +101,34 @@ module _ {A : Type 0} where
       ∙ (getD-set-same (put b f n l) (b + n) (f n) d (omega (arith, length-put b f n l)) ∙ ap f (sym e)))
       (lt-or-ge j n)
 
+  -- The same of a list written from its first cell on.
+  pub getD-put-first : (f : ℕ → A) (n : ℕ) (l : List A) (j : ℕ) (d : A) → j < n → n ≤ length l → getD (put 0 f n l) j d ≡ f j
+  getD-put-first f n l j d a b = ap (λ (k : ℕ). getD (put 0 f n l) k d) (sym (zero-add j)) ∙ getD-put-in 0 f n l j d a (omega arith)
+
+  -- Cells that are written again, all but those that stay the same.
+  pub put-over : (d : A) (b : ℕ) (f g : ℕ → A) (m n : ℕ) (l : List A) → m ≤ n → b + n ≤ length l → ((i : ℕ) → m ≤ i → i < n → g i ≡ f i)
+      → put b f m (put b g n l) ≡ put b f n l
+  put-over d b f g m n l k long same =
+      ext-getD d (put b f m (put b g n l)) (put b f n l) (length-put b f m (put b g n l) ∙ (size ∙ sym (length-put b f n l)))
+      (λ q h. ⊎-elim (λ a. outside q (λ j c e. omega arith))
+      (λ a. ⊎-elim
+      (λ c. let e : q ≡ b + (q - b) = omega arith in
+      ap (λ (i : ℕ). getD (put b f m (put b g n l)) i d) e ∙ (inside (q - b) (omega arith) ∙ (sym (getD-put-in b f n l (q - b) d (omega arith) long) ∙ ap (λ (i : ℕ). getD (put b f n l) i d) (sym e))))
+      (λ c. outside q (λ j i e. omega arith)) (lt-or-ge q (b + n)))
+      (lt-or-ge q b))
+    where
+      size : length (put b g n l) ≡ length l
+      size = length-put b g n l
+
+      outside : (q : ℕ) → ((j : ℕ) → j < n → q ≡ b + j → ⊥) → getD (put b f m (put b g n l)) q d ≡ getD (put b f n l) q d
+      outside q o = getD-put-out b f m (put b g n l) q d (λ j c. o j (omega arith)) ∙ (getD-put-out b g n l q d o ∙ sym (getD-put-out b f n l q d o))
+
+      inside : (j : ℕ) → j < n → getD (put b f m (put b g n l)) (b + j) d ≡ f j
+      inside j c =
+          ⊎-elim (λ a. getD-put-in b f m (put b g n l) j d a (omega (arith, size)))
+          (λ a. getD-put-out b f m (put b g n l) (b + j) d (λ i h e. omega arith) ∙ (getD-put-in b g n l j d c long ∙ same j a c))
+          (lt-or-ge j m)
+
   -- What a scan of the first n cells has before it at cell i: that cell, then what it has before it at cell i + 1.
   pub rest-cons : (l : List A) (n i : ℕ) (d : A) → i < n → n ≤ length l → take (n - i) (drop i l) ≡ getD l i d ∷ take (n - (i + 1)) (drop (i + 1) l)
   rest-cons l n i d h k =

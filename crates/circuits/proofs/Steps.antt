@@ -1,26 +1,29 @@
 -- The steps of the loops, over plain lists and numbers: cells that are written or shifted, parts of a walk, and the exchanges of a walk.
 -- Assumes nothing.
-use Prim.Native.Nat.{ℕ, zero, suc, _+_, _-_, _*_, _/_, _^_, _≤_, _<_}
+use Prim.Native.Nat.{ℕ, zero, suc, _+_, _-_, _*_, _/_, _%_, _^_, _≤_, _<_, max}
 use mathlib.Core.Path.{_≡_, refl, sym, ap, _∙_, subst}
 use mathlib.Core.Bool.{Bool, true, false, cond, _&&_, and-true, and-false}
 use mathlib.Core.List.{List}
 use mathlib.Core.Logic.{⊎-elim}
-use native.Mathlib.Nat.{mul-one, zero-add}
+use native.Mathlib.Nat.{mul-one, one-mul}
 use native.Mathlib.Numerals.{add-one}
 use native.Mathlib.Omega.{arith}
+use lib.Bits.{bitOr}
 use lib.Dec.{ltb}
+use lib.Pow.{shl-exact}
 use lib.ListN.{length, getD, set, length-set}
 use lib.Seq.{getD-set-same, getD-set-other}
 use borrow.Author.Tests.{lt-ltb, le-ltb}
 use Rattle.sums.specs.TermsSums.{everyTo}
-use Rattle.sums.proofs.Sum.{lt-or-ge}
+use Rattle.sums.specs.ModelSums.{is}
+use Rattle.sums.proofs.Sum.{lt-or-ge, is-eq}
 use Rattle.sums.proofs.Tests.{every-cong, every-fails}
 use Rattle.cluster.specs.Terms.{bufferRows}
-use Rattle.sets.specs.ModelBits.{maskBits, bit, withOf, withoutOf, bitsAt}
-use Rattle.sets.proofs.Laws.{bit-high, bit-with, bit-with-same}
-use Rattle.swaps.specs.ModelBlocks.{blockRows, ChangedIn}
+use Rattle.sets.specs.ModelBits.{bit, withOf, withoutOf, bitsAt}
+use Rattle.sets.proofs.Bits.{bit-or, bit-pow}
+use Rattle.swaps.specs.ModelLeaves.{leafRows, ChangedIn}
 use Rattle.cells.specs.ModelCells.{put}
-use Rattle.cells.proofs.Cells.{put-more, length-put, getD-put-in, getD-put-out}
+use Rattle.cells.proofs.Cells.{put-more, length-put, getD-put-in, getD-put-first, getD-put-out}
 use Rattle.exchange.specs.ModelUncross.{Walk, Same, partner, firstCrossed, inner, outer, walk-costs, split, uncross}
 use Rattle.exchange.proofs.Uncross.{skip-low, skip-high, wrap-low, wrap-end, first-pair}
 use Rattle.exchange.proofs.Walk.{uncross-stop, uncross-go, uncross-same, same-trans}
@@ -28,10 +31,6 @@ use Rattle.walks.specs.ModelWalks.{okOf, witnessOf, walkIn, innerGains, renewed
 use Rattle.circuits.specs.ModelCircuits.{witnessIn, cycleOf, freedOf, exchanged, walkedOf, turnedOf}
 
 -- ---- cells
-
--- The cell of a list written from the beginning.
-pub getD-first : (f : ℕ → ℕ) (n : ℕ) (l : List ℕ) (i : ℕ) → i < n → n ≤ length l → getD (put 0 f n l) i 0 ≡ f i
-getD-first f n l i a b = ap (λ (k : ℕ). getD (put 0 f n l) k 0) (sym (zero-add i)) ∙ getD-put-in 0 f n l i 0 a (omega arith)
 
 -- One cell more that gives way to the one k further on.
 pub shift-more : (l : List ℕ) (b k t : ℕ)
@@ -185,18 +184,23 @@ module _ (P : ℕ) (y q : ℕ → ℕ) (rows : List ℕ) where
       go e true = length-set (exchanged P y q i rows) (q i) (withOf (withoutOf (getD (exchanged P y q i rows) (q i) 0) (y (suc i))) (y i)) ∙ e
       go e false = e
 
--- Nothing changed in any block.
+-- Nothing changed in any leaf.
 pub changed-none : (m : ℕ) (rows : List ℕ) → ChangedIn m rows rows
 changed-none m rows = record { others = λ p e. refl }
 
--- A row changed, and its block is told.
-pub changed-row : (m p v : ℕ) (rows r : List ℕ) → m < 2 ^ maskBits → p < bufferRows → ChangedIn m rows r → ChangedIn (withOf m (p / blockRows)) rows (set r p v)
-changed-row m p v rows r w l C =
+-- The leaf of p in the set of leaves.
+pub marked : (m p l : ℕ) → p < bufferRows → bit (bitOr m (1 * 2 ^ (p / leafRows) % 2 ^ 64)) l ≡ max (bit m l) (is (p / leafRows) l)
+marked m p l h =
+    bit-or m (1 * 2 ^ (p / leafRows) % 2 ^ 64) l
+    ∙ ap (max (bit m l)) (ap (λ (x : ℕ). bit x l) (shl-exact 1 (p / leafRows) 64 (omega arith) (omega arith) ∙ one-mul (2 ^ (p / leafRows))) ∙ bit-pow (p / leafRows) l)
+
+-- A row changed, and its leaf is told.
+pub changed-row : (m n p v : ℕ) (rows r : List ℕ) → ((l : ℕ) → bit n l ≡ max (bit m l) (is (p / leafRows) l)) → ChangedIn m rows r → ChangedIn n rows (set r p v)
+changed-row m n p v rows r told C =
     record {
       others = λ q e.
-          getD-set-other r p q v 0 (λ d. omega (arith, e, ap (λ (k : ℕ). bit (withOf m (p / blockRows)) (k / blockRows)) d, bit-with-same m (p / blockRows) (omega arith)))
-          ∙ C .others q
-          (⊎-elim (λ h. omega (arith, e, bit-with m (p / blockRows) (q / blockRows) h)) (λ h. bit-high maskBits m (q / blockRows) w h) (lt-or-ge (q / blockRows) maskBits));
+          getD-set-other r p q v 0 (λ d. omega (arith, e, told (q / leafRows), is-eq {a = p / leafRows} {b = q / leafRows} (ap (λ (k : ℕ). k / leafRows) (sym d))))
+          ∙ C .others q (omega (arith, e, told (q / leafRows)));
     }
 
 -- Walks that are the same make the same exchanges.
@@ -245,10 +249,10 @@ pub loaded : (rows former : List ℕ) (P : ℕ) (mates arcs : List ℕ) (all z :
 loaded rows former P mates arcs all z nodes m ys qs y₀ q₀ e a f b =
     record {
       lens = refl;
-      nodes = λ t l. sym (ap (λ (s : List ℕ). getD s t 0) e ∙ getD-first (λ t. getD nodes t 0) (m + 1) y₀ t (omega arith) a);
+      nodes = λ t l. sym (ap (λ (s : List ℕ). getD s t 0) e ∙ getD-put-first (λ t. getD nodes t 0) (m + 1) y₀ t 0 (omega arith) a);
       partitions = λ t l.
           ap (λ (k : ℕ). witnessOf rows former P mates arcs all z (getD nodes k 0) (getD nodes t 0)) (sym (add-one t))
-          ∙ sym (ap (λ (s : List ℕ). getD s t 0) f ∙ getD-first (witnessIn nodes rows former P mates arcs all z) m q₀ t l b);
+          ∙ sym (ap (λ (s : List ℕ). getD s t 0) f ∙ getD-put-first (witnessIn nodes rows former P mates arcs all z) m q₀ t 0 l b);
     }
 
 -- New partitions for the arcs of a walk in cells, arc by arc: qs holds those of the first t arcs.
@@ -296,5 +300,5 @@ module _ (rows former : List ℕ) (P : ℕ) (mates : List ℕ) (all z : ℕ) (ca
         nodes = λ t l. refl;
         partitions = λ t l.
             ap (λ (k : ℕ). renewedAt rows former P mates all z (getD q₀ t 0) (getD ys k 0) (getD ys t 0)) (sym (add-one t))
-            ∙ sym (ap (λ (s : List ℕ). getD s t 0) e ∙ getD-first renewedIn m q₀ t l b);
+            ∙ sym (ap (λ (s : List ℕ). getD s t 0) e ∙ getD-put-first renewedIn m q₀ t 0 l b);
       }

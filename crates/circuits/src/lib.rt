@@ -3,13 +3,15 @@
 // a walk of m arcs is two slices, its m + 1 nodes and the partitions of its arcs.
 ghost use mathlib.Core.Path.{_≡_};
 ghost use mathlib.Core.Bool.{true};
-ghost use Prim.Native.Nat.{_+_, _-_, _≤_, _<_};
+ghost use Prim.Native.Nat.{ℕ, _+_, _-_, _/_, _≤_, _<_, max};
 ghost use lib.ListN.{length, getD, set};
 ghost use Rattle.cells.specs.ModelCells.{put};
 ghost use Rattle.cluster.specs.Terms.{mostNodes, bufferRows};
 ghost use Rattle.exchange.specs.ModelUncross.{split, Same};
-ghost use Rattle.sets.specs.ModelBits.{bitsAt, withOf, withoutOf};
-ghost use Rattle.swaps.specs.ModelBlocks.{ChangedIn};
+ghost use Rattle.sums.specs.ModelSums.{is};
+ghost use Rattle.sets.specs.ModelBits.{bit, bitsAt, withOf, withoutOf};
+ghost use Rattle.swaps.specs.ModelLeaves.{leafRows, ChangedIn};
+ghost use Rattle.swaps.specs.ModelSwaps.{Tight};
 ghost use Rattle.holders.specs.ModelHolders.{Held};
 ghost use Rattle.walks.specs.ModelWalks.{walkIn, renewed, stands};
 ghost use Rattle.circuits.specs.ModelCircuits.{cycleOf, freedOf, walkedOf, turnedOf};
@@ -22,6 +24,7 @@ pub fn load(
     walk: &[u32],
     m: usize,
     rows: &[u32],
+    tight: &[u32],
     held: &[u32],
     former: &[u32],
     had: &[u32],
@@ -32,7 +35,7 @@ pub fn load(
     z: u32,
 )
     requires { ⌜ (m < length (now y)) × (m ≤ length (now q)) × (m < length (now walk)) × (partitions ≤ bufferRows)
-        × Held (now rows) partitions (now held) × Held (now former) partitions (now had) ⌝ }
+        × Tight (now mates) z (now rows) partitions (now tight) × Held (now rows) partitions (now held) × Held (now former) partitions (now had) ⌝ }
     ensures { λ _. ⌜ (length (now (y .exit)) ≡ length (now (y .entry))) × (length (now (q .exit)) ≡ length (now (q .entry)))
         × Same (cycleOf (now (rows .entry)) (now (former .entry)) partitions (now (mates .entry)) (now (arcs .entry)) all z (now (walk .entry)) m)
         (walkIn m (now (y .exit)) (now (q .exit))) ⌝ }
@@ -42,6 +45,7 @@ pub fn load(
         y[t] = walk[t];
         q[t] = walks::witness(
             rows,
+            tight,
             held,
             former,
             had,
@@ -65,6 +69,7 @@ pub fn renew(
     q: &mut [u32],
     m: usize,
     rows: &[u32],
+    tight: &[u32],
     held: &[u32],
     former: &[u32],
     had: &[u32],
@@ -75,7 +80,7 @@ pub fn renew(
     z: u32,
 ) -> bool
     requires { ⌜ (m < length (now y)) × (m ≤ length (now q)) × (partitions ≤ bufferRows)
-        × Held (now rows) partitions (now held) × Held (now former) partitions (now had) ⌝ }
+        × Tight (now mates) z (now rows) partitions (now tight) × Held (now rows) partitions (now held) × Held (now former) partitions (now had) ⌝ }
     ensures { λ r. ⌜ (length (now (q .exit)) ≡ length (now (q .entry)))
         × (r ≡ stands (now (rows .entry)) (now (former .entry)) partitions (now (mates .entry)) all z (now (caps .entry)) (walkIn m (now (y .entry)) (now (q .entry))))
         × (r ≡ true
@@ -86,6 +91,7 @@ pub fn renew(
     while t < m {
         let arc = walks::renewed(
             rows,
+            tight,
             held,
             former,
             had,
@@ -151,13 +157,14 @@ fn free(
     q: &mut [u32],
     m: usize,
     rows: &[u32],
+    tight: &[u32],
     former: &[u32],
     partitions: usize,
     mates: &[u32],
     all: u32,
     z: u32,
 ) -> usize
-    requires { ⌜ (m ≤ mostNodes) × (m < length (now y)) × (m ≤ length (now q)) ⌝ }
+    requires { ⌜ (m ≤ mostNodes) × (m < length (now y)) × (m ≤ length (now q)) × Tight (now mates) z (now rows) partitions (now tight) ⌝ }
     ensures { λ r. ⌜ (r ≤ m) × (length (now (y .exit)) ≡ length (now (y .entry))) × (length (now (q .exit)) ≡ length (now (q .entry)))
         × Same (freedOf (now (rows .entry)) (now (former .entry)) partitions (now (mates .entry)) all z (walkIn m (now (y .entry)) (now (q .entry))))
         (walkIn r (now (y .exit)) (now (q .exit))) ⌝ }
@@ -166,58 +173,82 @@ fn free(
     let mut left = m;
     while 0 < left {
         let n = len as u32;
-        let i = walks::earlier(y, q, n, rows, partitions, mates, all, z);
+        let i = walks::earlier(y, q, n, rows, tight, partitions, mates, all, z);
         if n <= i {
             return len;
         }
-        let j = walks::later(y, q, n, i, rows, partitions, mates, all, z);
+        let j = walks::later(y, q, n, i, rows, tight, partitions, mates, all, z);
         len = divide(y, q, len, i as usize, j, former, partitions);
         left -= 1;
     }
     len
 }
 
-// Node u of the row of partition p gives way to node v, and the sets of partitions follow.
-fn swap(rows: &mut [u32], held: &mut [u32], partitions: usize, p: usize, u: u32, v: u32)
-    requires { ⌜ (p < partitions) × (partitions ≤ length (now rows)) × (partitions ≤ bufferRows) × Held (now rows) partitions (now held) ⌝ }
+// Node u of the row of partition p gives way to node v; what the row may not lose, and the sets of partitions, follow.
+fn swap(
+    rows: &mut [u32],
+    tight: &mut [u32],
+    held: &mut [u32],
+    partitions: usize,
+    mates: &[u32],
+    z: u32,
+    p: usize,
+    u: u32,
+    v: u32,
+)
+    requires { ⌜ (p < partitions) × (partitions ≤ length (now rows)) × (partitions ≤ bufferRows) × Tight (now mates) z (now rows) partitions (now tight) × Held (now rows) partitions (now held) ⌝ }
     ensures { λ _. ⌜ (now (rows .exit) ≡ set (now (rows .entry)) p (withOf (withoutOf (getD (now (rows .entry)) p 0) u) v))
-        × Held (now (rows .exit)) partitions (now (held .exit)) ⌝ }
+        × Tight (now (mates .entry)) z (now (rows .exit)) partitions (now (tight .exit)) × Held (now (rows .exit)) partitions (now (held .exit)) ⌝ }
 {
-    rows[p] = sets::with(sets::without(rows[p], u), v);
+    let row = sets::with(sets::without(rows[p], u), v);
+    rows[p] = row;
+    tight[p] = swaps::tight(mates, z, row);
     holders::exchange(held, p, u, v);
 }
 
-// The exchanges of the walk are made: each takes its source from its row and adds its target. The blocks of the changed rows are answered.
+// The leaves of a set, and that of partition p.
+fn mark(leaves: u64, p: usize) -> u64
+    requires { ⌜ p < bufferRows ⌝ }
+    ensures { λ r. ⌜ ((l : ℕ) → bit r l ≡ max (bit leaves l) (is (p / leafRows) l)) ⌝ }
+{
+    leaves | (1 << (p / swaps::LEAF))
+}
+
+// The exchanges of the walk are made: each takes its source from its row and adds its target. The leaves of the changed rows are answered.
 fn make(
     rows: &mut [u32],
+    tight: &mut [u32],
     held: &mut [u32],
     partitions: usize,
+    mates: &[u32],
+    z: u32,
     y: &[u32],
     q: &[u32],
     m: usize,
-) -> u32
+) -> u64
     requires { ⌜ (m < length (now y)) × (m ≤ length (now q)) × (partitions ≤ length (now rows)) × (partitions ≤ bufferRows)
-        × Held (now rows) partitions (now held) ⌝ }
+        × Tight (now mates) z (now rows) partitions (now tight) × Held (now rows) partitions (now held) ⌝ }
     ensures { λ r. ⌜ (now (rows .exit) ≡ walkedOf partitions (walkIn m (now (y .entry)) (now (q .entry))) (now (rows .entry)))
-        × ChangedIn r (now (rows .entry)) (now (rows .exit)) × Held (now (rows .exit)) partitions (now (held .exit)) ⌝ }
+        × ChangedIn r (now (rows .entry)) (now (rows .exit)) × Tight (now (mates .entry)) z (now (rows .exit)) partitions (now (tight .exit))
+        × Held (now (rows .exit)) partitions (now (held .exit)) ⌝ }
 {
     let mut changed = 0;
     let mut i = 0;
     while i < m {
         let p = q[i] as usize;
         if p < partitions {
-            swap(rows, held, partitions, p, y[i + 1], y[i]);
-            changed = sets::with(changed, (p / swaps::BLOCK) as u32);
+            swap(rows, tight, held, partitions, mates, z, p, y[i + 1], y[i]);
+            changed = mark(changed, p);
         }
         i += 1;
     }
     changed
 }
 
-// What is left of a walk that was turned: how many arcs, and the blocks of the rows that its turn changed.
+// What is left of a walk that was turned: how many arcs, and the leaves of the rows that its turn changed.
 pub struct Turned {
     pub len: usize,
-    pub changed: u32,
+    pub changed: u64,
 }
 
 // The exchanges of the walk, freed of crossed pairs, are made in the rows. What is left of the walk stays in y and q.
@@ -226,6 +257,7 @@ pub fn turn(
     q: &mut [u32],
     m: usize,
     rows: &mut [u32],
+    tight: &mut [u32],
     held: &mut [u32],
     former: &[u32],
     partitions: usize,
@@ -234,15 +266,16 @@ pub fn turn(
     z: u32,
 ) -> Turned
     requires { ⌜ (m ≤ mostNodes) × (m < length (now y)) × (m ≤ length (now q)) × (partitions ≤ length (now rows)) × (partitions ≤ bufferRows)
-        × Held (now rows) partitions (now held) ⌝ }
+        × Tight (now mates) z (now rows) partitions (now tight) × Held (now rows) partitions (now held) ⌝ }
     ensures { λ r. ⌜ (r .len ≤ m) × (length (now (y .exit)) ≡ length (now (y .entry))) × (length (now (q .exit)) ≡ length (now (q .entry)))
         × (now (rows .exit)
         ≡ turnedOf (now (rows .entry)) (now (former .entry)) partitions (now (mates .entry)) all z (walkIn m (now (y .entry)) (now (q .entry))))
         × Same (freedOf (now (rows .entry)) (now (former .entry)) partitions (now (mates .entry)) all z (walkIn m (now (y .entry)) (now (q .entry))))
         (walkIn (r .len) (now (y .exit)) (now (q .exit)))
-        × ChangedIn (r .changed) (now (rows .entry)) (now (rows .exit)) × Held (now (rows .exit)) partitions (now (held .exit)) ⌝ }
+        × ChangedIn (r .changed) (now (rows .entry)) (now (rows .exit)) × Tight (now (mates .entry)) z (now (rows .exit)) partitions (now (tight .exit))
+        × Held (now (rows .exit)) partitions (now (held .exit)) ⌝ }
 {
-    let n = free(y, q, m, rows, former, partitions, mates, all, z);
-    let changed = make(rows, held, partitions, y, q, n);
+    let n = free(y, q, m, rows, tight, former, partitions, mates, all, z);
+    let changed = make(rows, tight, held, partitions, mates, z, y, q, n);
     Turned { len: n, changed }
 }

@@ -16,7 +16,8 @@ use Rattle.fields.specs.RecordField.{Bytes}
 use Rattle.fields.proofs.RecordField.{whole, refused-some}
 use Rattle.cluster_record.specs.declared.ReadCluster.{ReadCluster}
 use Rattle.cluster_record.specs.RecordCluster.{IsClusterRecord}
-use Rattle.cluster_record.specs.RecordClusterFaults.{Reading, ClusterRead, nothingRead, allowedAfter, clusterRefused, ended, upTo, readCluster}
+use Rattle.cluster_fields.specs.RecordClusterFaults.{upTo}
+use Rattle.cluster_record.specs.RecordClusterReading.{Reading, ClusterRead, nothingRead, allowedAfter, clusterRefused, ended, readCluster}
 use Rattle.cluster_record.specs.RecordClusterAnswer.{clusterOutcome, clusterAnswer, readClusterOf, formerRead}
 use Rattle.cluster_record.specs.RecordClusterClaims.{ReadsCluster, AnswersCluster, Yielded}
 use Rattle.cluster.proofs.Slots.{topology-slots}

@@ -1,7 +1,3 @@
-pub mod Items
-pub mod Rows
-pub mod Slots
-pub mod FieldFaults
 pub mod Walks
 pub mod Readings
 pub mod Walked

@@ -4,7 +4,7 @@ use Prim.Native.Nat.{ℕ, zero, suc, _+_, _-_, _/_, _%_, _≤_, _<_}
 use mathlib.Core.Path.{_≡_, refl, sym, ap, _∙_, subst}
 use mathlib.Core.Bool.{true, _||_}
 use mathlib.Core.List.{List, [], _∷_}
-use mathlib.Core.Logic.{_⊎_, ⊎-elim}
+use mathlib.Core.Logic.{⊎-elim}
 use native.Mathlib.Omega.{arith}
 use lib.Dec.{ltb, eqb}
 use lib.ListN.{length, length-append}
@@ -16,12 +16,13 @@ use Rattle.cluster.specs.TermsReading.{Accepted}
 use Rattle.cluster.proofs.Lists.{mem-head, mem-tail, mem-cases, rising-none}
 use Rattle.fields.specs.RecordField.{ruleOf, numberAt, nodeWidth, rowWidth, Whole, nodeAtByte, idsAt}
 use Rattle.fields.proofs.RecordField.{one-tag}
-use Rattle.cluster_record.specs.RecordClusterFaults.{Item, BitsOf, ReplicationOf, RedundancyOf, OneNode, FormerRow, itemIn, Reading, nothingRead, allowedAfter, withItem, upTo, formerWith, readingWith, faultIn}
+use Rattle.cluster_fields.specs.RecordClusterFaults.{Item, BitsOf, ReplicationOf, RedundancyOf, OneNode, FormerRow, itemIn, withItem, upTo, formerWith, faultIn}
+use Rattle.cluster_record.specs.RecordClusterReading.{Reading, nothingRead, allowedAfter, readingWith}
 use Rattle.sums.proofs.Tests.{neither}
-use Rattle.cluster_record.proofs.Items.{item-bits, item-replication, item-redundancy, item-node, item-five, ids-snoc, rising-snoc, in-range, sound-node, sound-row}
+use Rattle.cluster_fields.proofs.Items.{item-bits, item-replication, item-redundancy, item-node, item-five, ids-snoc, rising-snoc, in-range, sound-node, sound-row}
 use Rattle.fields.proofs.IdBytes.{length-ids}
 use Rattle.cluster.proofs.Accepting.{few-partitions}
-use Rattle.cluster_record.proofs.Rows.{every-snoc, row-upTo, length-next}
+use Rattle.cluster_fields.proofs.Rows.{every-snoc, row-upTo, length-next}
 
 -- ---- the tags allowed next
 

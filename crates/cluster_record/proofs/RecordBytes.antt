@@ -14,8 +14,8 @@ use Rattle.fields.specs.declared.Field.the-variants.{Body}
 use Rattle.fields.proofs.Numbers.{length-part}
 use Rattle.fields.proofs.RecordField.{whole, field-back, length-field}
 use Rattle.cluster_record.specs.RecordCluster.{nodeField, nodeFields, formerField, formerFields}
-use Rattle.cluster_record.specs.RecordClusterFaults.{upTo}
-use Rattle.cluster_record.proofs.Rows.{length-upTo}
+use Rattle.cluster_fields.specs.RecordClusterFaults.{upTo}
+use Rattle.cluster_fields.proofs.Rows.{length-upTo}
 
 -- ---- one field more
 

@@ -14,13 +14,14 @@ use Rattle.cluster.proofs.CellLayouts.{length-cellsOf}
 use Rattle.fields.specs.RecordField.{numberAt, rowWidth, fieldAt, Whole, nodeAtByte, idsAt}
 use Rattle.fields.specs.declared.Field.the-variants.{Body, Refused}
 use Rattle.fields.proofs.RecordField.{whole, refused-some}
-use Rattle.cluster_record.specs.RecordClusterFaults.{Item, itemIn, Reading, ClusterRead, nothingRead, allowedAfter, withItem, formerWith, readingWith, faultIn, clusterRefused, ended, walk, readCluster}
+use Rattle.cluster_fields.specs.RecordClusterFaults.{Item, itemIn, withItem, formerWith, faultIn}
+use Rattle.cluster_record.specs.RecordClusterReading.{Reading, ClusterRead, nothingRead, allowedAfter, readingWith, clusterRefused, ended, walk, readCluster}
 use Rattle.cluster_record.specs.declared.ReadCluster.{ReadCluster}
 use Rattle.cluster_record.specs.RecordClusterAnswer.{clusterAnswer}
-use Rattle.cluster_record.proofs.Items.{item-node, item-five, former-kept, sound-node, sound-row}
-use Rattle.cluster_record.proofs.FieldFaults.{RowFault, row-fault}
+use Rattle.cluster_fields.proofs.Items.{item-node, item-five, former-kept, sound-node, sound-row}
+use Rattle.cluster_fields.proofs.FieldFaults.{RowFault, row-fault}
 use Rattle.cluster.proofs.Accepting.{few-partitions}
-use Rattle.cluster_record.proofs.Rows.{cells-none, cells-upTo}
+use Rattle.cluster_fields.proofs.Rows.{cells-none, cells-upTo}
 use Rattle.cluster.proofs.Slots.{topology-slots}
 use Rattle.cluster_record.proofs.Walks.{walk-ends, walk-refused, walk-fault, walk-on}
 use Rattle.cluster_record.proofs.Readings.{Kind, kind, tag-range, row-bytes, Well, well-nothing, well-step}

@@ -1,4 +1,4 @@
 pub mod RecordCluster
 pub mod RecordClusterAnswer
 pub mod RecordClusterClaims
-pub mod RecordClusterFaults
+pub mod RecordClusterReading

@@ -4,17 +4,16 @@ ghost use lib.ListN.{replicate};
 ghost use Rattle.cluster.specs.Terms.{layoutCells, cellsOf};
 ghost use Rattle.cluster.specs.TermsReading.{slotsOf};
 ghost use Rattle.fields.specs.ModelTags.{tagsOf};
-ghost use Rattle.cluster_record.specs.RecordClusterFaults.{Reading, allowedAfter, clusterRefused, ended as endedOf, readCluster};
+ghost use Rattle.cluster_record.specs.RecordClusterReading.{Reading, allowedAfter, clusterRefused, ended as endedOf, readCluster};
 ghost use Rattle.cluster_record.specs.RecordClusterAnswer.{clusterAnswer, readClusterOf, formerRead};
 use cluster::Cluster;
 use cluster::refusal;
+use cluster_fields::faults;
+use cluster_fields::row_faults;
+use cluster_fields::taking;
 use fields::Field;
 use fields::reader;
 use fields::reader::Reader;
-
-mod faults;
-mod row_faults;
-mod taking;
 
 // What a reading yields: the refusal, 0 for none, with its byte, and the cluster.
 pub struct ReadCluster {

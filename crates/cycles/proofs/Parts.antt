@@ -2,7 +2,7 @@
 -- Assumes nothing.
 use Prim.Native.Nat.{ℕ, _+_, _-_, _*_, _≤_, _<_}
 use mathlib.Core.Path.{_≡_, refl, sym, ap, _∙_, subst}
-use mathlib.Core.Bool.{Bool, true, false, _&&_, false≢true}
+use mathlib.Core.Bool.{Bool, true, false, _&&_}
 use mathlib.Core.List.{List}
 use mathlib.Core.Logic.{⊎-elim}
 use native.Mathlib.Numerals.{add-one}
@@ -13,13 +13,13 @@ use borrow.Author.Tests.{eq-eqb, ne-eqb}
 use Rattle.cluster.specs.Terms.{mostNodes}
 use Rattle.cells.specs.ModelCells.{put}
 use Rattle.cells.proofs.Cells.{put-next}
-use Rattle.sums.proofs.Sum.{lt-or-ge, eq-or-ne, is-ne}
+use Rattle.sums.proofs.Sum.{eq-or-ne, is-ne}
 use Rattle.sets.specs.ModelBits.{bit, memberOf, withOf}
 use Rattle.sets.proofs.Laws.{bit-zero, bit-true, bit-false}
 use Rattle.sums.specs.ModelSums.{firstFrom}
 use Rattle.cycles.specs.ModelTurns.{Nodes, behind, returned, closer, trail, trailLength}
 use Rattle.cycles.proofs.Visits.{Visit, visit-node, visit-member, visit-below, visit-before, visit-after}
-use Rattle.sums.proofs.First.{first-cases, first-is-none, first-hit, first-miss, first-end}
+use Rattle.sums.proofs.First.{first-is, first-is-none, first-hit, first-miss, first-end}
 
 -- ---- ways
 
@@ -27,14 +27,6 @@ use Rattle.sums.proofs.First.{first-cases, first-is-none, first-hit, first-miss
 pub behind-with : (row way : List ℕ) (v w : ℕ) → w ≡ withOf (getD way (getD row v 0) 0) (getD row v 0) → w ≡ behind row way v
 unfolding behind
 behind-with row way v w e = e
-
--- The first number that passes a test, where none before it does.
-first-is : (t : ℕ → Bool) (n v : ℕ) → v < n → t v ≡ true → ((j : ℕ) → j < v → t j ≡ false) → firstFrom t n 0 ≡ v
-first-is t n v l e none =
-    ⊎-elim
-    (λ h. ⊎-elim (λ g. absurd (false≢true (sym (none (firstFrom t n 0) g) ∙ h .2))) (λ g. ⊎-elim (λ k. absurd (false≢true (sym (h .3 v (omega arith) k) ∙ e))) (λ k. omega arith) (lt-or-ge v (firstFrom t n 0)))
-    (lt-or-ge (firstFrom t n 0) v))
-    (λ h. absurd (false≢true (sym (h .1 v (omega arith) (omega arith)) ∙ e))) (first-cases t n 0)
 
 -- Of the nodes that are not left, none closes a cycle.
 abbrev pub Open : ℕ → List ℕ → List ℕ → ℕ → Type 0
@@ -61,7 +53,7 @@ module _ (fell : ℕ) (row way : List ℕ) where
     pub closer-hit : (n : ℕ) → Nodes n fell → memberOf w v ≡ true → v ≡ closer n fell row way
     unfolding closer
     closer-hit n k e =
-        sym (first-is (returned fell row way) n v (visit-below o n k) (sym returned-if ∙ e) (λ j l. h j (omega (arith, visit-node o)) (visit-before o j l)))
+        sym (first-is (returned fell row way) n 0 v (omega arith) (omega (arith, visit-below o n k)) (sym returned-if ∙ e) (λ j b l. h j (omega (arith, visit-node o)) (visit-before o j l)))
 
   -- None does.
   pub closer-none : (n left : ℕ) → n ≤ mostNodes → left ≡ 0 → Open fell row way left → n ≡ closer n fell row way

@@ -8,9 +8,9 @@ use mathlib.Core.Logic.{⊎-elim}
 use native.Mathlib.Numerals.{add-one}
 use native.Mathlib.Omega.{arith}
 use lib.Dec.{ltb, eqb}
-use lib.ListN.{length, getD, take, List·getD-append}
-use lib.Seq.{length-take-le, getD-append-add, getD-take}
+use lib.ListN.{length, getD, take}
 use borrow.Author.Tests.{lt-ltb, le-ltb, eq-eqb}
+use Rattle.cells.proofs.Parts.{part-before, part-in}
 use Rattle.cluster.specs.Terms.{mostNodes}
 use Rattle.sums.specs.TermsSums.{one-if}
 use Rattle.sums.proofs.Sum.{lt-or-ge}
@@ -137,24 +137,14 @@ module _ {arcs d next row : List ℕ} {n mask fell left : ℕ} (w : Sweeping arc
 
 -- ---- one level down
 
--- A part that is put back leaves the cells before it as they were.
-part-before : (a i : ℕ) (xs ys rest : List ℕ) → a ≤ length xs → i < a → getD (take a xs ++ (ys ++ rest)) i 0 ≡ getD xs i 0
-part-before a i xs ys rest h l = List·getD-append (take a xs) (ys ++ rest) 0 i (omega (arith, length-take-le a xs h)) ∙ getD-take a xs i 0 l
-
--- The cells of a part that is put back.
-part-in : (a v : ℕ) (xs ys rest : List ℕ) → a ≤ length xs → v < length ys → getD (take a xs ++ (ys ++ rest)) (a + v) 0 ≡ getD ys v 0
-part-in a v xs ys rest h l =
-    ap (λ (i : ℕ). getD (take a xs ++ (ys ++ rest)) (i + v) 0) (sym (length-take-le a xs h))
-    ∙ (getD-append-add (take a xs) (ys ++ rest) v 0 ∙ List·getD-append ys rest 0 v l)
-
 -- A sweep into row k + 1 of the table is one level down.
 pub descended : (arcs : List ℕ) (n k mask swept r : ℕ) (d next table row rest : List ℕ) → n ≤ mostNodes → (k + 1) * mostNodes ≤ length table → mostNodes ≤ length row
     → r ≡ meetOf swept (belowOf n) → Swept arcs n mask d next row swept
     → Descended arcs n k mask d next table (take ((k + 1) * mostNodes) table ++ (row ++ rest)) r
 descended arcs n k mask swept r d next table row rest small h g e s =
     record {
-      swept = λ v l. rw (part-in ((k + 1) * mostNodes) v table row rest h (omega arith), kept v l) (s v l);
-      kept = λ i l. part-before ((k + 1) * mostNodes) i table row rest h l;
+      swept = λ v l. rw (part-in ((k + 1) * mostNodes) table row h rest v (omega arith), kept v l) (s v l);
+      kept = λ i l. part-before ((k + 1) * mostNodes) table row h rest i l;
       nodes = λ v l m. omega (arith, ap (λ (i : ℕ). bit i v) e, bit-meet swept (belowOf n) v l, bit-below-not n v m);
     }
   where

@@ -12,6 +12,9 @@ pub mod reader;
 // The bytes of a node: id 4, zone 2, capacity 4.
 const NODE: usize = 10;
 
+// The tag of a former row.
+const FORMER_ROW: usize = 5;
+
 // The legal lengths of a body: from the least to the greatest, in steps.
 pub struct Rule {
     pub least: usize,
@@ -190,10 +193,14 @@ pub fn put_word(out: &mut [u8], at: usize, value: u32)
     }
 }
 
-// The rule of a tag; a tag that the table does not have has no legal length.
+// The rule of a tag; a tag that the table does not have has no legal length. Most fields are rows, and only an index that is known spares the
+// machine code a copy of the table.
 fn rule_of(tag: usize) -> Rule
     ensures { λ r. ⌜ r ≡ ruleOf tag ⌝ }
 {
+    if tag == FORMER_ROW {
+        return LEGAL[FORMER_ROW];
+    }
     if tag < LEGAL.len() {
         LEGAL[tag]
     } else {

@@ -1,7 +1,4 @@
-pub mod Growing
-pub mod Turns
 pub mod Members
 pub mod Exchanges
-pub mod Wholes
-pub mod Blocks
-pub mod Spare
+pub mod Unions
+pub mod Keeping

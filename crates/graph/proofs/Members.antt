@@ -21,7 +21,8 @@ use Rattle.exchange.specs.ModelRow.{Valid, Exchange, copies}
 use Rattle.swaps.specs.ModelSwaps.{targetsOf}
 use Rattle.swaps.specs.ModelMates.{Mates}
 use Rattle.swaps.proofs.Fitting.{target-valid, valid-target}
-use Rattle.graph.specs.ModelArcs.{weighs, moves, movesTo, copiesTo, roomy, cellOf}
+use Rattle.arcs.specs.ModelMoves.{weighs, moves, movesTo}
+use Rattle.graph.specs.ModelArcs.{copiesTo, roomy, cellOf}
 
 -- From 1 back to the test.
 one-if-true : (b : Bool) → 1 ≤ one-if b → b ≡ true
@@ -39,14 +40,17 @@ abbrev pub any : ℕ → ℕ → ℕ
 any p b = 1
 
 module _ (rows former : List ℕ) (P : ℕ) (mates caps : List ℕ) (all z : ℕ) where
-  -- The bits of a cell: the node is of `all`, and some row allows the exchange or there is room.
+  -- The bits of a cell: some row allows the exchange, or there is room.
   bit-cell : (j b : ℕ) → b < mostNodes
-      → bit (cellOf rows former P mates caps all z j) b
-      ≡ min (bit all (j % mostNodes)) (max (movesTo rows former P mates all z j b) (roomy (copiesTo rows P) caps all j b))
-  unfolding cellOf
+      → bit (cellOf rows former P mates caps all z j) b ≡ max (movesTo rows former P mates all z j b) (roomy (copiesTo rows P) caps all j b)
+  unfolding cellOf movesTo moves roomy
   bit-cell j b l =
-      bit-maskOf (λ b. min (bit all (j % mostNodes)) (max (movesTo rows former P mates all z j b) (roomy (copiesTo rows P) caps all j b))) maskBits b l
-      (omega (arith, bit-le all (j % mostNodes)))
+      bit-maskOf (λ b. max (movesTo rows former P mates all z j b) (roomy (copiesTo rows P) caps all j b)) maskBits b l
+      (omega (
+        arith,
+        max-le P 1 (λ q. moves mates all z (getD rows q 0) (getD former q 0) j b) (λ q p. omega (arith, bit-le (getD rows q 0) (j % mostNodes))),
+        is-le 1 (j / mostNodes),
+      ))
 
 -- The set of the node u at weight h - 1, over the nodes below N.
 abbrev pub setOf : List ℕ → List ℕ → ℕ → List ℕ → List ℕ → ℕ → ℕ → ℕ → ℕ → ℕ
@@ -70,14 +74,12 @@ module _ (rows former : List ℕ) (P : ℕ) (mates caps : List ℕ) (N Z : ℕ) 
       let eh : j / mostNodes ≡ h = omega arith in
       bit-cell rows former P mates caps all Z j v (omega arith)
       ∙ (ap₂
-      (λ (a k : ℕ). min (bit all a)
-      (max (maxTo P (λ q. min (bit (getD rows q 0) a) (min (bit (targetsOf mates all Z (getD rows q 0) a) v) (weighs (getD former q 0) k a v))))
-      (min (is 1 k) (min (one-if (ltb (copiesTo rows P a) (getD caps a 0))) (bit all v))))) eu eh
-      ∙ inside (bit all u) (maxTo P (step h u v)) (is 1 h) (one-if (ltb (copiesTo rows P u) (getD caps u 0))) (bit all v) (bit-below N u (omega arith) lu)
-      (max-le P 1 (step h u v) (λ q p. omega (arith, bit-le (getD rows q 0) u))) (is-le 1 h) (bit-below N v (omega arith) lv))
+      (λ (a k : ℕ). max (maxTo P (λ q. min (bit (getD rows q 0) a) (min (bit (targetsOf mates all Z (getD rows q 0) a) v) (weighs (getD former q 0) k a v))))
+      (min (is 1 k) (min (one-if (ltb (copiesTo rows P a) (getD caps a 0))) (bit all v)))) eu eh
+      ∙ inside (maxTo P (step h u v)) (is 1 h) (one-if (ltb (copiesTo rows P u) (getD caps u 0))) (bit all v) (is-le 1 h) (bit-below N v (omega arith) lv))
     where
-      inside : (a m i o b : ℕ) → a ≡ 1 → m ≤ 1 → i ≤ 1 → b ≡ 1 → min a (max m (min i (min o b))) ≡ max m (min i o)
-      inside a m i o b ea lm li eb = omega arith
+      inside : (m i o b : ℕ) → i ≤ 1 → b ≡ 1 → max m (min i (min o b)) ≡ max m (min i o)
+      inside m i o b li eb = omega arith
 
 module _ (P N R Z : ℕ) (zone : ℕ → ℕ) (rows former mates caps : List ℕ) (M : Mates N zone mates) (small : (p : ℕ) → p < P → getD rows p 0 < 2 ^ N)
     (valid : (p : ℕ) → p < P → Valid N R Z zone (bitsAt rows p)) where

@@ -1,3 +1,2 @@
 pub mod ModelArcs
-pub mod ModelGrowth
 pub mod ModelKept

@@ -1,29 +1,16 @@
 -- The exchange graph of a layout as three sets for each node: cell `mostNodes` * h + a has the nodes that one of a's copies can go to at weight h - 1.
 -- Assumes nothing.
-use Prim.Native.Nat.{ℕ, _+_, _*_, _/_, _%_, min, max}
+use Prim.Native.Nat.{ℕ, _/_, _%_, min, max}
 use mathlib.Core.List.{List, _++_}
-use lib.ListN.{length, getD, set, drop}
+use lib.ListN.{length, getD, drop}
 use lib.Dec.{ltb}
 use Rattle.sums.specs.TermsSums.{sumTo, one-if, tab}
-use Rattle.sums.specs.ModelSums.{maxTo, is}
+use Rattle.sums.specs.ModelSums.{is}
 use mathlib.Core.Bool.{cond}
 use Rattle.cluster.specs.Terms.{mostNodes}
 use Rattle.cycles.specs.ModelGraph.{arcCells}
-use Rattle.sets.specs.ModelBits.{maskBits, bit, maskOf, unionOf, meetOf, differenceOf}
-use Rattle.swaps.specs.ModelSwaps.{targetsOf}
-
--- 1 where the exchange of a for b, in a row that was `former`, has weight h - 1: 1 where a was there, less 1 where b was.
-unfoldable pub weighs : ℕ → ℕ → ℕ → ℕ → ℕ
-weighs former h a b = is (bit former b + h) (1 + bit former a)
-
--- 1 where the row has the node a of cell j, which may give way to b at the weight of the cell.
-unfoldable pub moves : List ℕ → ℕ → ℕ → ℕ → ℕ → ℕ → ℕ → ℕ
-moves mates all z row former j b =
-    min (bit row (j % mostNodes)) (min (bit (targetsOf mates all z row (j % mostNodes)) b) (weighs former (j / mostNodes) (j % mostNodes) b))
-
--- 1 where one of the first p rows allows it.
-unfoldable pub movesTo : List ℕ → List ℕ → ℕ → List ℕ → ℕ → ℕ → ℕ → ℕ → ℕ
-movesTo rows former p mates all z j b = maxTo p (λ q. moves mates all z (getD rows q 0) (getD former q 0) j b)
+use Rattle.sets.specs.ModelBits.{maskBits, bit, maskOf}
+use Rattle.arcs.specs.ModelMoves.{movesTo}
 
 -- How many of the first p rows have node a.
 unfoldable pub copiesTo : List ℕ → ℕ → ℕ → ℕ
@@ -34,23 +21,10 @@ unfoldable pub roomy : (ℕ → ℕ) → List ℕ → ℕ → ℕ → ℕ → �
 roomy copies caps all j b =
     min (is 1 (j / mostNodes)) (min (one-if (ltb (copies (j % mostNodes)) (getD caps (j % mostNodes) 0))) (bit all b))
 
--- The set in cell j: nothing for a node outside of `all`.
+-- The set in cell j.
 unfoldable pub cellOf : List ℕ → List ℕ → ℕ → List ℕ → List ℕ → ℕ → ℕ → ℕ → ℕ
-cellOf rows former P mates caps all z j =
-    maskOf (λ b. min (bit all (j % mostNodes)) (max (movesTo rows former P mates all z j b) (roomy (copiesTo rows P) caps all j b))) maskBits
+cellOf rows former P mates caps all z j = maskOf (λ b. max (movesTo rows former P mates all z j b) (roomy (copiesTo rows P) caps all j b)) maskBits
 
 -- All sets, in a list that has room for them.
 unfoldable pub arcsOf : List ℕ → List ℕ → ℕ → List ℕ → List ℕ → ℕ → ℕ → List ℕ → List ℕ
 arcsOf rows former P mates caps all z l = cond (ltb (length l) arcCells) l (tab (cellOf rows former P mates caps all z) arcCells ++ drop arcCells l)
-
--- 1 where b is of `low` and cell j is at weight h - 1, or b is of `high` and the cell is at weight h.
-unfoldable pub leads : ℕ → ℕ → ℕ → ℕ → ℕ → ℕ
-leads h low high j b = max (min (is h (j / mostNodes)) (bit low b)) (min (is (h + 1) (j / mostNodes)) (bit high b))
-
--- The list with the members of s added to the set in cell i.
-unfoldable pub joined : List ℕ → ℕ → ℕ → List ℕ
-joined l i s = set l i (unionOf (getD l i 0) s)
-
--- The list with the nodes `to` in a's sets: those of the former row at the lower weight, the others at the higher.
-unfoldable pub noted : List ℕ → ℕ → ℕ → ℕ → List ℕ
-noted l a former to = joined (joined l (a + bit former a * mostNodes) (meetOf to former)) (a + bit former a * mostNodes + mostNodes) (differenceOf to former)

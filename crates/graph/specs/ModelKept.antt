@@ -1,78 +1,84 @@
--- What is kept of rows by blocks: for each block the sets that its rows allow, and how many of its rows have each node.
+-- What is kept of rows, in parts of `arcCells` cells: the sets that the rows of a leaf allow, for each leaf, and those of a branch, for each branch.
 -- Assumes nothing.
-use Prim.Native.Nat.{ℕ, _+_, _-_, _*_, _/_, _%_, _≤_, _<_, min, max}
+use Prim.Native.Nat.{ℕ, _+_, _-_, _*_, _/_, _<_, min}
 use mathlib.Core.Path.{_≡_}
 use mathlib.Core.List.{List}
-use mathlib.Core.Bool.{cond}
 use lib.ListN.{length, getD, drop}
-use lib.Dec.{ltb}
-use Rattle.sums.specs.TermsSums.{sumTo}
 use Rattle.sums.specs.ModelSums.{maxTo}
 use Rattle.cluster.specs.Terms.{mostNodes, bufferRows}
 use Rattle.cycles.specs.ModelGraph.{arcCells}
 use Rattle.sets.specs.ModelBits.{maskBits, bit, maskOf}
-use Rattle.swaps.specs.ModelBlocks.{blockRows}
-use Rattle.graph.specs.ModelArcs.{movesTo, copiesTo, roomy}
+use Rattle.swaps.specs.ModelLeaves.{leafRows}
+use Rattle.arcs.specs.ModelMoves.{movesTo}
 
--- The blocks of the rows of a layout.
-abbrev pub mostBlocks : ℕ
-mostBlocks = bufferRows / blockRows
+-- The leaves of a branch, and the branches of all: the code's are `PARTS`.
+abbrev pub parts : ℕ
+parts = 8
 
--- The cells of a block: three sets and a count of copies for each node.
-abbrev pub blockCells : ℕ
-blockCells = 4 * mostNodes
+-- The rows of a branch.
+abbrev pub branchRows : ℕ
+branchRows = parts * leafRows
 
--- The cells of all blocks.
+-- The leaves of the rows of a layout: the code's are `LEAVES`.
+abbrev pub mostLeaves : ℕ
+mostLeaves = bufferRows / leafRows
+
+-- The cells of all leaves and branches.
 abbrev pub keptCells : ℕ
-keptCells = mostBlocks * blockCells
+keptCells = (mostLeaves + parts) * arcCells
 
--- The cells that are united at a time: the code's is `WIDE`.
-abbrev pub wide : ℕ
-wide = 8
-
--- How many of P rows stand in block b.
-abbrev pub rowsIn : ℕ → ℕ → ℕ
-rowsIn P b = min blockRows (P - blockRows * b)
-
--- Block b holds what its own rows allow, and how many of them have each node.
-pub record Block (rows former : List ℕ) (P : ℕ) (mates : List ℕ) (all z b : ℕ) (kept : List ℕ) : Type 0 where
+-- Part k of the cells holds what n rows allow, from the row `first` on.
+pub record Part (rows former mates : List ℕ) (all z first n k : ℕ) (kept : List ℕ) : Type 0 where
   pub sets : (j x : ℕ) → j < arcCells → x < mostNodes
-      → bit (getD kept (b * blockCells + j) 0) x
-      ≡ movesTo (drop (blockRows * b) rows) (drop (blockRows * b) former) (rowsIn P b) mates all z j x
-  pub counts : (a : ℕ) → a < mostNodes
-      → getD kept (b * blockCells + (arcCells + a)) 0 ≡ copiesTo (drop (blockRows * b) rows) (rowsIn P b) a
+      → bit (getD kept (k * arcCells + j) 0) x ≡ movesTo (drop first rows) (drop first former) n mates all z j x
 
--- Each block of the first P rows that is not in the mask `stale` holds what its rows allow.
-pub record Kept (rows former : List ℕ) (P : ℕ) (mates : List ℕ) (all z stale : ℕ) (kept : List ℕ) : Type 0 where
+-- How many of P rows stand in number b of the parts of `size` rows.
+abbrev pub rowsIn : ℕ → ℕ → ℕ → ℕ
+rowsIn size P b = min size (P - size * b)
+
+-- Leaf l holds what its rows allow; a leaf past the last row has none.
+abbrev pub Leaf : List ℕ → List ℕ → ℕ → List ℕ → ℕ → ℕ → ℕ → List ℕ → Type 0
+Leaf rows former P mates all z l kept = Part rows former mates all z (leafRows * l) (rowsIn leafRows P l) l kept
+
+-- Branch i holds what its rows allow.
+abbrev pub Branch : List ℕ → List ℕ → ℕ → List ℕ → ℕ → ℕ → ℕ → List ℕ → Type 0
+Branch rows former P mates all z i kept = Part rows former mates all z (branchRows * i) (rowsIn branchRows P i) (mostLeaves + i) kept
+
+-- Each leaf with stale l ≡ 0 holds what its rows allow, and so does each branch of such leaves.
+pub record Kept (rows former : List ℕ) (P : ℕ) (mates : List ℕ) (all z : ℕ) (stale : ℕ → ℕ) (kept : List ℕ) : Type 0 where
   pub long : length kept ≡ keptCells
-  pub fresh : (b : ℕ) → blockRows * b < P → bit stale b ≡ 0 → Block rows former P mates all z b kept
+  pub leaf : (l : ℕ) → l < mostLeaves → stale l ≡ 0 → Leaf rows former P mates all z l kept
+  pub branch : (i : ℕ) → i < parts → ((b : ℕ) → b < parts → stale (parts * i + b) ≡ 0) → Branch rows former P mates all z i kept
 
--- Block b is filled anew, and the cells of the other blocks are as they were.
-pub record Filled (rows former : List ℕ) (P : ℕ) (mates : List ℕ) (all z b : ℕ) (old new : List ℕ) : Type 0 where
+-- Leaf l is filled anew, and the cells of the other parts are as they were.
+pub record Filled (rows former : List ℕ) (P : ℕ) (mates : List ℕ) (all z l : ℕ) (old new : List ℕ) : Type 0 where
   pub long : length new ≡ length old
-  pub own : Block rows former P mates all z b new
-  pub others : (i : ℕ) → (i / blockCells ≡ b → ⊥) → getD new i 0 ≡ getD old i 0
+  pub own : Leaf rows former P mates all z l new
+  pub others : (i : ℕ) → (i / arcCells ≡ l → ⊥) → getD new i 0 ≡ getD old i 0
 
--- The union of the sets in cell j of the first n blocks.
-unfoldable pub unionTo : List ℕ → ℕ → ℕ → ℕ
-unionTo kept n j = maskOf (λ x. maxTo n (λ b. bit (getD kept (b * blockCells + j) 0) x)) maskBits
+-- The union of the sets in cell j of n parts, from the part k on.
+unfoldable pub unionTo : List ℕ → ℕ → ℕ → ℕ → ℕ
+unionTo kept k n j = maskOf (λ x. maxTo n (λ b. bit (getD kept ((k + b) * arcCells + j) 0) x)) maskBits
 
--- How many copies of node a the first n blocks count.
-unfoldable pub countTo : List ℕ → ℕ → ℕ → ℕ
-countTo kept n a = sumTo n (λ b. getD kept (b * blockCells + (arcCells + a)) 0)
+-- The same of the leaves of a branch, and of all branches.
+abbrev pub unionAt : List ℕ → ℕ → ℕ → ℕ
+unionAt kept k j = unionTo kept k parts j
 
--- Cell c of the first n blocks together: a union of sets, or a sum of counts.
-unfoldable pub wholeOf : List ℕ → ℕ → ℕ → ℕ
-wholeOf kept n c = cond (ltb c arcCells) (unionTo kept n c) (countTo kept n (c - arcCells))
+-- Part `to` has what the parts from k on hold together, and the cells of the other parts are as they were.
+pub record Merged (k to : ℕ) (old new : List ℕ) : Type 0 where
+  pub long : length new ≡ length old
+  pub own : (j : ℕ) → j < arcCells → getD new (to * arcCells + j) 0 ≡ unionAt old k j
+  pub others : (i : ℕ) → (i / arcCells ≡ to → ⊥) → getD new i 0 ≡ getD old i 0
 
--- No count of the first n blocks is above the rows of a block.
-abbrev pub Few : List ℕ → ℕ → Type 0
-Few kept n = (b a : ℕ) → b < n → a < mostNodes → getD kept (b * blockCells + (arcCells + a)) 0 ≤ blockRows
+-- The first cells have what all branches hold together.
+pub record Gathered (kept old new : List ℕ) : Type 0 where
+  pub long : length new ≡ length old
+  pub own : (j : ℕ) → j < arcCells → getD new j 0 ≡ unionAt kept mostLeaves j
+  pub rest : drop arcCells new ≡ drop arcCells old
 
--- The cells of the nodes of `all` have what the first n blocks hold together.
-pub record Gathered (kept : List ℕ) (n all : ℕ) (whole : List ℕ) : Type 0 where
-  pub cells : (c : ℕ) → c < blockCells → bit all (c % mostNodes) ≡ 1 → getD whole c 0 ≡ wholeOf kept n c
-
--- 1 where b is in the set of cell j, or the node of j has room by its count.
-unfoldable pub heldIn : List ℕ → List ℕ → ℕ → ℕ → ℕ → ℕ
-heldIn whole caps all j b = max (bit (getD whole j 0) b) (roomy (λ a. getD whole (arcCells + a) 0) caps all j b)
+-- Branch i and its leaves hold what their rows allow, and the cells of the other parts are as they were.
+pub record Renewed (rows former : List ℕ) (P : ℕ) (mates : List ℕ) (all z i : ℕ) (old new : List ℕ) : Type 0 where
+  pub long : length new ≡ length old
+  pub leaves : (b : ℕ) → b < parts → Leaf rows former P mates all z (parts * i + b) new
+  pub own : Branch rows former P mates all z i new
+  pub others : (c : ℕ) → (c / arcCells / parts ≡ i → ⊥) → (c / arcCells ≡ mostLeaves + i → ⊥) → getD new c 0 ≡ getD old c 0

@@ -1,189 +1,98 @@
-// The exchange graph of a layout, as three sets for each node: cell a of `arcs` has the nodes that one of a's copies can go to at weight -1, cell
-// NODES + a those at weight 0, and cell 2 * NODES + a those at weight 1. The exchange of a for b in a row has weight 1 where a was in the former row, less 1
-// where b was. A node with room leads to all nodes at weight 0. What the rows allow is kept by blocks, so that only blocks with a changed row are
-// looked at again: cells CELLS * b on of `kept` have the three sets of each node by the rows of block b alone, and then how many of them have each node.
-// A cell of the rows past a slice's end counts as 0.
+// The exchange graph of a layout, as three sets for each node (`arcs`); a node with room leads to all nodes at weight 0. What the rows allow is kept in
+// parts of cycles::ARCS cells, so that little is made anew after a turn: part l has the sets of the rows of leaf l, and part LEAVES + i those of branch i,
+// which is PARTS leaves. Only leaves with a changed row, and their branches, are looked at again.
 ghost use mathlib.Core.Path.{_≡_};
-ghost use mathlib.Core.Bool.{false};
-ghost use mathlib.Core.List.{_++_};
-ghost use lib.Dec.{ltb};
 ghost use Prim.Native.Nat.{ℕ, _+_, _*_, _/_, _%_, _^_, _≤_, _<_, min};
-ghost use lib.ListN.{length, getD, drop};
-ghost use Rattle.sums.specs.TermsSums.{tab};
+ghost use lib.ListN.{length, getD};
+ghost use lib.Dec.{ltb};
+ghost use Rattle.sums.specs.TermsSums.{one-if};
 ghost use Rattle.sums.specs.ModelSums.{is};
 ghost use Rattle.cells.specs.ModelCells.{put};
 ghost use Rattle.cluster.specs.Terms.{mostNodes, bufferRows};
 ghost use Rattle.cycles.specs.ModelGraph.{arcCells};
-ghost use Rattle.sets.specs.ModelBits.{bit, withoutOf, unionOf, differenceOf, leastOf};
-ghost use Rattle.swaps.specs.ModelBlocks.{blockRows};
-ghost use Rattle.swaps.specs.ModelSwaps.{coverOf, coveredOf};
-ghost use Rattle.graph.specs.ModelArcs.{joined, noted, leads, weighs, moves, movesTo, copiesTo, arcsOf};
-ghost use Rattle.graph.specs.ModelGrowth.{Grown, Added};
-ghost use Rattle.graph.specs.ModelKept.{mostBlocks, blockCells, keptCells, wide, Kept, Filled, Few, wholeOf, Gathered, heldIn};
+ghost use Rattle.sets.specs.ModelBits.{bit, unionOf};
+ghost use Rattle.swaps.specs.ModelSwaps.{Tight};
+ghost use Rattle.arcs.specs.ModelGrowth.{Grown};
+ghost use Rattle.graph.specs.ModelArcs.{copiesTo, arcsOf};
+ghost use Rattle.graph.specs.ModelKept.{mostLeaves, parts, keptCells, Leaf, Branch, Kept, Filled, unionAt, Merged, Gathered, Renewed};
 use cluster::Cluster;
 
-// The most nodes, as nodes are numbered.
-const NODES: u32 = Cluster::NODES as u32;
-// Where the sets of weight 1 begin; those of weight 0 begin at Cluster::NODES.
-const HIGHER: usize = 2 * Cluster::NODES;
-// The cells of a block: three sets and a count of copies for each node.
-const CELLS: usize = 4 * Cluster::NODES;
-// The cells that are united at a time: they fit into two registers, so that a few instructions unite them all.
-const WIDE: usize = 8;
-// The blocks of the rows of a layout.
-pub const BLOCKS: usize = Cluster::PARTITIONS / swaps::BLOCK;
-// The cells of all blocks.
-pub const KEPT: usize = BLOCKS * CELLS;
+// The leaves of a branch, and the branches of all.
+const PARTS: usize = 8;
+// The sets of leaves of a branch.
+const BRANCH: u64 = 1 << PARTS;
+// The leaves of the rows of a layout.
+const LEAVES: usize = Cluster::PARTITIONS / swaps::LEAF;
+// The cells of all leaves and branches.
+pub const KEPT: usize = (LEAVES + PARTS) * cycles::ARCS;
 
-// Empties the sets of all nodes.
-fn clear(arcs: &mut [u32])
-    requires { ⌜ arcCells ≤ length (now arcs) ⌝ }
-    ensures { λ _. ⌜ now (arcs .exit) ≡ tab (λ k. 0) arcCells ++ drop arcCells (now (arcs .entry)) ⌝ }
-{
-    let mut i = 0;
-    while i < cycles::ARCS {
-        arcs[i] = 0;
-        i += 1;
-    }
-}
-
-// Adds the members of s to the set in cell i.
-fn join(arcs: &mut [u32], i: usize, s: u32)
-    requires { ⌜ i < length (now arcs) ⌝ }
-    ensures { λ _. ⌜ now (arcs .exit) ≡ joined (now (arcs .entry)) i s ⌝ }
-{
-    arcs[i] = sets::union(arcs[i], s);
-}
-
-// Adds the nodes `to`, to which a can go in one row, to a's sets, by the weight that the former row gives them.
-fn note(arcs: &mut [u32], a: u32, former: u32, to: u32)
-    requires { ⌜ (arcCells ≤ length (now arcs)) × (a < mostNodes) ⌝ }
-    ensures { λ _. ⌜ now (arcs .exit) ≡ noted (now (arcs .entry)) a former to ⌝ }
-{
-    let i = (a + (former >> a) % 2 * NODES) as usize;
-    join(arcs, i, sets::meet(to, former));
-    join(arcs, i + Cluster::NODES, sets::difference(to, former));
-}
-
-// Whether a row touches more than z zones; where it does not, also the nodes of its zones.
-struct Spread {
-    spare: bool,
-    nodes: u32,
-}
-
-// The zones of a row, one after the other, until there are more than z: then any node may give way to any other.
-fn zones(mates: &[u32], row: u32, z: u32) -> Spread
-    ensures { λ r. ⌜ (r .spare ≡ ltb z (coverOf (now (mates .entry)) row)) × (r .spare ≡ false → r .nodes ≡ coveredOf (now (mates .entry)) row) ⌝ }
-{
-    let mut left = row;
-    let mut count = 0;
-    let mut nodes = 0;
-    while left != 0 {
-        if count == z {
-            return Spread {
-                spare: true,
-                nodes: 0,
-            };
-        }
-        let b = sets::least(left);
-        let mate = swaps::cell(mates, b as usize);
-        left = sets::difference(sets::without(left, b), mate);
-        nodes = sets::union(nodes, mate);
-        count += 1;
-    }
-    Spread {
-        spare: false,
-        nodes,
-    }
-}
-
-// Adds the nodes `low` to the sets of the nodes of `part` at weight h - 1 and the nodes `high` to those at weight h, and counts the nodes of `part`.
-fn add_part(arcs: &mut [u32], counts: &mut [u32], part: u32, h: usize, low: u32, high: u32)
-    requires { ⌜ (arcCells ≤ length (now arcs)) × (mostNodes ≤ length (now counts)) × (h ≤ 1) × ((c : ℕ) → c < mostNodes → getD (now counts) c 0 + bit part c < 2 ^ 32) ⌝ }
-    ensures { λ _. ⌜ Grown (λ j b. min (bit part (j % mostNodes)) (leads h low high j b)) (now (arcs .entry)) (now (arcs .exit)) × Added (bit part) (now (counts .entry)) (now (counts .exit)) ⌝ }
-{
-    let at = h * Cluster::NODES;
-    let mut left = part;
-    while left != 0 {
-        let a = sets::least(left);
-        let k = a as usize;
-        join(arcs, k + at, low);
-        join(arcs, k + at + Cluster::NODES, high);
-        counts[k] = counts[k] + 1;
-        left = sets::without(left, a);
-    }
-}
-
-// Adds what a row with a zone to spare allows, and counts its nodes: each may give way to any node outside, and the weights hang on nothing of it but
-// whether the former row has it, so that the row is added in two parts.
-fn add_spare(arcs: &mut [u32], counts: &mut [u32], row: u32, former: u32, all: u32)
-    requires { ⌜ (arcCells ≤ length (now arcs)) × (mostNodes ≤ length (now counts)) × ((c : ℕ) → c < mostNodes → getD (now counts) c 0 + 1 < 2 ^ 32) ⌝ }
-    ensures { λ _. ⌜ Grown (λ j b. min (bit row (j % mostNodes)) (min (bit (differenceOf all row) b) (weighs former (j / mostNodes) (j % mostNodes) b))) (now (arcs .entry)) (now (arcs .exit))
-        × Added (bit row) (now (counts .entry)) (now (counts .exit)) ⌝ }
-{
-    let free = sets::difference(all, row);
-    let low = sets::meet(free, former);
-    let high = sets::difference(free, former);
-    let new = sets::difference(row, former);
-    add_part(arcs, counts, new, 0, low, high);
-    let old = sets::meet(row, former);
-    add_part(arcs, counts, old, 1, low, high);
-}
-
-// Adds what one row allows, and counts its nodes.
-fn add_row(
-    arcs: &mut [u32],
-    counts: &mut [u32],
-    row: u32,
-    former: u32,
-    mates: &[u32],
-    all: u32,
-    z: u32,
-)
-    requires { ⌜ (arcCells ≤ length (now arcs)) × (mostNodes ≤ length (now counts)) × ((c : ℕ) → c < mostNodes → getD (now counts) c 0 + 1 < 2 ^ 32) ⌝ }
-    ensures { λ _. ⌜ Grown (moves (now (mates .entry)) all z row former) (now (arcs .entry)) (now (arcs .exit)) × Added (bit row) (now (counts .entry)) (now (counts .exit)) ⌝ }
-{
-    let t = zones(mates, row, z);
-    if t.spare {
-        add_spare(arcs, counts, row, former, all);
-        return;
-    }
-    let nodes = t.nodes;
-    let mut left = row;
-    while left != 0 {
-        let a = sets::least(left);
-        let i = a as usize;
-        let to = swaps::targets_in(all, row, swaps::cell(mates, i), false, nodes);
-        note(arcs, a, former, to);
-        counts[i] = counts[i] + 1;
-        left = sets::without(left, a);
-    }
-}
-
-// Adds what n rows from the row `first` on allow, and counts their nodes.
-fn add_rows(
-    arcs: &mut [u32],
-    counts: &mut [u32],
+// Writes what the rows of a leaf allow into its cells.
+fn fill(
     rows: &[u32],
+    tight: &[u32],
     former: &[u32],
-    first: usize,
-    n: usize,
+    partitions: usize,
     mates: &[u32],
     all: u32,
     z: u32,
+    leaf: usize,
+    kept: &mut [u32],
 )
-    requires { ⌜ (arcCells ≤ length (now arcs)) × (mostNodes ≤ length (now counts)) × ((c : ℕ) → c < mostNodes → getD (now counts) c 0 ≡ 0)
-        × (first < bufferRows) × (n ≤ blockRows) ⌝ }
-    ensures { λ _. ⌜ Grown (movesTo (drop first (now (rows .entry))) (drop first (now (former .entry))) n (now (mates .entry)) all z) (now (arcs .entry)) (now (arcs .exit))
-        × Added (copiesTo (drop first (now (rows .entry))) n) (now (counts .entry)) (now (counts .exit)) ⌝ }
+    requires { ⌜ (partitions ≤ bufferRows) × (leaf < mostLeaves) × (length (now kept) ≡ keptCells) × Tight (now mates) z (now rows) partitions (now tight) ⌝ }
+    ensures { λ _. ⌜ Filled (now (rows .entry)) (now (former .entry)) partitions (now (mates .entry)) all z leaf (now (kept .entry)) (now (kept .exit)) ⌝ }
 {
-    let mut i = 0;
-    while i < n {
-        let row = swaps::cell(rows, first + i);
-        let old = swaps::cell(former, first + i);
-        add_row(arcs, counts, row, old, mates, all, z);
-        i += 1;
+    let first = leaf * swaps::LEAF;
+    let rest = if first < partitions {
+        partitions - first
+    } else {
+        0
+    };
+    let n = if rest < swaps::LEAF {
+        rest
+    } else {
+        swaps::LEAF
+    };
+    let at = leaf * cycles::ARCS;
+    arcs::write_rows(
+        &mut kept[at..at + cycles::ARCS],
+        rows,
+        tight,
+        former,
+        partitions,
+        first,
+        n,
+        mates,
+        all,
+        z,
+    );
+}
+
+// Adds the sets in NODES cells of `kept`, from the cell `at` on, to those in `held`.
+fn unite(held: &mut [u32], kept: &[u32], at: usize)
+    requires { ⌜ (length (now held) ≡ mostNodes) × (at + mostNodes ≤ length (now kept)) ⌝ }
+    ensures { λ _. ⌜ now (held .exit)
+        ≡ put 0 (λ t. unionOf (getD (now (held .entry)) t 0) (getD (now (kept .entry)) (at + t) 0)) mostNodes (now (held .entry)) ⌝ }
+{
+    let mut t = 0;
+    while t < Cluster::NODES {
+        arcs::join(held, t, kept[at + t]);
+        t += 1;
     }
+}
+
+// What PARTS parts from the part k on hold together in NODES cells, from their cell j on. The nodes lie side by side, so that the compiler takes several
+// by one instruction.
+fn united(kept: &[u32], k: usize, j: usize) -> [u32; Cluster::NODES]
+    requires { ⌜ (k ≤ mostLeaves) × (j + mostNodes ≤ arcCells) × (length (now kept) ≡ keptCells) ⌝ }
+    ensures { λ r. ⌜ (length r ≡ mostNodes) × ((t : ℕ) → t < mostNodes → getD r t 0 ≡ unionAt (now (kept .entry)) k (j + t)) ⌝ }
+{
+    let mut held = [0u32; Cluster::NODES];
+    let mut b = 0;
+    while b < PARTS {
+        unite(&mut held, kept, (k + b) * cycles::ARCS + j);
+        b += 1;
+    }
+    held
 }
 
 // Writes cells from the cell `at` on.
@@ -198,201 +107,120 @@ fn store(kept: &mut [u32], at: usize, cells: &[u32])
     }
 }
 
-// Writes what the rows of a block allow, and how many of them have each node, into the cells of the block.
-fn fill(
-    rows: &[u32],
-    former: &[u32],
-    partitions: usize,
-    mates: &[u32],
-    all: u32,
-    z: u32,
-    block: usize,
-    kept: &mut [u32],
-)
-    requires { ⌜ (partitions ≤ bufferRows) × (block * blockRows < partitions) × (length (now kept) ≡ keptCells) ⌝ }
-    ensures { λ _. ⌜ Filled (now (rows .entry)) (now (former .entry)) partitions (now (mates .entry)) all z block (now (kept .entry)) (now (kept .exit)) ⌝ }
+// Branch i gets what its leaves hold together, weight by weight.
+fn merge(kept: &mut [u32], i: usize)
+    requires { ⌜ (i < parts) × (length (now kept) ≡ keptCells) ⌝ }
+    ensures { λ _. ⌜ Merged (parts * i) (mostLeaves + i) (now (kept .entry)) (now (kept .exit)) ⌝ }
 {
-    let first = block * swaps::BLOCK;
-    let rest = partitions - first;
-    let n = if rest < swaps::BLOCK {
-        rest
-    } else {
-        swaps::BLOCK
-    };
-    let mut arcs = [0u32; cycles::ARCS];
-    let mut counts = [0u32; Cluster::NODES];
-    add_rows(
-        &mut arcs,
-        &mut counts,
-        rows,
-        former,
-        first,
-        n,
-        mates,
-        all,
-        z,
-    );
-    let at = block * CELLS;
-    store(kept, at, &arcs);
-    store(kept, at + cycles::ARCS, &counts);
+    let k = PARTS * i;
+    let at = (LEAVES + i) * cycles::ARCS;
+    let low = united(kept, k, 0);
+    store(kept, at, &low);
+    let mid = united(kept, k, Cluster::NODES);
+    store(kept, at + Cluster::NODES, &mid);
+    let high = united(kept, k, 2 * Cluster::NODES);
+    store(kept, at + 2 * Cluster::NODES, &high);
 }
 
-// Renews the first stale block, where it has rows. The others that are stale are answered.
+// Writes what all branches hold together, weight by weight.
+fn gather(arcs: &mut [u32], kept: &[u32])
+    requires { ⌜ (arcCells ≤ length (now arcs)) × (length (now kept) ≡ keptCells) ⌝ }
+    ensures { λ _. ⌜ Gathered (now (kept .entry)) (now (arcs .entry)) (now (arcs .exit)) ⌝ }
+{
+    let low = united(kept, LEAVES, 0);
+    store(arcs, 0, &low);
+    let mid = united(kept, LEAVES, Cluster::NODES);
+    store(arcs, Cluster::NODES, &mid);
+    let high = united(kept, LEAVES, 2 * Cluster::NODES);
+    store(arcs, 2 * Cluster::NODES, &high);
+}
+
+// Renews the stale leaves of branch i, and then the branch, where there are any.
 fn renew(
     rows: &[u32],
+    tight: &[u32],
     former: &[u32],
     partitions: usize,
     mates: &[u32],
     all: u32,
     z: u32,
+    i: usize,
     stale: u32,
     kept: &mut [u32],
-) -> u32
-    requires { ⌜ (partitions ≤ bufferRows) × (stale ≡ 0 → ⊥) × Kept (now rows) (now former) partitions (now mates) all z stale (now kept) ⌝ }
-    ensures { λ r. ⌜ (r ≡ withoutOf stale (leastOf stale))
-        × Kept (now (rows .entry)) (now (former .entry)) partitions (now (mates .entry)) all z r (now (kept .exit)) ⌝ }
+)
+    requires { ⌜ (partitions ≤ bufferRows) × (i < parts) × (stale < 2 ^ parts) × (length (now kept) ≡ keptCells) × Tight (now mates) z (now rows) partitions (now tight)
+        × ((b : ℕ) → b < parts → bit stale b ≡ 0 → Leaf (now rows) (now former) partitions (now mates) all z (parts * i + b) (now kept))
+        × (stale ≡ 0 → Branch (now rows) (now former) partitions (now mates) all z i (now kept)) ⌝ }
+    ensures { λ _. ⌜ Renewed (now (rows .entry)) (now (former .entry)) partitions (now (mates .entry)) all z i (now (kept .entry)) (now (kept .exit)) ⌝ }
 {
-    let b = sets::least(stale);
-    let block = b as usize;
-    if block * swaps::BLOCK < partitions {
-        fill(rows, former, partitions, mates, all, z, block, kept);
+    if stale == 0 {
+        return;
     }
-    sets::without(stale, b)
-}
-
-// Adds the sets in WIDE cells of `kept`, from the cell `at` on, to those in `held`.
-fn unite(held: &mut [u32], kept: &[u32], at: usize)
-    requires { ⌜ (length (now held) ≡ wide) × (at + wide ≤ length (now kept)) ⌝ }
-    ensures { λ _. ⌜ now (held .exit)
-        ≡ put 0 (λ t. unionOf (getD (now (held .entry)) t 0) (getD (now (kept .entry)) (at + t) 0)) wide (now (held .entry)) ⌝ }
-{
-    let mut t = 0;
-    while t < WIDE {
-        join(held, t, kept[at + t]);
-        t += 1;
-    }
-}
-
-// Adds the counts in WIDE cells of `kept`, from the cell `at` on, to those in `held`.
-fn add(held: &mut [u32], kept: &[u32], at: usize)
-    requires { ⌜ (length (now held) ≡ wide) × (at + wide ≤ length (now kept))
-        × ((t : ℕ) → t < wide → getD (now held) t 0 + getD (now kept) (at + t) 0 < 2 ^ 32) ⌝ }
-    ensures { λ _. ⌜ now (held .exit) ≡ put 0 (λ t. getD (now (held .entry)) t 0 + getD (now (kept .entry)) (at + t) 0) wide (now (held .entry)) ⌝ }
-{
-    let mut t = 0;
-    while t < WIDE {
-        held[t] = held[t] + kept[at + t];
-        t += 1;
-    }
-}
-
-// Writes what the first `blocks` blocks hold together in the WIDE cells of sets from the cell j on.
-fn unite_blocks(whole: &mut [u32], kept: &[u32], blocks: usize, j: usize)
-    requires { ⌜ (length (now whole) ≡ blockCells) × (length (now kept) ≡ keptCells) × (blocks ≤ mostBlocks) × (j + wide ≤ arcCells) ⌝ }
-    ensures { λ _. ⌜ now (whole .exit) ≡ put j (λ t. wholeOf (now (kept .entry)) blocks (j + t)) wide (now (whole .entry)) ⌝ }
-{
-    let mut held = [0u32; WIDE];
-    let mut b = 0;
-    while b < blocks {
-        unite(&mut held, kept, b * CELLS + j);
-        b += 1;
-    }
-    store(whole, j, &held);
-}
-
-// The same for the WIDE cells of counts from the node i on.
-fn add_blocks(whole: &mut [u32], kept: &[u32], blocks: usize, i: usize)
-    requires { ⌜ (length (now whole) ≡ blockCells) × (length (now kept) ≡ keptCells) × (blocks ≤ mostBlocks) × (i + wide ≤ mostNodes)
-        × Few (now kept) blocks ⌝ }
-    ensures { λ _. ⌜ now (whole .exit) ≡ put (arcCells + i) (λ t. wholeOf (now (kept .entry)) blocks (arcCells + i + t)) wide (now (whole .entry)) ⌝ }
-{
-    let mut held = [0u32; WIDE];
-    let at = cycles::ARCS + i;
-    let mut b = 0;
-    while b < blocks {
-        add(&mut held, kept, b * CELLS + at);
-        b += 1;
-    }
-    store(whole, at, &held);
-}
-
-// Writes what the first `blocks` blocks hold together of the nodes of `all`. Blocks lie in the inner loops, and nodes side by side in
-// their cells, so that the compiler takes several nodes by one instruction.
-fn gather(whole: &mut [u32], kept: &[u32], blocks: usize, all: u32)
-    requires { ⌜ (length (now whole) ≡ blockCells) × (length (now kept) ≡ keptCells) × (blocks ≤ mostBlocks) × Few (now kept) blocks ⌝ }
-    ensures { λ _. ⌜ Gathered (now (kept .entry)) blocks all (now (whole .exit)) ⌝ }
-{
-    let mut i = 0;
-    let mut left = all;
+    let mut left = stale;
     while left != 0 {
-        unite_blocks(whole, kept, blocks, i);
-        unite_blocks(whole, kept, blocks, i + Cluster::NODES);
-        unite_blocks(whole, kept, blocks, i + HIGHER);
-        add_blocks(whole, kept, blocks, i);
-        i += WIDE;
-        left = left >> WIDE;
+        let leaf = PARTS * i + sets::least(left) as usize;
+        fill(rows, tight, former, partitions, mates, all, z, leaf, kept);
+        left = sets::rest(left);
     }
+    merge(kept, i);
 }
 
-// Adds what the blocks hold together of node i to its sets, and all nodes at weight 0 where it has room.
-fn add_node(arcs: &mut [u32], whole: &[u32], caps: &[u32], all: u32, i: usize)
-    requires { ⌜ (arcCells ≤ length (now arcs)) × (length (now whole) ≡ blockCells) × (i < mostNodes) ⌝ }
-    ensures { λ _. ⌜ Grown (λ j b. min (is i (j % mostNodes)) (heldIn (now (whole .entry)) (now (caps .entry)) all j b)) (now (arcs .entry)) (now (arcs .exit)) ⌝ }
+// A node with room leads to all nodes at weight 0.
+fn add_room(arcs: &mut [u32], room: u32, all: u32)
+    requires { ⌜ arcCells ≤ length (now arcs) ⌝ }
+    ensures { λ _. ⌜ Grown (λ j b. min (bit room (j % mostNodes)) (min (is 1 (j / mostNodes)) (bit all b))) (now (arcs .entry)) (now (arcs .exit)) ⌝ }
 {
-    let copies = whole[i + cycles::ARCS];
-    let cap = swaps::cell(caps, i);
-    let room = if copies < cap { all } else { 0 };
-    join(arcs, i, whole[i]);
-    join(
-        arcs,
-        i + Cluster::NODES,
-        sets::union(whole[i + Cluster::NODES], room),
-    );
-    join(arcs, i + HIGHER, whole[i + HIGHER]);
-}
-
-// Adds what the blocks hold together of the nodes of `all`, and their room.
-fn add_nodes(arcs: &mut [u32], whole: &[u32], caps: &[u32], all: u32)
-    requires { ⌜ (arcCells ≤ length (now arcs)) × (length (now whole) ≡ blockCells) ⌝ }
-    ensures { λ _. ⌜ Grown (λ j b. min (bit all (j % mostNodes)) (heldIn (now (whole .entry)) (now (caps .entry)) all j b)) (now (arcs .entry)) (now (arcs .exit)) ⌝ }
-{
-    let mut left = all;
+    let mut left = room;
     while left != 0 {
-        let a = sets::least(left);
-        add_node(arcs, whole, caps, all, a as usize);
-        left = sets::without(left, a);
+        let a = sets::least(left) as usize;
+        arcs::join(arcs, a + Cluster::NODES, all);
+        left = sets::rest(left);
     }
 }
 
-// The exchange graph of the first `partitions` rows. The blocks that are stale are renewed. Nothing is written to `arcs` where it has fewer than
-// cycles::ARCS cells.
+// The exchange graph of the first `partitions` rows, where `room` are the nodes with fewer copies than their caps. The leaves that are stale, and their
+// branches, are renewed. Nothing is written to `arcs` where it has fewer than cycles::ARCS cells.
 pub fn build(
     rows: &[u32],
+    tight: &[u32],
     former: &[u32],
     partitions: usize,
     mates: &[u32],
     caps: &[u32],
+    room: u32,
     all: u32,
     z: u32,
-    stale: u32,
+    stale: u64,
     kept: &mut [u32],
     arcs: &mut [u32],
 )
-    requires { ⌜ (partitions ≤ bufferRows) × Kept (now rows) (now former) partitions (now mates) all z stale (now kept) ⌝ }
+    requires { ⌜ (partitions ≤ bufferRows) × Tight (now mates) z (now rows) partitions (now tight)
+        × ((u : ℕ) → u < mostNodes → bit room u ≡ one-if (ltb (copiesTo (now rows) partitions u) (getD (now caps) u 0)))
+        × Kept (now rows) (now former) partitions (now mates) all z (bit stale) (now kept) ⌝ }
     ensures { λ _. ⌜ (now (arcs .exit)
         ≡ arcsOf (now (rows .entry)) (now (former .entry)) partitions (now (mates .entry)) (now (caps .entry)) all z (now (arcs .entry)))
-        × Kept (now (rows .entry)) (now (former .entry)) partitions (now (mates .entry)) all z 0 (now (kept .exit)) ⌝ }
+        × Kept (now (rows .entry)) (now (former .entry)) partitions (now (mates .entry)) all z (bit 0) (now (kept .exit)) ⌝ }
 {
-    let mut left = stale;
-    while left != 0 {
-        left = renew(rows, former, partitions, mates, all, z, left, kept);
+    let mut i = 0;
+    while i < PARTS {
+        let part = ((stale >> (PARTS * i)) % BRANCH) as u32;
+        renew(
+            rows,
+            tight,
+            former,
+            partitions,
+            mates,
+            all,
+            z,
+            i,
+            part,
+            kept,
+        );
+        i += 1;
     }
     if arcs.len() < cycles::ARCS {
         return;
     }
-    clear(arcs);
-    let blocks = (partitions + (swaps::BLOCK - 1)) / swaps::BLOCK;
-    let mut whole = [0u32; CELLS];
-    gather(&mut whole, kept, blocks, all);
-    add_nodes(arcs, &whole, caps, all);
+    gather(arcs, kept);
+    add_room(arcs, room, all);
 }

@@ -1,46 +1,62 @@
-// For each node the set of the partitions whose row has it, in words of BITS partitions. A node past the last has no set.
+// For each node the set of the partitions whose row has it, in words of BITS partitions, and after the sets how many partitions each has: the copies
+// of the node. A node past the last has no set.
 ghost use mathlib.Core.Path.{_≡_};
 ghost use Prim.Native.Nat.{_≤_, _<_};
-ghost use lib.ListN.{length};
+ghost use lib.Dec.{ltb};
+ghost use lib.ListN.{getD};
+ghost use Rattle.sums.specs.TermsSums.{one-if};
+ghost use Rattle.sums.specs.ModelSums.{is};
 ghost use Rattle.cluster.specs.Terms.{mostNodes, bufferRows};
 ghost use Rattle.exchange.specs.ModelRow.{copies};
-ghost use Rattle.sets.specs.ModelBits.{bitsAt};
-ghost use Rattle.holders.specs.ModelHolders.{holderCells, Held, takenOn, letGo, passedOn, Taken};
+ghost use Rattle.sets.specs.ModelBits.{bit, bitsAt, maskOf};
+ghost use Rattle.holders.specs.ModelHolders.{Counted, Held, Taken, Gone, Exchanged};
 use cluster::Cluster;
 
 // The partitions of a word.
 pub const BITS: usize = sets::WIDTH as usize;
 // The words of a set.
 pub const WORDS: usize = Cluster::PARTITIONS / BITS;
-// The cells of all sets.
-pub const CELLS: usize = Cluster::NODES * WORDS;
+// The cells of all sets, after which the counts stand.
+const COUNTS: usize = Cluster::NODES * WORDS;
+// The cells of the sets and of the counts.
+pub const CELLS: usize = COUNTS + Cluster::NODES;
 
 // Node u takes partition p on.
 fn take_on(held: &mut [u32], p: usize, u: u32)
-    requires { ⌜ (length (now held) ≡ holderCells) × (p < bufferRows) ⌝ }
-    ensures { λ _. ⌜ now (held .exit) ≡ takenOn (now (held .entry)) p u ⌝ }
+    requires { ⌜ Counted (now held) × (p < bufferRows) ⌝ }
+    ensures { λ _. ⌜ Counted (now (held .exit)) × Taken (is u) p (now (held .entry)) (now (held .exit)) ⌝ }
 {
     if (u as usize) < Cluster::NODES {
         let i = WORDS * u as usize + p / BITS;
-        held[i] = sets::with(held[i], (p % BITS) as u32);
+        let j = (p % BITS) as u32;
+        let word = held[i];
+        if !sets::member(word, j) {
+            held[COUNTS + u as usize] += 1;
+            held[i] = sets::with(word, j);
+        }
     }
 }
 
 // Node u lets partition p go.
 fn let_go(held: &mut [u32], p: usize, u: u32)
-    requires { ⌜ (length (now held) ≡ holderCells) × (p < bufferRows) ⌝ }
-    ensures { λ _. ⌜ now (held .exit) ≡ letGo (now (held .entry)) p u ⌝ }
+    requires { ⌜ Counted (now held) × (p < bufferRows) ⌝ }
+    ensures { λ _. ⌜ Counted (now (held .exit)) × Gone u p (now (held .entry)) (now (held .exit)) ⌝ }
 {
     if (u as usize) < Cluster::NODES {
         let i = WORDS * u as usize + p / BITS;
-        held[i] = sets::without(held[i], (p % BITS) as u32);
+        let j = (p % BITS) as u32;
+        let word = held[i];
+        if sets::member(word, j) {
+            held[COUNTS + u as usize] -= 1;
+            held[i] = sets::without(word, j);
+        }
     }
 }
 
 // Node u gave way to node v in the row of partition p.
 pub fn exchange(held: &mut [u32], p: usize, u: u32, v: u32)
-    requires { ⌜ (length (now held) ≡ holderCells) × (p < bufferRows) ⌝ }
-    ensures { λ _. ⌜ now (held .exit) ≡ passedOn (now (held .entry)) p u v ⌝ }
+    requires { ⌜ Counted (now held) × (p < bufferRows) ⌝ }
+    ensures { λ _. ⌜ Exchanged p u v (now (held .entry)) (now (held .exit)) ⌝ }
 {
     let_go(held, p, u);
     take_on(held, p, v);
@@ -48,8 +64,8 @@ pub fn exchange(held: &mut [u32], p: usize, u: u32, v: u32)
 
 // Each node of the row takes partition p on.
 fn hold(held: &mut [u32], p: usize, row: u32)
-    requires { ⌜ (length (now held) ≡ holderCells) × (p < bufferRows) ⌝ }
-    ensures { λ _. ⌜ (length (now (held .exit)) ≡ holderCells) × Taken row p (now (held .entry)) (now (held .exit)) ⌝ }
+    requires { ⌜ Counted (now held) × (p < bufferRows) ⌝ }
+    ensures { λ _. ⌜ Counted (now (held .exit)) × Taken (bit row) p (now (held .entry)) (now (held .exit)) ⌝ }
 {
     let mut left = row;
     while left != 0 {
@@ -76,11 +92,21 @@ pub fn count(rows: &[u32], partitions: usize, held: &[u32], u: u32) -> u32
     requires { ⌜ (partitions ≤ bufferRows) × (u < mostNodes) × Held (now rows) partitions (now held) ⌝ }
     ensures { λ r. ⌜ r ≡ copies partitions (bitsAt (now (rows .entry))) u ⌝ }
 {
-    let mut sum = 0;
-    let mut k = 0;
-    while k < WORDS {
-        sum += sets::count(held[WORDS * u as usize + k]);
-        k += 1;
+    held[COUNTS + u as usize]
+}
+
+// The set of the nodes below `nodes` that have fewer copies in the rows than their caps. A cap past the end of the slice is 0.
+pub fn room(rows: &[u32], partitions: usize, held: &[u32], caps: &[u32], nodes: u32) -> u32
+    requires { ⌜ (nodes ≤ mostNodes) × (partitions ≤ bufferRows) × Held (now rows) partitions (now held) ⌝ }
+    ensures { λ r. ⌜ r ≡ maskOf (λ u. one-if (ltb (copies partitions (bitsAt (now (rows .entry))) u) (getD (now (caps .entry)) u 0))) nodes ⌝ }
+{
+    let mut free = 0;
+    let mut u = 0;
+    while u < nodes {
+        if count(rows, partitions, held, u) < swaps::cell(caps, u as usize) {
+            free = sets::with(free, u);
+        }
+        u += 1;
     }
-    sum
+    free
 }

@@ -8,20 +8,21 @@ use mathlib.Core.Logic.{⊎-elim}
 use native.Mathlib.Omega.{arith}
 use native.Mathlib.Numerals.{add-one}
 use native.Mathlib.Nat.{sub-zero}
-use lib.Dec.{eqb, leb}
+use lib.Dec.{eqb, ltb, leb}
 use lib.ListN.{length, getD, replicate}
-use borrow.Author.Tests.{eq-eqb, ne-eqb, eqb-true, leb-true, not-false}
-use Rattle.sums.specs.TermsSums.{sumTo}
-use Rattle.sums.proofs.Sum.{eq-or-ne}
+use borrow.Author.Tests.{lt-ltb, le-ltb, eq-eqb, ne-eqb, eqb-true, leb-true, not-false}
+use Rattle.sums.specs.TermsSums.{sumTo, one-if}
+use Rattle.sums.proofs.Sum.{lt-or-ge, eq-or-ne}
 use Rattle.sums.proofs.Tests.{both}
-use Rattle.sets.specs.ModelBits.{maskBits, bitsAt, belowOf, countOf, meetOf}
-use Rattle.sets.proofs.Laws.{count-le, meet-lt}
+use Rattle.sets.specs.ModelBits.{maskBits, bit, bitsAt, maskOf, belowOf, countOf, meetOf}
+use Rattle.sets.proofs.Laws.{bit-maskOf, count-le, meet-lt}
 use Rattle.cluster.specs.Terms.{mostNodes}
+use Rattle.exchange.specs.ModelRow.{copies}
 use Rattle.exchange.specs.ModelLevels.{Outcome, Potential, Cycle, outcome}
 use Rattle.exchange.specs.ModelUncross.{Walk, Same}
 use Rattle.exchange.proofs.Search.{outcome-cycle}
 use Rattle.exchange.proofs.Walk.{same-refl, same-trans}
-use Rattle.graph.specs.ModelArcs.{arcsOf}
+use Rattle.graph.specs.ModelArcs.{copiesTo, arcsOf}
 use Rattle.cycles.specs.ModelGraph.{walkCells, arcCells, graphOf}
 use Rattle.cycles.specs.ModelFound.{searchable, endLength, foundLength, foundWalk}
 use Rattle.walks.specs.ModelWalks.{okOf, walkIn, renewed, stands}
@@ -273,6 +274,10 @@ module _ (former : List ℕ) (P : ℕ) (mates caps : List ℕ) (n z : ℕ) where
       pub goes : ran ≡ later i (run (improvesIn former P mates caps n z) (nextIn former P mates caps n z) (a - i) (reached i))
       pub holds : Holds (reached i) rows w
 
+    -- The run stopped at the rows with its allowance spent.
+    abbrev pub Stopped : List ℕ → Type 0
+    Stopped rows = (rows ≡ ran .state .rows) × (false ≡ ran .finished) × (a ≡ ran .steps)
+
     pub run-begins : (w : Walk) → Same (begun start .last) w → At 0 start w
     unfolding ranIn after
     run-begins w s =
@@ -283,7 +288,7 @@ module _ (former : List ℕ) (P : ℕ) (mates caps : List ℕ) (n z : ℕ) where
 
     module _ (i : ℕ) (rows : List ℕ) (w : Walk) (h : At i rows w) (new : List ℕ) (u : Walk) where
       -- A walk was turned: the run goes on.
-      pub run-next : i < a → new ≡ steppedIn former P mates caps n z true rows w .rows → Same (steppedIn former P mates caps n z true rows w .last) u
+      run-next : i < a → new ≡ steppedIn former P mates caps n z true rows w .rows → Same (steppedIn former P mates caps n z true rows w .last) u
           → (u .len ≡ 0 → ⊥) → At (i + 1) new u
       run-next l e t some =
           record {
@@ -298,7 +303,7 @@ module _ (former : List ℕ) (P : ℕ) (mates caps : List ℕ) (n z : ℕ) where
           reached-next = after-next (improvesIn former P mates caps n z) (nextIn former P mates caps n z) i (begun start)
 
       -- There was none: the run is over.
-      pub run-done : i < a → new ≡ steppedIn former P mates caps n z true rows w .rows → Same (steppedIn former P mates caps n z true rows w .last) u
+      run-done : i < a → new ≡ steppedIn former P mates caps n z true rows w .rows → Same (steppedIn former P mates caps n z true rows w .last) u
           → u .len ≡ 0 → (new ≡ ran .state .rows) × (true ≡ ran .finished) × (i ≡ ran .steps)
       run-done l e t none =
           let f = step-improves (reached i) rows w (h .holds) new u t ∙ ap not (eq-eqb (u .len) 0 none) in
@@ -309,7 +314,7 @@ module _ (former : List ℕ) (P : ℕ) (mates caps : List ℕ) (n z : ℕ) where
           )
 
       -- The allowance is spent: the last step only looks.
-      pub run-stops : a ≤ i → new ≡ steppedIn former P mates caps n z false rows w .rows → Same (steppedIn former P mates caps n z false rows w .last) u
+      run-stops : a ≤ i → new ≡ steppedIn former P mates caps n z false rows w .rows → Same (steppedIn former P mates caps n z false rows w .last) u
           → (new ≡ ran .state .rows) × (eqb (u .len) 0 ≡ ran .finished) × (i ≡ ran .steps)
       run-stops l e t =
           let q = h .goes ∙ run-spent (improvesIn former P mates caps n z) (nextIn former P mates caps n z) a i (reached i) l in (
@@ -321,6 +326,43 @@ module _ (former : List ℕ) (P : ℕ) (mates caps : List ℕ) (n z : ℕ) where
           not-not : (b : Bool) → not (not b) ≡ b
           not-not true = refl
           not-not false = refl
+
+      module _ (l : i ≤ a) (e : new ≡ steppedIn former P mates caps n z (ltb i a) rows w .rows) (t : Same (steppedIn former P mates caps n z (ltb i a) rows w .last) u) where
+        made : (b : Bool) → ltb i a ≡ b → (new ≡ steppedIn former P mates caps n z b rows w .rows) × Same (steppedIn former P mates caps n z b rows w .last) u
+        made b q = (
+          e ∙ ap (λ (x : Bool). steppedIn former P mates caps n z x rows w .rows) q,
+          subst (λ (x : Bool). Same (steppedIn former P mates caps n z x rows w .last) u) q t,
+        )
+
+        -- Where no walk was left, the run has finished.
+        pub run-finished : u .len ≡ 0 → (new ≡ ran .state .rows) × (true ≡ ran .finished) × (i ≡ ran .steps)
+        run-finished none =
+            ⊎-elim (λ h. let m = made true (lt-ltb i a h) in run-done h (m .0) (m .1) none)
+            (λ h. let m = made false (le-ltb i a h) in
+            let s = run-stops h (m .0) (m .1) in (s .0, sym (eq-eqb (u .len) 0 none) ∙ s .1, s .2)) (lt-or-ge i a)
+
+        -- Where there was one, the run goes on, unless its allowance is spent.
+        pub run-goes : (u .len ≡ 0 → ⊥) → (i + 1 ≤ a → At (i + 1) new u) × (a < i + 1 → Stopped new)
+        run-goes some = (
+          λ h. let m = made true (lt-ltb i a (omega (arith, h))) in run-next (omega (arith, h)) (m .0) (m .1) some,
+          λ h. let g : a ≤ i = omega (arith, h) in
+              let m = made false (le-ltb i a g) in
+              let s = run-stops g (m .0) (m .1) in
+              let d : a ≡ i = omega (arith, g, l) in (s .0, sym (ne-eqb (u .len) 0 some) ∙ s .1, d ∙ s .2),
+        )
+
+-- ---- room
+
+-- The nodes with room, one by one.
+pub room-bit : (rows : List ℕ) (P : ℕ) (caps : List ℕ) (room : ℕ) → room ≡ maskOf (λ u. one-if (ltb (copies P (bitsAt rows) u) (getD caps u 0))) mostNodes → (u : ℕ) → u < mostNodes
+    → bit room u ≡ one-if (ltb (copiesTo rows P u) (getD caps u 0))
+unfolding copies copiesTo one-if
+room-bit rows P caps room e u h =
+    ap (λ (x : ℕ). bit x u) e ∙ bit-maskOf (λ u. one-if (ltb (copies P (bitsAt rows) u) (getD caps u 0))) mostNodes u h (one-le (ltb (copies P (bitsAt rows) u) (getD caps u 0)))
+  where
+    one-le : (b : Bool) → one-if b ≤ 1
+    one-le true = omega arith
+    one-le false = omega arith
 
 -- ---- the pairs shared
 

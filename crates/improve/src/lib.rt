@@ -1,13 +1,14 @@
 // One improvement of rows, and the run of improvements, until there is none or the allowance is spent. The walk that was turned last is kept: where it
-// stands again in the new rows, it is turned again, and no graph is built and searched. What the blocks of rows allow is kept, too, so that a graph is
-// built from the changed blocks only.
+// stands again in the new rows, it is turned again, and no graph is built and searched. What the rows allow is kept, too, so that a graph is
+// built from the changed rows only.
 ghost use mathlib.Core.Path.{_≡_};
 ghost use Prim.Native.Nat.{_≤_, _<_};
 ghost use lib.ListN.{length, replicate};
 ghost use Rattle.cluster.specs.Terms.{mostNodes, bufferRows};
 ghost use Rattle.cycles.specs.ModelGraph.{walkCells};
 ghost use Rattle.exchange.specs.ModelUncross.{Same};
-ghost use Rattle.sets.specs.ModelBits.{belowOf};
+ghost use Rattle.sets.specs.ModelBits.{bit, belowOf};
+ghost use Rattle.swaps.specs.ModelSwaps.{Tight};
 ghost use Rattle.holders.specs.ModelHolders.{Held};
 ghost use Rattle.walks.specs.ModelWalks.{walkIn};
 ghost use Rattle.graph.specs.ModelKept.{keptCells, Kept};
@@ -22,18 +23,19 @@ pub struct Ended {
     pub improvements: u32,
 }
 
-// What a step leaves: how many arcs the walk in y and q has, and the blocks of rows of which nothing is kept.
+// What a step leaves: how many arcs the walk in y and q has, and the leaves of rows of which nothing is kept.
 struct Left {
     len: usize,
-    stale: u32,
+    stale: u64,
 }
 
-// The walk of a cycle of the exchange graph into y and q. Its length is answered, 0 where there is none. `kept` holds what the blocks of rows allow that
+// The walk of a cycle of the exchange graph into y and q. Its length is answered, 0 where there is none. `kept` holds what the leaves of rows allow that
 // are not stale, and then what all allow.
 fn search(
     y: &mut [u32],
     q: &mut [u32],
     rows: &[u32],
+    tight: &[u32],
     held: &[u32],
     former: &[u32],
     had: &[u32],
@@ -42,24 +44,27 @@ fn search(
     caps: &[u32],
     nodes: u32,
     z: u32,
-    stale: u32,
+    stale: u64,
     kept: &mut [u32],
 ) -> usize
     requires { ⌜ (walkCells ≤ length (now y)) × (walkCells ≤ length (now q)) × (partitions ≤ bufferRows)
-        × Kept (now rows) (now former) partitions (now mates) (belowOf nodes) z stale (now kept)
-        × Held (now rows) partitions (now held) × Held (now former) partitions (now had) ⌝ }
+        × Kept (now rows) (now former) partitions (now mates) (belowOf nodes) z (bit stale) (now kept)
+        × Tight (now mates) z (now rows) partitions (now tight) × Held (now rows) partitions (now held) × Held (now former) partitions (now had) ⌝ }
     ensures { λ r. ⌜ (r ≤ mostNodes) × (length (now (y .exit)) ≡ length (now (y .entry))) × (length (now (q .exit)) ≡ length (now (q .entry)))
         × Same (foundIn (now (former .entry)) partitions (now (mates .entry)) (now (caps .entry)) nodes z (now (rows .entry))) (walkIn r (now (y .exit)) (now (q .exit)))
-        × Kept (now (rows .entry)) (now (former .entry)) partitions (now (mates .entry)) (belowOf nodes) z 0 (now (kept .exit)) ⌝ }
+        × Kept (now (rows .entry)) (now (former .entry)) partitions (now (mates .entry)) (belowOf nodes) z (bit 0) (now (kept .exit)) ⌝ }
 {
     let all = sets::below(nodes);
+    let room = holders::room(rows, partitions, held, caps, Cluster::NODES as u32);
     let mut arcs = [0u32; cycles::ARCS];
     graph::build(
         rows,
+        tight,
         former,
         partitions,
         mates,
         caps,
+        room,
         all,
         z,
         stale,
@@ -74,6 +79,7 @@ fn search(
         &walk,
         m,
         rows,
+        tight,
         held,
         former,
         had,
@@ -86,13 +92,14 @@ fn search(
     m
 }
 
-// The walk to turn next into y and q, which hold the one that was turned last; it has no arcs where there is none. `kept` holds what the blocks of rows
+// The walk to turn next into y and q, which hold the one that was turned last; it has no arcs where there is none. `kept` holds what the leaves of rows
 // allow that are not stale, before and after.
 fn seek(
     y: &mut [u32],
     q: &mut [u32],
     last: Left,
     rows: &[u32],
+    tight: &[u32],
     held: &[u32],
     former: &[u32],
     had: &[u32],
@@ -104,12 +111,12 @@ fn seek(
     kept: &mut [u32],
 ) -> Left
     requires { ⌜ (last .len ≤ mostNodes) × (walkCells ≤ length (now y)) × (walkCells ≤ length (now q)) × (partitions ≤ bufferRows)
-        × Kept (now rows) (now former) partitions (now mates) (belowOf nodes) z (last .stale) (now kept)
-        × Held (now rows) partitions (now held) × Held (now former) partitions (now had) ⌝ }
+        × Kept (now rows) (now former) partitions (now mates) (belowOf nodes) z (bit (last .stale)) (now kept)
+        × Tight (now mates) z (now rows) partitions (now tight) × Held (now rows) partitions (now held) × Held (now former) partitions (now had) ⌝ }
     ensures { λ r. ⌜ (r .len ≤ mostNodes) × (length (now (y .exit)) ≡ length (now (y .entry))) × (length (now (q .exit)) ≡ length (now (q .entry)))
         × Same (soughtIn (now (former .entry)) partitions (now (mates .entry)) (now (caps .entry)) nodes z (now (rows .entry)) (walkIn (last .len) (now (y .entry)) (now (q .entry))))
         (walkIn (r .len) (now (y .exit)) (now (q .exit)))
-        × Kept (now (rows .entry)) (now (former .entry)) partitions (now (mates .entry)) (belowOf nodes) z (r .stale) (now (kept .exit)) ⌝ }
+        × Kept (now (rows .entry)) (now (former .entry)) partitions (now (mates .entry)) (belowOf nodes) z (bit (r .stale)) (now (kept .exit)) ⌝ }
 {
     let all = sets::below(nodes);
     let len = last.len;
@@ -118,6 +125,7 @@ fn seek(
         q,
         len,
         rows,
+        tight,
         held,
         former,
         had,
@@ -134,6 +142,7 @@ fn seek(
         y,
         q,
         rows,
+        tight,
         held,
         former,
         had,
@@ -154,6 +163,7 @@ fn step(
     q: &mut [u32],
     last: Left,
     rows: &mut [u32],
+    tight: &mut [u32],
     held: &mut [u32],
     former: &[u32],
     had: &[u32],
@@ -166,21 +176,22 @@ fn step(
     kept: &mut [u32],
 ) -> Left
     requires { ⌜ (last .len ≤ mostNodes) × (walkCells ≤ length (now y)) × (walkCells ≤ length (now q)) × (partitions ≤ bufferRows) × (partitions ≤ length (now rows))
-        × Kept (now rows) (now former) partitions (now mates) (belowOf nodes) z (last .stale) (now kept)
-        × Held (now rows) partitions (now held) × Held (now former) partitions (now had) ⌝ }
+        × Kept (now rows) (now former) partitions (now mates) (belowOf nodes) z (bit (last .stale)) (now kept)
+        × Tight (now mates) z (now rows) partitions (now tight) × Held (now rows) partitions (now held) × Held (now former) partitions (now had) ⌝ }
     ensures { λ r. ⌜ (r .len ≤ mostNodes) × (length (now (y .exit)) ≡ length (now (y .entry))) × (length (now (q .exit)) ≡ length (now (q .entry)))
         × (now (rows .exit)
         ≡ steppedIn (now (former .entry)) partitions (now (mates .entry)) (now (caps .entry)) nodes z allowed (now (rows .entry)) (walkIn (last .len) (now (y .entry)) (now (q .entry))) .rows)
         × Same (steppedIn (now (former .entry)) partitions (now (mates .entry)) (now (caps .entry)) nodes z allowed (now (rows .entry)) (walkIn (last .len) (now (y .entry)) (now (q .entry))) .last)
         (walkIn (r .len) (now (y .exit)) (now (q .exit)))
-        × Kept (now (rows .exit)) (now (former .entry)) partitions (now (mates .entry)) (belowOf nodes) z (r .stale) (now (kept .exit))
-        × Held (now (rows .exit)) partitions (now (held .exit)) ⌝ }
+        × Kept (now (rows .exit)) (now (former .entry)) partitions (now (mates .entry)) (belowOf nodes) z (bit (r .stale)) (now (kept .exit))
+        × Tight (now (mates .entry)) z (now (rows .exit)) partitions (now (tight .exit)) × Held (now (rows .exit)) partitions (now (held .exit)) ⌝ }
 {
     let next = seek(
         y,
         q,
         last,
         rows,
+        tight,
         held,
         former,
         had,
@@ -200,6 +211,7 @@ fn step(
         q,
         next.len,
         rows,
+        tight,
         held,
         former,
         partitions,
@@ -208,7 +220,7 @@ fn step(
         z,
     );
     let len = turned.len;
-    let stale = sets::union(next.stale, turned.changed);
+    let stale = next.stale | turned.changed;
     Left { len, stale }
 }
 
@@ -222,11 +234,13 @@ fn verdict(finished: bool, improvements: u32) -> Ended
     }
 }
 
-// The run from the rows in hand, with an allowance of improvements; y and q hold no walk, and `kept` nothing of the rows.
+// The run from the rows in hand, with an allowance of improvements; y and q hold no walk, and `kept` nothing of the rows. A run that has spent its
+// allowance looks once more for a walk without turning it.
 fn go(
     y: &mut [u32],
     q: &mut [u32],
     rows: &mut [u32],
+    tight: &mut [u32],
     held: &mut [u32],
     former: &[u32],
     had: &[u32],
@@ -239,7 +253,8 @@ fn go(
     kept: &mut [u32],
 ) -> Ended
     requires { ⌜ (partitions ≤ bufferRows) × (partitions ≤ length (now rows)) × (now y ≡ replicate walkCells 0) × (now q ≡ replicate walkCells 0)
-        × (length (now kept) ≡ keptCells) × Held (now rows) partitions (now held) × Held (now former) partitions (now had) ⌝ }
+        × (length (now kept) ≡ keptCells) × Tight (now mates) z (now rows) partitions (now tight)
+        × Held (now rows) partitions (now held) × Held (now former) partitions (now had) ⌝ }
     ensures { λ r. ⌜ (now (rows .exit)
         ≡ ranIn (now (former .entry)) partitions (now (mates .entry)) (now (caps .entry)) nodes z allowance (now (rows .entry)) .state .rows)
         × (r .finished
@@ -247,15 +262,19 @@ fn go(
         × (r .improvements
         ≡ ranIn (now (former .entry)) partitions (now (mates .entry)) (now (caps .entry)) nodes z allowance (now (rows .entry)) .steps) ⌝ }
 {
-    let stale = sets::below(graph::BLOCKS as u32);
-    let mut last = Left { len: 0, stale };
+    let mut last = Left {
+        len: 0,
+        stale: u64::MAX,
+    };
+    let most = allowance as u64;
     let mut done = 0;
-    while done < allowance {
+    while done <= most {
         last = step(
             y,
             q,
             last,
             rows,
+            tight,
             held,
             former,
             had,
@@ -264,34 +283,18 @@ fn go(
             caps,
             nodes,
             z,
-            true,
+            done < most,
             kept,
         );
         if last.len == 0 {
-            return verdict(true, done);
+            return verdict(true, done as u32);
         }
         done += 1;
     }
-    last = step(
-        y,
-        q,
-        last,
-        rows,
-        held,
-        former,
-        had,
-        partitions,
-        mates,
-        caps,
-        nodes,
-        z,
-        false,
-        kept,
-    );
-    verdict(last.len == 0, done)
+    verdict(false, allowance)
 }
 
-// The run from the rows in hand, with an allowance of improvements.
+// The run from the rows in hand, with an allowance of improvements. `kept` is room for what the rows allow; it may hold anything.
 pub fn run(
     rows: &mut [u32],
     former: &[u32],
@@ -301,8 +304,9 @@ pub fn run(
     nodes: u32,
     z: u32,
     allowance: u32,
+    kept: &mut [u32],
 ) -> Ended
-    requires { ⌜ (partitions ≤ bufferRows) × (partitions ≤ length (now rows)) ⌝ }
+    requires { ⌜ (partitions ≤ bufferRows) × (partitions ≤ length (now rows)) × (length (now kept) ≡ keptCells) ⌝ }
     ensures { λ r. ⌜ (now (rows .exit)
         ≡ ranIn (now (former .entry)) partitions (now (mates .entry)) (now (caps .entry)) nodes z allowance (now (rows .entry)) .state .rows)
         × (r .finished
@@ -312,7 +316,8 @@ pub fn run(
 {
     let mut y = [0u32; cycles::WALK];
     let mut q = [0u32; cycles::WALK];
-    let mut kept = [0u32; graph::KEPT];
+    let mut tight = [0u32; Cluster::PARTITIONS];
+    swaps::tighten(mates, z, rows, partitions, &mut tight);
     let mut held = [0u32; holders::CELLS];
     holders::fill(rows, partitions, &mut held);
     let mut had = [0u32; holders::CELLS];
@@ -321,6 +326,7 @@ pub fn run(
         &mut y,
         &mut q,
         rows,
+        &mut tight,
         &mut held,
         former,
         &had,
@@ -330,7 +336,7 @@ pub fn run(
         nodes,
         z,
         allowance,
-        &mut kept,
+        kept,
     )
 }
 

@@ -1,5 +1,5 @@
 pub mod Named
-pub mod Rows
 pub mod Where
 pub mod Written
 pub mod Laws
+pub mod Rows

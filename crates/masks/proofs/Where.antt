@@ -1,6 +1,6 @@
 -- The ids of the nodes of a mask: the first of them is that of the least node, and the others are those of the mask without it.
 -- Assumes nothing.
-use Prim.Native.Nat.{ℕ, zero, suc, _+_, _≤_, _<_, min}
+use Prim.Native.Nat.{ℕ, zero, suc, _+_, _-_, _≤_, _<_, min}
 use mathlib.Core.Path.{_≡_, refl, sym, ap, ap₂, _∙_}
 use mathlib.Core.List.{List, [], _∷_}
 use mathlib.Core.Bool.{Bool, cond}
@@ -108,3 +108,10 @@ module _ (ns : List Node) (r : List ℕ) (j s : ℕ) (few : length ns ≤ mostNo
   -- and those from j + 1 on are those of the mask without it.
   pub where-others : drop (j + 1) r ≡ idsWhere ns (bit (withoutOf s (leastOf s)))
   where-others = sym (drop-drop 1 j r) ∙ (ap (λ (l : List ℕ). drop 1 l) inv ∙ where-least ns s few .1)
+
+  -- Where the mask is empty, the ids from j on are 0.
+  pub where-end : s ≡ 0 → (i : ℕ) → j ≤ i → 0 ≡ getD r i 0
+  where-end z i h =
+      let e : j + (i - j) ≡ i = omega arith in
+      sym (ap (λ (k : ℕ). getD r k 0) (sym e)
+      ∙ (sym (getD-drop j r (i - j) 0) ∙ ap (λ (l : List ℕ). getD l (i - j) 0) (inv ∙ (ap (λ (m : ℕ). idsWhere ns (bit m)) z ∙ where-empty ns))))

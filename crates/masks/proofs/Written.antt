@@ -16,7 +16,7 @@ use Rattle.sums.proofs.Sum.{lt-or-ge}
 use Rattle.sets.specs.ModelBits.{bit}
 use Rattle.sums.specs.TermsSums.{tab}
 use Rattle.cells.specs.ModelCells.{put}
-use Rattle.cells.proofs.Cells.{length-tab, getD-tab, tab-more, put-cong}
+use Rattle.cells.proofs.Cells.{length-tab, getD-tab, tab-more, put-cong, put-over}
 use Rattle.cluster.specs.Terms.{rowCells, row}
 use Rattle.incidence.specs.ModelIncidence.{idsWhere}
 use Rattle.cluster.specs.declared.Node.{Node}
@@ -32,6 +32,11 @@ tab-put f n zero l h = ap (λ (k : ℕ). tab f k ++ drop k l) (sym (add-zero n))
 tab-put f n (suc m) l h =
     ap (λ (r : List ℕ). set r (n + m) (f (n + m))) (tab-put f n m l (omega arith))
     ∙ (tab-more f (n + m) l (omega arith) ∙ ap (λ (k : ℕ). tab f k ++ drop k l) (add-one (n + m) ∙ sym (add-suc n m)))
+
+-- The first j cells of a blank row, where the others stay 0.
+pub blank-written : (f : ℕ → ℕ) (from j : ℕ) (l₀ l₁ l : List ℕ) → from + rowCells ≤ length l₀ → j ≤ rowCells → l₁ ≡ put from (λ i. 0) rowCells l₀ → l ≡ put from f j l₁
+    → ((i : ℕ) → j ≤ i → i < rowCells → 0 ≡ f i) → l ≡ put from f rowCells l₀
+blank-written f from j l₀ l₁ l long few blank e same = e ∙ (ap (put from f j) blank ∙ put-over 0 from f (λ i. 0) j rowCells l₀ few long same)
 
 -- ---- rows
 

@@ -1,10 +1,10 @@
 // Between rows of ids in lent cells and sets of nodes, as masks over the indices of a cluster's nodes in use.
 ghost use mathlib.Core.Path.{_≡_};
-ghost use Prim.Native.Nat.{_+_, _<_, _≤_};
+ghost use Prim.Native.Nat.{ℕ, _+_, _<_, _≤_};
 ghost use mathlib.Core.List.{List};
 ghost use lib.ListN.{length, take, drop, getD};
 ghost use lib.Dec.{ltb};
-ghost use mathlib.Core.Bool.{cond};
+ghost use mathlib.Core.Bool.{true, cond};
 ghost use Rattle.sets.specs.ModelBits.{bit};
 ghost use Rattle.cells.specs.ModelCells.{put};
 ghost use Rattle.cluster.specs.Terms.{mostNodes, rowCells, topology, idsIn};
@@ -29,7 +29,24 @@ fn ids_of(c: Cluster) -> [u32; Cluster::NODES]
     ids
 }
 
-// The nodes, of the n whose ids are given, that the ids of the row that starts at cell `from` name: one walk over both.
+// The first node from `from` on, of the n whose ids are given, whose id is not below `id`; n where there is none.
+fn seek(ids: &[u32], n: usize, from: usize, id: u32) -> usize
+    requires { ⌜ (from ≤ n) × (n ≤ length (now ids)) ⌝ }
+    ensures { λ r. ⌜ (from ≤ r) × (r ≤ n) × ((b : ℕ) → from ≤ b → b < r → getD (now (ids .entry)) b 0 < id)
+        × (r < n → id ≤ getD (now (ids .entry)) r 0) ⌝ }
+{
+    let mut b = from;
+    while b < n {
+        if id <= ids[b] {
+            return b;
+        }
+        b += 1;
+    }
+    b
+}
+
+// The nodes, of the n whose ids are given, that the ids of the row that starts at cell `from` name: one walk over both. It goes from each id
+// to the next node that can have it, as there are more nodes than ids.
 fn walk_row(ids: &[u32], n: usize, cells: &[u32], from: usize) -> u32
     requires { ⌜ (n ≤ mostNodes) × (n ≤ length (now ids)) × (from + rowCells ≤ length (now cells)) ⌝ }
     ensures { λ r. ⌜ ((ns : List Node) → n ≡ length ns → now (ids .entry) ≡ idCells ns
@@ -39,23 +56,23 @@ fn walk_row(ids: &[u32], n: usize, cells: &[u32], from: usize) -> u32
     let mut mask = 0;
     let mut b = 0;
     let mut i = from;
-    while b < n {
-        if to <= i {
-            return mask;
-        }
+    while i < to {
         let id = cells[i];
         if id == 0 {
             return mask;
         }
-        let node = ids[b];
-        if id < node {
-            i += 1;
-        } else {
-            if id == node {
-                mask = sets::with(mask, b as u32);
+        b = seek(ids, n, b, id);
+        loop {
+            if n <= b {
+                return mask;
             }
-            b += 1;
+            if ids[b] != id {
+                break;
+            }
+            mask = sets::with(mask, b as u32);
+            b = seek(ids, n, b + 1, id);
         }
+        i += 1;
     }
     mask
 }
@@ -104,19 +121,17 @@ pub fn read_masks(c: Cluster, cells: &[u32], partitions: usize, masks: &mut [u32
     }
 }
 
-// How many ids the first `partitions` rows have, each row that is ill formed or not there counted as nine; 0 where `partitions` is
-// more than a buffer has rows.
+// How many ids the first `partitions` rows have, each of which is rising ids followed by zeros: its cells that are not 0.
 pub fn count_ids(cells: &[u32], partitions: usize) -> u32
+    requires { ⌜ rowsFormed (now cells) partitions ≡ true ⌝ }
     ensures { λ r. ⌜ r ≡ idsTotal (now (cells .entry)) partitions ⌝ }
 {
-    if Cluster::PARTITIONS < partitions {
-        return 0;
-    }
+    let n = partitions * Cluster::ROW;
     let mut total = 0;
-    let mut p = 0;
-    while p < partitions {
-        total += rows::row_ids(cells, p);
-        p += 1;
+    let mut i = 0;
+    while i < n {
+        total += if cells[i] == 0 { 0 } else { 1 };
+        i += 1;
     }
     total
 }
@@ -146,20 +161,35 @@ fn mask_at(masks: &[u32], partitions: usize, p: usize) -> u32
     if p < partitions { masks[p] } else { 0 }
 }
 
+// Zeros into the row that starts at cell `from`.
+fn blank_row(cells: &mut [u32], from: usize)
+    requires { ⌜ from + rowCells ≤ length (now cells) ⌝ }
+    ensures { λ _. ⌜ now (cells .exit) ≡ put from (λ _. 0) rowCells (now (cells .entry)) ⌝ }
+{
+    let mut j = 0;
+    while j < Cluster::ROW {
+        cells[from + j] = 0;
+        j += 1;
+    }
+}
+
 // The ids of the first eight nodes of the mask, of the n whose ids are given, then zeros, into the row that starts at cell `from`.
 fn write_row(ids: &[u32], n: usize, mask: u32, cells: &mut [u32], from: usize)
     requires { ⌜ (n ≤ mostNodes) × (n ≤ length (now ids)) × (from + rowCells ≤ length (now cells)) ⌝ }
     ensures { λ _. ⌜ ((ns : List Node) → n ≡ length ns → now (ids .entry) ≡ idCells ns
         → now (cells .exit) ≡ put from (λ j. getD (idsWhere ns (bit mask)) j 0) rowCells (now (cells .entry))) ⌝ }
 {
+    blank_row(cells, from);
     let mut rest = mask;
     let mut j = 0;
     while j < Cluster::ROW {
-        let least = sets::least(rest);
-        let b = least as usize;
+        if rest == 0 {
+            return;
+        }
+        let b = sets::least(rest) as usize;
         let id = if b < n { ids[b] } else { 0 };
         cells[from + j] = id;
-        rest = sets::without(rest, least);
+        rest = sets::rest(rest);
         j += 1;
     }
 }

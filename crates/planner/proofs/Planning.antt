@@ -1,24 +1,33 @@
 -- The three ends of a planning call, over plain lists and numbers: refused, no layout, planned. Each gives the answer, the lent buffers and
 -- what is owed, as the contract has them.
 -- Assumes nothing.
-use Prim.Native.Nat.{ℕ}
+use Prim.Native.Nat.{ℕ, _+_, _-_, _≤_}
 use mathlib.Core.Path.{_≡_, sym, ap, _∙_}
 use mathlib.Core.Bool.{Bool, false, cond}
 use mathlib.Core.List.{List, _++_}
 use native.Mathlib.Omega.{arith}
 use lib.Dec.{eqb}
 use lib.ListN.{length, drop, replicate}
+use lib.Seq.{drop-append-add, drop-drop}
 use borrow.Author.Tests.{eq-eqb, ne-eqb}
 use Rattle.cluster.specs.Terms.{layoutCells, scratchCells, topology, partitions, IsFormer, cellsOf, rowsIn, faultOf}
 use Rattle.cluster.specs.declared.Cluster.{Cluster}
 use Rattle.cluster.proofs.Accepting.{accepted}
 use Rattle.cluster.specs.TermsReading.{Fits32}
+use Rattle.graph.specs.ModelKept.{keptCells}
 use Rattle.sizing.specs.ModelSizing.{sizeOf, sizeIn}
 use Rattle.sizing.proofs.Reading.{size-in}
 use Rattle.planner.specs.TermsPlan.{unusable, planRefusal, planIn, refusedWith, answered, plannedOf, assignmentAfter, scratchAfter, Owed}
 use Rattle.planner.specs.declared.Planned.{Planned}
 use Rattle.planner.proofs.Refusals.{usable-has, lent-former}
 use Rattle.planning.proofs.Demands.{demand3, no-layout}
+
+-- The cells beyond the first k of a list, which were lent and come back.
+part-beyond : (k n : ℕ) (xs ys : List ℕ) → length ys ≡ k → k ≤ n → drop n (ys ++ drop k xs) ≡ drop n xs
+part-beyond k n xs ys e l =
+    let t : n ≡ length ys + (n - k) = omega arith in
+    let u : k + (n - k) ≡ n = omega arith in
+    ap (λ (i : ℕ). drop i (ys ++ drop k xs)) t ∙ (drop-append-add ys (drop k xs) (n - k) ∙ (drop-drop (n - k) k xs ∙ ap (λ (i : ℕ). drop i xs) u))
 
 module _ (c : Cluster) (former : List ℕ) (allowance : ℕ) (assignment scratch : List ℕ) where
   abbrev a : ℕ
@@ -94,19 +103,20 @@ module _ (c : Cluster) (former : List ℕ) (allowance : ℕ) (assignment scratch
           λ v. record { nine = λ x. empty; none = λ x. ap (λ (p : Planned). p .refusal) q; nearest = λ L x. absurd (empty L x); former = lent },
         )
 
-    -- The plan is made.
-    pub planned-ends : (size : ℕ) → size ≡ sizeIn c → (size ≡ 0 → ⊥) → (rest : List ℕ) → rest ≡ replicate scratchCells 0 ++ drop scratchCells scratch
+    -- The plan is made, with a part of the scratch lent to the run.
+    pub planned-ends : (size : ℕ) → size ≡ sizeIn c → (size ≡ 0 → ⊥)
+        → (kept : List ℕ) → length kept ≡ keptCells → (rest : List ℕ) → rest ≡ replicate scratchCells 0 ++ drop scratchCells (kept ++ drop keptCells scratch)
         → (r : Planned) → r ≡ answered (planIn c former allowance) → (cells : List ℕ)
         → cells ≡ cellsOf (planIn c former allowance .layout) ++ drop layoutCells assignment → Fits32 (topology c) → Ends r cells rest
     unfolding plannedOf assignmentAfter
-    planned-ends size e some rest er r q cells ec low =
+    planned-ends size e some kept l rest er r q cells ec low =
         let large : sizeOf (topology c) ≡ 0 → ⊥ = λ z. some (e ∙ (size-in c faultless ∙ z)) in
         let no-refusal : planRefusal c former a s ≡ 0 = none-or-nine ∙ ap (λ (b : Bool). cond b 9 0) (ne-eqb (sizeOf (topology c)) 0 large) in
         let test = eq-eqb (planRefusal c former a s) 0 no-refusal in
         let zero : r .refusal ≡ 0 = ap (λ (p : Planned). p .refusal) q in (
           q ∙ sym (ap (λ (b : Bool). cond b (answered (planIn c former allowance)) (refusedWith (planRefusal c former a s))) test),
           ec ∙ sym (ap (λ (b : Bool). cond b (cellsOf (planIn c former allowance .layout) ++ drop layoutCells assignment) assignment) test),
-          cleared rest er,
+          cleared rest (er ∙ ap (λ (beyond : List ℕ). replicate scratchCells 0 ++ beyond) (part-beyond keptCells scratchCells scratch kept l (omega arith))),
           λ v. record {
             nine = λ x. absurd (omega (arith, zero, x));
             none = λ x. absurd (large (no-layout (topology c) (accepted c faultless) .1 x));

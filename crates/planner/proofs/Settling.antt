@@ -131,7 +131,7 @@ module _ (c : Cluster) (former : List ℕ) (a size P : ℕ) (before rows : List 
 
     -- What measuring asks for is there.
     pub measurable : (c .replication ≤ mostCopies) × (P ≤ bufferRows) × (P ≤ length before) × (P ≤ length rows) × (idsTotal former P ≤ layoutCells)
-        × (2 * agreementIn rows before P ≤ c .replication * P + idsTotal former P)
+        × (2 * agreementIn rows before P ≤ c .replication * P + idsTotal former P) × (rowsFormed former P ≡ true)
     measurable = (
       acc .replication .1,
       omega (arith, eP, few-partitions (t .bits) (acc .bits)),
@@ -139,6 +139,7 @@ module _ (c : Cluster) (former : List ℕ) (a size P : ℕ) (before rows : List 
       omega (arith, eP, good .long),
       omega (arith, ids-are, former-few t F fo, few-partitions (t .bits) (acc .bits)),
       omega (arith, ids-are, agreement-is, ap (λ (n : ℕ). c .replication * n) eP, measure t acc F fo rows good),
+      ap (rowsFormed former) eP ∙ formed,
     )
 
     -- The answer is that of the definition.

@@ -6,7 +6,7 @@ ghost use Rattle.planner.specs.TermsPlan.{unusable, plannedOf, assignmen
 use cluster::Cluster;
 use cluster::refusal;
 
-mod prepare;
+mod leave;
 mod refuse;
 mod settle;
 
@@ -33,7 +33,7 @@ fn refused(number: u32) -> Planned
 }
 
 // The plan of a cluster: the largest size, and a layout of that size that is nearest to the former one, or as near as the allowance of
-// improvements brings it. The assignment takes the layout, the scratch is zeroed.
+// improvements brings it. The assignment takes the layout. The run works in the scratch, all of which is zeroed at the end.
 pub fn plan(
     c: Cluster,
     former: &[u32],
@@ -51,10 +51,19 @@ pub fn plan(
     if unusable != 0 {
         return refused(unusable);
     }
-    prepare::clear(scratch);
     let size = sizing::size(c);
     if size == 0 {
+        leave::clear(scratch);
         return refused(refusal::NO_LAYOUT);
     }
-    settle::settle(c, former, allowance as u32, size, assignment)
+    let planned = settle::settle(
+        c,
+        former,
+        allowance as u32,
+        size,
+        assignment,
+        &mut scratch[..graph::KEPT],
+    );
+    leave::clear(scratch);
+    planned
 }

@@ -8,6 +8,7 @@ ghost use Rattle.cluster.specs.Terms.{bufferRows, layoutCells, mostCopies, topo
 ghost use Rattle.masks.specs.ModelMasks.{rowsFormed, idsTotal};
 ghost use Rattle.cluster.specs.TermsReading.{Fits32};
 ghost use Rattle.sizing.specs.ModelSizing.{sizeOf};
+ghost use Rattle.graph.specs.ModelKept.{keptCells};
 ghost use Rattle.improve.specs.ModelImprove.{agreementIn};
 ghost use Rattle.planning.specs.ModelPlan.{dealtAt, ranFrom};
 ghost use Rattle.planner.specs.TermsPlan.{planIn, answered};
@@ -16,15 +17,16 @@ use cluster::Cluster;
 use improve::Ended;
 use incidence::zones;
 
-// The run from the beginning dealt at the size. `before` holds the former rows as masks.
+// The run from the beginning dealt at the size. `before` holds the former rows as masks; `kept` is room for the run.
 pub(crate) fn improved(
     c: Cluster,
     size: u32,
     before: &[u32],
     allowance: u32,
     rows: &mut [u32],
+    kept: &mut [u32],
 ) -> Ended
-    requires { ⌜ (faultOf c ≡ 0) × (now rows ≡ replicate bufferRows 0) ⌝ }
+    requires { ⌜ (faultOf c ≡ 0) × (now rows ≡ replicate bufferRows 0) × (length (now kept) ≡ keptCells) ⌝ }
     ensures { λ r. ⌜ (now (rows .exit) ≡ ranFrom (topology c) size (now (before .entry)) (dealtAt (topology c) size) allowance .state .rows)
         × (r .finished ≡ ranFrom (topology c) size (now (before .entry)) (dealtAt (topology c) size) allowance .finished)
         × (r .improvements ≡ ranFrom (topology c) size (now (before .entry)) (dealtAt (topology c) size) allowance .steps)
@@ -45,6 +47,7 @@ pub(crate) fn improved(
         count as u32,
         c.redundancy,
         allowance,
+        kept,
     )
 }
 
@@ -58,7 +61,8 @@ pub(crate) fn measured(
 ) -> u32
     requires { ⌜ (replication ≤ mostCopies) × (partitions ≤ bufferRows) × (partitions ≤ length (now before)) × (partitions ≤ length (now rows))
         × (idsTotal (now former) partitions ≤ layoutCells)
-        × (2 * agreementIn (now rows) (now before) partitions ≤ replication * partitions + idsTotal (now former) partitions) ⌝ }
+        × (2 * agreementIn (now rows) (now before) partitions ≤ replication * partitions + idsTotal (now former) partitions)
+        × (rowsFormed (now former) partitions ≡ true) ⌝ }
     ensures { λ r. ⌜ r ≡ replication * partitions + idsTotal (now (former .entry)) partitions
         - 2 * agreementIn (now (rows .entry)) (now (before .entry)) partitions ⌝ }
 {
@@ -67,16 +71,17 @@ pub(crate) fn measured(
     replication * (partitions as u32) + pairs - 2 * shared
 }
 
-// The plan of a cluster that has a layout.
+// The plan of a cluster that has a layout; `kept` is room for the run.
 pub(crate) fn settle(
     c: Cluster,
     former: &[u32],
     allowance: u32,
     size: u32,
     assignment: &mut [u32],
+    kept: &mut [u32],
 ) -> Planned
     requires { ⌜ (faultOf c ≡ 0) × (layoutCells ≤ length (now assignment)) × (rowsFormed (now former) (partitions (topology c)) ≡ true)
-        × (size ≡ sizeOf (topology c)) × (1 ≤ size) ⌝ }
+        × (size ≡ sizeOf (topology c)) × (1 ≤ size) × (length (now kept) ≡ keptCells) ⌝ }
     ensures { λ r. ⌜ (r ≡ answered (planIn c (now (former .entry)) allowance))
         × (now (assignment .exit) ≡ cellsOf (planIn c (now (former .entry)) allowance .layout) ++ drop layoutCells (now (assignment .entry)))
         × Fits32 (topology c) ⌝ }
@@ -85,7 +90,7 @@ pub(crate) fn settle(
     let mut before = [0u32; Cluster::PARTITIONS];
     masks::read_masks(c, former, partitions, &mut before);
     let mut rows = [0u32; Cluster::PARTITIONS];
-    let ended = improved(c, size, &before, allowance, &mut rows);
+    let ended = improved(c, size, &before, allowance, &mut rows, kept);
     masks::write_cells(c, &rows, partitions, assignment);
     let distance = measured(c.replication, former, &before, &rows, partitions);
     Planned {

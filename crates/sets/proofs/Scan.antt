@@ -1,13 +1,13 @@
 -- The members of a set, one after the other, the least first: what is left of it, and what is done.
 -- Assumes nothing.
 use Prim.Native.Nat.{ℕ, _+_, _-_, _^_, _≤_, _<_}
-use mathlib.Core.Path.{_≡_, ap}
+use mathlib.Core.Path.{_≡_, ap, _∙_}
 use mathlib.Core.Logic.{⊎-elim}
 use native.Mathlib.Omega.{arith}
 use Rattle.sums.specs.ModelSums.{is}
 use Rattle.sums.proofs.Sum.{is-cases}
-use Rattle.sets.specs.ModelBits.{maskBits, bit, withoutOf, leastOf}
-use Rattle.sets.proofs.Laws.{bit-le, bit-zero, bit-without, without-lt, least-some, least-at}
+use Rattle.sets.specs.ModelBits.{maskBits, bit, withoutOf, countOf, leastOf}
+use Rattle.sets.proofs.Laws.{bit-le, bit-zero, bit-without, without-lt, least-some, least-at, least-taken}
 
 -- What is left is a set of members of s.
 pub record Left (s left : ℕ) : Type 0 where
@@ -49,3 +49,7 @@ module _ (s left : ℕ) (L : Left s left) (some : left ≡ 0 → ⊥) where
 -- At last all are done.
 pub done-all : (s left c : ℕ) → left ≡ 0 → bit s c - bit left c ≡ bit s c
 done-all s left c e = omega (arith, ap (λ (x : ℕ). bit x c) e, bit-zero c)
+
+-- A set without its least member counts less.
+pub fewer : (left r rest : ℕ) → left < 2 ^ maskBits → (left ≡ 0 → ⊥) → r ≡ leastOf left → rest ≡ withoutOf left r → countOf rest < countOf left
+fewer left r rest h n e f = omega (arith, ap countOf (f ∙ ap (λ (x : ℕ). withoutOf left x) e), least-taken left h n)

@@ -1,18 +1,23 @@
 -- What the arrays of zones and caps hold, and what they give the test and the dealt rows of a cluster.
 -- Assumes nothing.
-use Prim.Native.Nat.{_^_, min, ℕ, _≤_}
-use mathlib.Core.Path.{_≡_, ap, ap₂, _∙_}
-use mathlib.Core.Bool.{Bool}
+use Prim.Native.Nat.{_^_, min, ℕ, _*_, _≤_, _<_}
+use mathlib.Core.Path.{_≡_, sym, ap, ap₂, _∙_}
+use mathlib.Core.Bool.{Bool, false, _&&_}
+use native.Mathlib.Nat.{div-eq-of-lt, mul-pos}
 use mathlib.Core.List.{List}
 use native.Mathlib.Omega.{arith}
+use lib.Dec.{leb}
 use lib.ListN.{length}
+use borrow.Author.Tests.{lt-leb}
 use lib.Pow.{pow-pos}
+use Rattle.sums.specs.TermsSums.{sumTo}
+use Rattle.sums.proofs.Sum.{sum-zero}
 use Rattle.cluster.proofs.Accepting.{partitions-in-range}
-use Rattle.cluster.specs.Terms.{mostNodes, mostBits, Topology, partitions}
+use Rattle.cluster.specs.Terms.{mostNodes, mostBits, Topology, partitions, nodeAt}
 use Rattle.cluster.specs.TermsReading.{Accepted}
 use Rattle.incidence.specs.ModelIncidence.{zoneIndex, capAt, cell, column, zoneCells}
 use Rattle.incidence.proofs.TieZones.{zone-below}
-use Rattle.dealing.specs.ModelDeal.{hasRoom}
+use Rattle.dealing.specs.ModelDeal.{inZone, hasRoom}
 use Rattle.tallies.specs.ModelTallies.{Below, AtMost}
 use Rattle.sizing.specs.ModelSizing.{nodesOf, capCells}
 use Rattle.incidence.proofs.Columns.{length-column}
@@ -62,3 +67,17 @@ module _ (t : Topology) (few : nodesOf t ≤ mostNodes) where
         d ∙ (ap₂ (λ (x y : ℕ). hasRoom x y (t .replication) (t .redundancy) (cell zones) (cell caps)) q e
         ∙ fits-agree (nodesOf t) (cell zones) (zoneIndex t) (zones-hold zones z) (partitions t) (t .replication) (t .redundancy) (cell caps)
         (capAt t s) (caps-hold caps k))
+
+-- No layout has a size above all capacities.
+pub none-above : (t : Topology) (most s : ℕ) → Accepted t → ((b : ℕ) → b < nodesOf t → nodeAt t b .capacity ≤ most) → most < s
+    → false ≡ hasRoom (partitions t) (nodesOf t) (t .replication) (t .redundancy) (zoneIndex t) (capAt t s)
+unfolding hasRoom capAt
+none-above t most s a h l =
+    sym (ap (λ (b : Bool). b && leb (t .redundancy * partitions t) (sumTo (nodesOf t) (λ z. min (partitions t) (inZone (zoneIndex t) (capAt t s) z (nodesOf t)))))
+    (lt-leb (t .replication * partitions t) (sumTo (nodesOf t) (capAt t s)) (omega (arith, none, some))))
+  where
+    none : sumTo (nodesOf t) (capAt t s) ≡ 0
+    none = sum-zero (nodesOf t) (capAt t s) (λ b k. omega (arith, div-eq-of-lt {n = nodeAt t b .capacity} {m = s} (omega (arith, h b k))))
+
+    some : 1 ≤ t .replication * partitions t
+    some = mul-pos (a .replication .0) (pow-pos (t .bits))

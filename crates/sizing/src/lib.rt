@@ -1,9 +1,9 @@
 // The size of a cluster and the layout that planning begins with. Every function is total: a cluster with a fault has the size 0, and
 // nothing is dealt for it.
 ghost use mathlib.Core.Path.{_≡_};
-ghost use Prim.Native.Nat.{_≤_};
+ghost use Prim.Native.Nat.{ℕ, _≤_, _<_};
 ghost use lib.ListN.{length};
-ghost use Rattle.cluster.specs.Terms.{topology, partitions, faultOf};
+ghost use Rattle.cluster.specs.Terms.{topology, partitions, nodeAt, faultOf};
 ghost use Rattle.incidence.specs.ModelIncidence.{zoneIndex, capAt, zoneCells};
 ghost use Rattle.dealing.specs.ModelDeal.{hasRoom};
 ghost use Rattle.sizing.specs.ModelSizing.{mateCells, capsIn, sizeOf, sizeIn, dealtRows, dealtIn};
@@ -49,12 +49,31 @@ pub fn caps(c: Cluster, size: u32) -> [u32; Cluster::NODES]
     caps
 }
 
-// Whether the caps of a size have room for a layout.
-fn passes(c: Cluster, zones: &[u32], size: u32) -> bool
-    requires { ⌜ (faultOf c ≡ 0) × (now zones ≡ zoneCells (topology c)) ⌝ }
+// The largest capacity of the nodes in use.
+fn greatest(c: Cluster) -> u32
+    ensures { λ r. ⌜ ((b : ℕ) → b < length (topology c .nodes) → nodeAt (topology c) b .capacity ≤ r) ⌝ }
+{
+    let n = zones::used(c);
+    let mut most = 0;
+    let mut b = 0;
+    while b < n {
+        let node = c.nodes[b];
+        let capacity = node.capacity;
+        most = if most < capacity { capacity } else { most };
+        b += 1;
+    }
+    most
+}
+
+// Whether the caps of a size have room for a layout; a size above `most`, the largest capacity, needs no caps.
+fn passes(c: Cluster, zones: &[u32], most: u32, size: u32) -> bool
+    requires { ⌜ (faultOf c ≡ 0) × (now zones ≡ zoneCells (topology c)) × ((b : ℕ) → b < length (topology c .nodes) → nodeAt (topology c) b .capacity ≤ most) ⌝ }
     ensures { λ r. ⌜ r ≡ hasRoom (partitions (topology c)) (length (topology c .nodes)) (c .replication) (c .redundancy) (zoneIndex (topology c))
         (capAt (topology c) size) ⌝ }
 {
+    if most < size {
+        return false;
+    }
     let n = zones::used(c);
     let caps = caps(c, size);
     totals::fit(
@@ -73,12 +92,13 @@ fn bisected(c: Cluster) -> u32
     ensures { λ r. ⌜ r ≡ sizeOf (topology c) ⌝ }
 {
     let zones = zones::zones(c);
+    let most = greatest(c);
     let mut size = 0;
     let mut i = SIZE_BITS;
     while 0 < i {
         i -= 1;
         let larger = size + (1 << i);
-        if passes(c, &zones, larger) {
+        if passes(c, &zones, most, larger) {
             size = larger;
         }
     }

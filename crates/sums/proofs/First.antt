@@ -31,6 +31,20 @@ first-cases t (suc n) i = go (first-cases t n (suc i)) (t i) refl
     go (inl h) false e = inl (omega (arith, h .0), omega (arith, h .1), h .2, more e (h .3))
     go (inr h) false e = inr (omega (arith, h .0), λ j a b. more e (h .1) j a (omega arith))
 
+-- An index that passes, after none that does, is the first.
+pub first-is : (t : ℕ → Bool) (n i r : ℕ) → i ≤ r → r < i + n → t r ≡ true → ((j : ℕ) → i ≤ j → j < r → t j ≡ false) → firstFrom t n i ≡ r
+first-is t n i r a b e h =
+    ⊎-elim
+    (λ s. ⊎-elim (λ l. absurd (false≢true (sym (h (firstFrom t n i) (s .0) l) ∙ s .2)))
+    (λ g. ⊎-elim (λ l. absurd (false≢true (sym (s .3 r a l) ∙ e))) (λ f. omega arith) (lt-or-ge r (firstFrom t n i)))
+    (lt-or-ge (firstFrom t n i) r))
+    (λ s. absurd (false≢true (sym (s .1 r a b) ∙ e))) (first-cases t n i)
+
+-- Where none passes, the end is found.
+pub first-not : (t : ℕ → Bool) (n i : ℕ) → ((j : ℕ) → i ≤ j → j < i + n → t j ≡ false) → firstFrom t n i ≡ i + n
+first-not t n i h =
+    ⊎-elim (λ s. absurd (false≢true (sym (h (firstFrom t n i) (s .0) (s .1)) ∙ s .2))) (λ s. s .0) (first-cases t n i)
+
 -- A first index below the bound is one that passes.
 pub first-some : (t : ℕ → Bool) (N : ℕ) → ltb (firstFrom t N 0) N ≡ true → (firstFrom t N 0 < N) × (t (firstFrom t N 0) ≡ true)
 first-some t N e =

@@ -6,8 +6,6 @@ use mathlib.Core.List.{List}
 use mathlib.Core.Logic.{_⊎_, inl, inr, ⊎-elim}
 use native.Mathlib.Omega.{arith}
 use lib.ListN.{getD}
-use lib.Dec.{ltb}
-use borrow.Author.Tests.{lt-ltb, le-ltb}
 use Rattle.sums.specs.ModelSums.{is}
 use Rattle.sums.proofs.Sum.{lt-or-ge, is-le}
 use Rattle.sets.specs.ModelBits.{maskBits, bit, unionOf, meetOf, differenceOf, belowOf, countOf}
@@ -15,22 +13,22 @@ use Rattle.sets.proofs.Laws.{bit-le, bit-union, bit-meet, bit-difference, bit-b
 use Rattle.exchange.specs.ModelRow.{zoneCount, cover, Valid, swap}
 use Rattle.exchange.specs.ModelSwap.{fits}
 use Rattle.exchange.proofs.Row.{fits-valid, valid-fits}
-use Rattle.swaps.specs.ModelSwaps.{targetsIn, targetsOf, coverOf, coveredOf}
+use Rattle.swaps.specs.ModelSwaps.{tightOf, targetsIn, targetsOf, coverOf, coveredOf}
 use Rattle.swaps.specs.ModelMates.{Mates}
-use Rattle.swaps.proofs.Steps.{targets-spare, targets-crowded, targets-few}
+use Rattle.swaps.proofs.Steps.{targets-spare, targets-crowded, targets-few, tight-spare, tight-all}
 use Rattle.swaps.proofs.Touching.{bit-mate, mates-count, cover-law, covered-law}
 
 -- How targets go by cases.
-free-or-few : (all row mate z cover covered : ℕ)
-    → ((targetsIn all row mate (ltb z cover) covered ≡ differenceOf all row) × (1 ≤ (countOf (meetOf row mate) - 1) + (cover - z)))
-    ⊎ ((targetsIn all row mate (ltb z cover) covered ≡ meetOf (differenceOf all row) (unionOf mate (differenceOf all covered)))
-    × ((countOf (meetOf row mate) - 1) + (cover - z) ≡ 0))
-free-or-few all row mate z cover covered =
-    ⊎-elim (λ l. inl (targets-spare all row mate (ltb z cover) covered (lt-ltb z cover l), omega arith))
+free-or-few : (mates : List ℕ) (all row mate z : ℕ)
+    → ((targetsIn all row mate (tightOf mates z row) ≡ differenceOf all row) × (1 ≤ (countOf (meetOf row mate) - 1) + (coverOf mates row - z)))
+    ⊎ ((targetsIn all row mate (tightOf mates z row) ≡ meetOf (differenceOf all row) (unionOf mate (differenceOf all (coveredOf mates row))))
+    × ((countOf (meetOf row mate) - 1) + (coverOf mates row - z) ≡ 0))
+free-or-few mates all row mate z =
+    ⊎-elim (λ l. inl (ap (targetsIn all row mate) (tight-spare mates z row l) ∙ targets-spare all row mate, omega arith))
     (λ g. ⊎-elim
-    (λ m. inl (targets-crowded all row mate (ltb z cover) covered (le-ltb z cover g) m, omega arith))
-    (λ k. inr (targets-few all row mate (ltb z cover) covered (le-ltb z cover g) k, omega arith)) (lt-or-ge 1 (countOf (meetOf row mate))))
-    (lt-or-ge z cover)
+    (λ m. inl (targets-crowded all row mate (tightOf mates z row) m, omega arith))
+    (λ k. inr (ap (targetsIn all row mate) (tight-all mates z row g) ∙ targets-few all row mate (coveredOf mates row) k, omega arith)) (lt-or-ge 1 (countOf (meetOf row mate))))
+    (lt-or-ge z (coverOf mates row))
 
 -- Where the row may lose a's zone, every node outside fits.
 free-fit : (r x y i u : ℕ) → 1 ≤ x + y → r ≤ 1 → r ≡ min r (x + i + u + y)
@@ -66,7 +64,7 @@ module _ (N : ℕ) (zone : ℕ → ℕ) (mates : List ℕ) (M : Mates N zone mat
       ⊎-elim
       (λ w. ap (λ (t : ℕ). bit t b) (w .0) ∙ (free ∙ free-fit (1 - bit row b) x y i u (subst (λ (t : ℕ). 1 ≤ t) (ap₂ _+_ cx cy) (w .1)) (omega arith)))
       (λ w. ap (λ (t : ℕ). bit t b) (w .0) ∙ (few ∙ few-fit (1 - bit row b) x y i u (is-le (zone b) (zone a)) (sym (ap₂ _+_ cx cy) ∙ w .1) (omega arith)))
-      (free-or-few (belowOf N) row m Z (coverOf mates row) C)
+      (free-or-few mates (belowOf N) row m Z)
 
   module _ (R : ℕ) (valid : Valid N R Z zone (bit row)) (b : ℕ) (b-node : b < N) where
     -- A target is outside the row, and the exchange of a for it leaves the row valid.

@@ -1,3 +1,4 @@
 pub mod Steps
 pub mod Touching
 pub mod Fitting
+pub mod Tightening

@@ -1,3 +1,3 @@
 pub mod ModelSwaps
 pub mod ModelMates
-pub mod ModelBlocks
+pub mod ModelLeaves

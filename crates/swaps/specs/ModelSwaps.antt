@@ -1,9 +1,10 @@
 -- What the functions compute, over sets of nodes as masks and slices as lists.
 -- Assumes nothing.
-use Prim.Native.Nat.{ℕ, zero, suc, _+_}
-use mathlib.Core.Bool.{Bool, _||_, cond}
+use Prim.Native.Nat.{ℕ, zero, suc, _+_, _≤_, _<_}
+use mathlib.Core.Path.{_≡_}
+use mathlib.Core.Bool.{cond}
 use mathlib.Core.List.{List}
-use lib.ListN.{getD}
+use lib.ListN.{length, getD}
 use lib.Dec.{eqb, ltb}
 use Rattle.sets.specs.ModelBits.{maskBits, withoutOf, unionOf, meetOf, differenceOf, countOf, leastOf}
 
@@ -30,12 +31,20 @@ coverOf mates row = coverIn maskBits mates row 0
 unfoldable pub coveredOf : List ℕ → ℕ → ℕ
 coveredOf mates row = coveredIn maskBits mates row 0
 
--- The nodes of `all` that may take the place of a node of the zone `mate` in the row.
-unfoldable pub targetsIn : ℕ → ℕ → ℕ → Bool → ℕ → ℕ
-targetsIn all row mate spare covered =
-    cond (spare || ltb 1 (countOf (meetOf row mate))) (differenceOf all row)
-    (meetOf (differenceOf all row) (unionOf mate (differenceOf all covered)))
+-- The nodes of the zones of a row that touches no more than z; none where it touches more, since then it may lose any.
+unfoldable pub tightOf : List ℕ → ℕ → ℕ → ℕ
+tightOf mates z row = cond (ltb z (coverOf mates row)) 0 (coveredOf mates row)
+
+-- The nodes of `all` that may take the place of a node of the zone `mate` in the row, where `tight` are the nodes of the zones that it may not lose.
+unfoldable pub targetsIn : ℕ → ℕ → ℕ → ℕ → ℕ
+targetsIn all row mate tight =
+    cond (ltb 1 (countOf (meetOf row mate))) (differenceOf all row) (meetOf (differenceOf all row) (unionOf mate (differenceOf all tight)))
 
 -- The nodes of `all` that may take a's place in a row that is to touch z zones.
 unfoldable pub targetsOf : List ℕ → ℕ → ℕ → ℕ → ℕ → ℕ
-targetsOf mates all z row a = targetsIn all row (getD mates a 0) (ltb z (coverOf mates row)) (coveredOf mates row)
+targetsOf mates all z row a = targetsIn all row (getD mates a 0) (tightOf mates z row)
+
+-- Cell p of `tight` tells the nodes of the zones that row p may not lose, for the first P rows.
+pub record Tight (mates : List ℕ) (z : ℕ) (rows : List ℕ) (P : ℕ) (tight : List ℕ) : Type 0 where
+  pub long : P ≤ length tight
+  pub here : (p : ℕ) → p < P → getD tight p 0 ≡ tightOf mates z (getD rows p 0)

@@ -1,3 +1,2 @@
 pub mod Adding
 pub mod Fitting
-pub mod Masks

@@ -2,7 +2,7 @@
 -- Assumes nothing.
 use Prim.Native.Nat.{ℕ, _+_, _-_, _*_, _/_, _%_, _^_, _≤_, _<_, min, max}
 use mathlib.Core.Path.{_≡_, refl, sym, ap, ap₂, _∙_}
-use mathlib.Core.Bool.{Bool, true, false, _&&_, _||_, not, cond, and-false, false≢true}
+use mathlib.Core.Bool.{Bool, true, false, _&&_, not, cond, and-false, false≢true}
 use mathlib.Core.Logic.{⊎-elim}
 use mathlib.Core.List.{List}
 use native.Mathlib.Omega.{arith}
@@ -12,30 +12,14 @@ use borrow.Author.Tests.{eq-eqb, ne-eqb}
 use Rattle.sums.specs.ModelSums.{firstFrom}
 use Rattle.sums.proofs.Sum.{lt-or-ge, eq-or-ne}
 use Rattle.sums.proofs.Tests.{both, true-or-false}
-use Rattle.sums.proofs.First.{first-cases, first-cong, first-is-none}
+use Rattle.sums.proofs.First.{first-cases, first-is, first-not, first-cong, first-is-none}
 use Rattle.cluster.specs.Terms.{mostNodes, bufferRows}
 use Rattle.sets.specs.ModelBits.{maskBits, bit, memberOf, withoutOf, unionOf, meetOf, differenceOf, belowOf, countOf, leastOf}
 use Rattle.sets.proofs.Laws.{bit-le, bit-zero, bit-high, member-true, member-false, bit-true, bit-false, bit-without-same, bit-without-other, bit-union, bit-meet, bit-difference, bit-below, bit-below-not, meet-lt, difference-lt, least-before, least-at, least-some}
-use Rattle.swaps.specs.ModelSwaps.{coverOf, coveredOf, targetsIn, targetsOf}
+use Rattle.swaps.specs.ModelSwaps.{tightOf, targetsIn, targetsOf}
 use Rattle.holders.specs.ModelHolders.{setWords, Held}
 use Rattle.walks.specs.ModelWalks.{picked, Picks, okOf, siftedOf, suitsOf, suitsAt, roomAt}
 use Rattle.holders.proofs.Holding.{holds-at, count-none}
-
--- ---- the first index
-
--- An index that passes, after none that does, is the first.
-pub first-is : (t : ℕ → Bool) (n i r : ℕ) → i ≤ r → r < i + n → t r ≡ true → ((j : ℕ) → i ≤ j → j < r → t j ≡ false) → firstFrom t n i ≡ r
-first-is t n i r a b e h =
-    ⊎-elim
-    (λ s. ⊎-elim (λ l. absurd (false≢true (sym (h (firstFrom t n i) (s .0) l) ∙ s .2)))
-    (λ g. ⊎-elim (λ l. absurd (false≢true (sym (s .3 r a l) ∙ e))) (λ f. omega arith) (lt-or-ge r (firstFrom t n i)))
-    (lt-or-ge (firstFrom t n i) r))
-    (λ s. absurd (false≢true (sym (s .1 r a b) ∙ e))) (first-cases t n i)
-
--- Where none passes, the end is found.
-pub first-not : (t : ℕ → Bool) (n i : ℕ) → ((j : ℕ) → i ≤ j → j < i + n → t j ≡ false) → firstFrom t n i ≡ i + n
-first-not t n i h =
-    ⊎-elim (λ s. absurd (false≢true (sym (h (firstFrom t n i) (s .0) (s .1)) ∙ s .2))) (λ s. s .0) (first-cases t n i)
 
 -- ---- candidates
 
@@ -138,8 +122,8 @@ module _ (rows mates : List ℕ) (all z u v base : ℕ) where
 targets-lt : (mates : List ℕ) (all z row a : ℕ) → targetsOf mates all z row a < 2 ^ maskBits
 unfolding targetsOf targetsIn
 targets-lt mates all z row a =
-    go (ltb z (coverOf mates row) || ltb 1 (countOf (meetOf row (getD mates a 0)))) (difference-lt all row)
-    (meet-lt (differenceOf all row) (unionOf (getD mates a 0) (differenceOf all (coveredOf mates row))))
+    go (ltb 1 (countOf (meetOf row (getD mates a 0)))) (difference-lt all row)
+    (meet-lt (differenceOf all row) (unionOf (getD mates a 0) (differenceOf all (tightOf mates z row))))
   where
     go : (b : Bool) {x y n : ℕ} → x < n → y < n → cond b x y < n
     go true l m = l
@@ -211,6 +195,13 @@ module _ (rows former mates : List ℕ) (all z w u v : ℕ) where
           W j l
           ∙ rw (bit-false (getD held (setWords * u + p / maskBits) 0) j
           (sym (holds-at held u (p / maskBits) j l) ∙ H .beyond u (base + j) lu g (omega arith))) refl
+
+      -- So the candidates are rows.
+      pub inside : (j : ℕ) → j < maskBits → bit left j ≡ 1 → base + j < P
+      inside j l e =
+          ⊎-elim (λ a. a)
+          (λ a. absurd (omega (arith, member-false word j (beyond j l a), bit-difference word (belowOf (p % maskBits)) j l, e)))
+          (lt-or-ge (base + j) P)
 
       at : (q : ℕ) → p ≤ q → q < base + maskBits → q < P → memberOf left (q - base) && okOf rows mates all z (base + (q - base)) u v ≡ suits q
       at q a b c =

@@ -12,7 +12,8 @@ use borrow.Author.Tests.{lt-ltb, le-ltb, eq-eqb, ne-eqb}
 use Rattle.sums.specs.TermsSums.{sumTo}
 use Rattle.sums.proofs.Sum.{sum-cong}
 use Rattle.sets.specs.ModelBits.{memberOf}
-use Rattle.swaps.specs.ModelSwaps.{targetsOf}
+use Rattle.swaps.specs.ModelSwaps.{tightOf, targetsIn, targetsOf, Tight}
+use Rattle.swaps.proofs.Steps.{targets-are}
 use Rattle.exchange.specs.ModelCircuit.{cost}
 use Rattle.exchange.specs.ModelUncross.{Walk, crosses, wrap, inner, walk-costs}
 use Rattle.exchange.proofs.Uncross.{wrap-low, wrap-end}
@@ -24,12 +25,14 @@ use Rattle.walks.specs.ModelWalks.{okOf, walkIn, innerGains}
 pub member-at : (cells : List ℕ) (i v x : ℕ) (r b : Bool) → r ≡ memberOf x v → x ≡ getD cells i 0 → r ≡ b → memberOf (getD cells i 0) v ≡ b
 member-at cells i v x r b e f g = ap (λ (y : ℕ). memberOf y v) (sym f) ∙ (sym e ∙ g)
 
--- The test for an exchange.
-pub ok-at : (rows mates : List ℕ) (all z p a b x to : ℕ) (r : Bool) → r ≡ memberOf to b → to ≡ targetsOf mates all z x a → x ≡ getD rows p 0
-    → r ≡ okOf rows mates all z p a b
+-- A test for a target, where the cell of the row tells the zones that it may not lose.
+pub ok-at : (rows mates tight : List ℕ) (all z P p a b row mate to : ℕ) (r : Bool) → p < P → Tight mates z rows P tight → row ≡ getD rows p 0 → mate ≡ getD mates a 0
+    → to ≡ targetsIn all row mate (getD tight p 0) → r ≡ memberOf to b → r ≡ okOf rows mates all z p a b
 unfolding okOf
-ok-at rows mates all z p a b x to r e f g =
-    e ∙ (ap (λ (t : ℕ). memberOf t b) f ∙ ap (λ (m : ℕ). memberOf (targetsOf mates all z m a) b) g)
+ok-at rows mates tight all z P p a b row mate to r l T er em et e =
+    e
+    ∙ (ap (λ (t : ℕ). memberOf t b) (targets-are mates all z row a (getD tight p 0) mate to (T .here p l ∙ ap (tightOf mates z) (sym er)) em et)
+    ∙ ap (λ (m : ℕ). memberOf (targetsOf mates all z m a) b) er)
 
 -- The test of the arcs i and j of a walk, where e is the partition of i.
 module _ (P : ℕ) (ok : ℕ → ℕ → ℕ → Bool) (ys qs : List ℕ) (i j e : ℕ) (h : e ≡ getD qs i 0) where

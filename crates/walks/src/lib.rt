@@ -3,7 +3,7 @@
 // and the partitions of its arcs. Partitions are looked for in the sets of those that each node holds (`held`) and held in the former rows (`had`). A cell
 // past a slice's end counts as 0, and the arcs are numbered by u32, so that the next one is always an index.
 ghost use mathlib.Core.Path.{_≡_};
-ghost use Prim.Native.Nat.{_+_, _-_, _≤_, _<_, _^_};
+ghost use Prim.Native.Nat.{ℕ, _+_, _-_, _≤_, _<_, _^_};
 ghost use lib.ListN.{getD};
 ghost use Rattle.cluster.specs.Terms.{bufferRows};
 ghost use Rattle.sums.specs.ModelSums.{firstFrom};
@@ -11,6 +11,7 @@ ghost use Rattle.sets.specs.ModelBits.{maskBits, bit, bitsAt};
 ghost use Rattle.exchange.specs.ModelCircuit.{cost};
 ghost use Rattle.exchange.specs.ModelUncross.{crosses, partner, firstCrossed};
 ghost use Rattle.cycles.specs.ModelGraph.{weightOf};
+ghost use Rattle.swaps.specs.ModelSwaps.{Tight};
 ghost use Rattle.holders.specs.ModelHolders.{Held};
 ghost use Rattle.walks.specs.ModelWalks.{Picks, okOf, siftedOf, suitsAt, witnessOf, walkIn, innerGains, roomAt, renewedAt, standsAt};
 use cluster::Cluster;
@@ -57,6 +58,8 @@ fn candidates(own: u32, other: u32, owned: u32, othered: u32, w: u32) -> u32
 // The first of the partitions of a word, which begins at `base`, in whose row u may give way to v; WIDTH where there is none.
 fn sift(
     rows: &[u32],
+    tight: &[u32],
+    partitions: usize,
     mates: &[u32],
     all: u32,
     z: u32,
@@ -65,13 +68,14 @@ fn sift(
     base: usize,
     word: u32,
 ) -> u32
-    requires { ⌜ base < bufferRows ⌝ }
+    requires { ⌜ (base < bufferRows) × ((j : ℕ) → j < maskBits → bit word j ≡ 1 → base + j < partitions) × Tight (now mates) z (now rows) partitions (now tight) ⌝ }
     ensures { λ r. ⌜ (r ≡ siftedOf (now (rows .entry)) (now (mates .entry)) all z u v base word) × (r ≤ maskBits) ⌝ }
 {
     let mut left = word;
     while left != 0 {
         let j = sets::least(left);
-        if allows(rows, mates, all, z, base + j as usize, u, v) {
+        let p = base + j as usize;
+        if allows(rows, tight, partitions, mates, all, z, p, u, v) {
             return j;
         }
         left = sets::without(left, j);
@@ -82,6 +86,7 @@ fn sift(
 // The first partition from `start` on with the exchange of u for v at the weight w. A node past the last is in no row.
 fn first(
     rows: &[u32],
+    tight: &[u32],
     held: &[u32],
     former: &[u32],
     had: &[u32],
@@ -94,7 +99,7 @@ fn first(
     v: u32,
     start: usize,
 ) -> usize
-    requires { ⌜ (w ≤ 2) × (start ≤ partitions) × (partitions ≤ bufferRows) × Held (now rows) partitions (now held) × Held (now former) partitions (now had) ⌝ }
+    requires { ⌜ (w ≤ 2) × (start ≤ partitions) × (partitions ≤ bufferRows) × Tight (now mates) z (now rows) partitions (now tight) × Held (now rows) partitions (now held) × Held (now former) partitions (now had) ⌝ }
     ensures { λ r. ⌜ (r ≡ firstFrom (suitsAt (now (rows .entry)) (now (former .entry)) (now (mates .entry)) all z w u v) (partitions - start) start) × (r ≤ partitions) ⌝ }
 {
     if Cluster::NODES <= u as usize {
@@ -110,7 +115,7 @@ fn first(
         let j = WORDS * v as usize + k;
         let word = candidates(held[i], held[j], had[i], had[j], w);
         let left = sets::difference(word, sets::below((p % BITS) as u32));
-        let found = sift(rows, mates, all, z, u, v, BITS * k, left);
+        let found = sift(rows, tight, partitions, mates, all, z, u, v, BITS * k, left);
         if found < sets::WIDTH {
             return BITS * k + found as usize;
         }
@@ -122,6 +127,7 @@ fn first(
 // The first partition with the exchange of u for v at the arc's weight.
 pub fn witness(
     rows: &[u32],
+    tight: &[u32],
     held: &[u32],
     former: &[u32],
     had: &[u32],
@@ -133,12 +139,14 @@ pub fn witness(
     u: u32,
     v: u32,
 ) -> usize
-    requires { ⌜ (partitions ≤ bufferRows) × Held (now rows) partitions (now held) × Held (now former) partitions (now had) ⌝ }
+    requires { ⌜ (partitions ≤ bufferRows) × Tight (now mates) z (now rows) partitions (now tight)
+        × Held (now rows) partitions (now held) × Held (now former) partitions (now had) ⌝ }
     ensures { λ r. ⌜ (r ≡ witnessOf (now (rows .entry)) (now (former .entry)) partitions (now (mates .entry)) (now (arcs .entry)) all z u v) × (r ≤ partitions) ⌝ }
 {
     let w = weight(arcs, u, v);
     first(
         rows,
+        tight,
         held,
         former,
         had,
@@ -154,10 +162,23 @@ pub fn witness(
 }
 
 // Whether node a of the row of partition p may give way to node b.
-fn allows(rows: &[u32], mates: &[u32], all: u32, z: u32, p: usize, a: u32, b: u32) -> bool
+fn allows(
+    rows: &[u32],
+    tight: &[u32],
+    partitions: usize,
+    mates: &[u32],
+    all: u32,
+    z: u32,
+    p: usize,
+    a: u32,
+    b: u32,
+) -> bool
+    requires { ⌜ (p < partitions) × Tight (now mates) z (now rows) partitions (now tight) ⌝ }
     ensures { λ r. ⌜ r ≡ okOf (now (rows .entry)) (now (mates .entry)) all z p a b ⌝ }
 {
-    sets::member(swaps::targets(mates, all, z, swaps::cell(rows, p), a), b)
+    let row = swaps::cell(rows, p);
+    let mate = swaps::cell(mates, a as usize);
+    sets::member(swaps::targets_in(all, row, mate, tight[p]), b)
 }
 
 // Whether the arcs i and j of the walk can be crossed.
@@ -167,12 +188,13 @@ fn crossed(
     i: usize,
     j: usize,
     rows: &[u32],
+    tight: &[u32],
     partitions: usize,
     mates: &[u32],
     all: u32,
     z: u32,
 ) -> bool
-    requires { ⌜ (i < 2 ^ 32) × (j < 2 ^ 32) ⌝ }
+    requires { ⌜ (i < 2 ^ 32) × (j < 2 ^ 32) × Tight (now mates) z (now rows) partitions (now tight) ⌝ }
     ensures { λ r. ⌜ r
         ≡ crosses partitions (okOf (now (rows .entry)) (now (mates .entry)) all z) (λ t. getD (now (y .entry)) t 0) (λ t. getD (now (q .entry)) t 0) i j ⌝ }
 {
@@ -186,12 +208,12 @@ fn crossed(
     }
     let from = swaps::cell(y, j + 1);
     let to = swaps::cell(y, i);
-    if !allows(rows, mates, all, z, p, from, to) {
+    if !allows(rows, tight, partitions, mates, all, z, p, from, to) {
         return false;
     }
     let from = swaps::cell(y, i + 1);
     let to = swaps::cell(y, j);
-    allows(rows, mates, all, z, p, from, to)
+    allows(rows, tight, partitions, mates, all, z, p, from, to)
 }
 
 // The first arc after i that can be crossed with it.
@@ -201,16 +223,18 @@ pub fn later(
     m: u32,
     i: u32,
     rows: &[u32],
+    tight: &[u32],
     partitions: usize,
     mates: &[u32],
     all: u32,
     z: u32,
 ) -> usize
+    requires { ⌜ Tight (now mates) z (now rows) partitions (now tight) ⌝ }
     ensures { λ r. ⌜ r ≡ partner partitions (okOf (now (rows .entry)) (now (mates .entry)) all z) (walkIn m (now (y .entry)) (now (q .entry))) i ⌝ }
 {
     let mut j = i as usize + 1;
     while j < m as usize {
-        if crossed(y, q, i as usize, j, rows, partitions, mates, all, z) {
+        if crossed(y, q, i as usize, j, rows, tight, partitions, mates, all, z) {
             return j;
         }
         j += 1;
@@ -224,16 +248,18 @@ pub fn earlier(
     q: &[u32],
     m: u32,
     rows: &[u32],
+    tight: &[u32],
     partitions: usize,
     mates: &[u32],
     all: u32,
     z: u32,
 ) -> u32
+    requires { ⌜ Tight (now mates) z (now rows) partitions (now tight) ⌝ }
     ensures { λ r. ⌜ r ≡ firstCrossed partitions (okOf (now (rows .entry)) (now (mates .entry)) all z) (walkIn m (now (y .entry)) (now (q .entry))) ⌝ }
 {
     let mut i = 0;
     while i < m {
-        if later(y, q, m, i, rows, partitions, mates, all, z) < m as usize {
+        if later(y, q, m, i, rows, tight, partitions, mates, all, z) < m as usize {
             return i;
         }
         i += 1;
@@ -303,6 +329,7 @@ pub struct Arc {
 // store stands where u has room.
 pub fn renewed(
     rows: &[u32],
+    tight: &[u32],
     held: &[u32],
     former: &[u32],
     had: &[u32],
@@ -315,7 +342,8 @@ pub fn renewed(
     u: u32,
     v: u32,
 ) -> Arc
-    requires { ⌜ (partitions ≤ bufferRows) × Held (now rows) partitions (now held) × Held (now former) partitions (now had) ⌝ }
+    requires { ⌜ (partitions ≤ bufferRows) × Tight (now mates) z (now rows) partitions (now tight)
+        × Held (now rows) partitions (now held) × Held (now former) partitions (now had) ⌝ }
     ensures { λ r. ⌜ (r .stands ≡ standsAt (now (rows .entry)) (now (former .entry)) partitions (now (mates .entry)) all z (now (caps .entry)) q u v)
         × (r .partition ≡ renewedAt (now (rows .entry)) (now (former .entry)) partitions (now (mates .entry)) all z q u v)
         × (r .partition ≤ partitions) ⌝ }
@@ -330,6 +358,7 @@ pub fn renewed(
     let w = arc_cost(former, partitions, q, u, v) as u32;
     let p = first(
         rows,
+        tight,
         held,
         former,
         had,

@@ -68,11 +68,28 @@ fn note(leaf: &mut Graph, g: &Ground, rows: &[u32], zones: &[Zones], first: usiz
     *leaf = NONE;
     for p in first..(first + ROWS).min(g.partitions) {
         let (row, former) = (rows[p], g.former[p]);
+        if zones[p].spare {
+            leaf.note_spare(row, former, g.all & !row);
+            continue;
+        }
         for a in members(row) {
             let targets = g.targets(row, zones[p], a);
             let lower = usize::from(has(former, a));
             leaf.to[lower][a] |= targets & former;
             leaf.to[lower + 1][a] |= targets & !former;
+        }
+    }
+}
+
+impl Graph {
+    /// Notes a row with a zone to spare: each of its nodes leads to all that are free, at weights that
+    /// hang only on whether the former row has it.
+    fn note_spare(&mut self, row: u32, former: u32, free: u32) {
+        for (lower, part) in [(0, row & !former), (1, row & former)] {
+            for a in members(part) {
+                self.to[lower][a] |= free & former;
+                self.to[lower + 1][a] |= free & !former;
+            }
         }
     }
 }

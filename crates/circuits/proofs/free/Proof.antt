@@ -13,12 +13,12 @@ use Rattle.circuits.proofs.free.Statement.{statement}
 use Rattle.circuits.proofs.free.Tie as tie
 
 abbrev Inv-loop : tie.InvT-loop
-Inv-loop y₀ q₀ m rows former partitions mates all z len₀ left₀ y q len left = (len ≤ m) × (length y ≡ length y₀) × (length q ≡ length q₀)
+Inv-loop y₀ q₀ m rows tight former partitions mates all z len₀ left₀ y q len left = (len ≤ m) × (length y ≡ length y₀) × (length q ≡ length q₀)
     × Same (uncross m partitions 1 (bitsAt former) (okOf rows mates all z) (walkIn m y₀ q₀))
     (uncross left partitions 1 (bitsAt former) (okOf rows mates all z) (walkIn len y q))
 
 abbrev μ-loop : tie.MeasureT-loop
-μ-loop y₀ q₀ m rows former partitions mates all z len₀ left₀ y q len left = left
+μ-loop y₀ q₀ m rows tight former partitions mates all z len₀ left₀ y q len left = left
 
 loop-holds : tie.Need-loop-holds Inv-loop μ-loop
 loop-holds c = (omega arith, omega arith, omega arith, same-refl _)
@@ -37,7 +37,7 @@ same-length-2 c = omega arith
 
 returns : tie.Need-returns Inv-loop μ-loop
 returns c = let k = c .before .before .before .before .before in
-    let a = k .before .before .before .before .before .before .args in
+    let a = k .before .before .before .before .before .before .before .args in
     let g = bitsAt (a .former .now) in
     let ok = okOf (a .rows .now) (a .mates .now) (a .all) (a .z) in
     let w = walkIn (k .loop .len) (k .loop .y) (k .loop .q) in
@@ -59,14 +59,15 @@ divide-requires : tie.Need-divide-requires Inv-loop μ-loop
 divide-requires c κs = let r = c .before .before in
     let e = r .before .before .before .before in
     let k = e .before .before .before .before in
-    let a = k .before .before .before .before .before .before .args in
+    let s = k .before .before .before .before .before .before .before in
+    let a = s .args in
     let g = bitsAt (a .former .now) in
     let ok = okOf (a .rows .now) (a .mates .now) (a .all) (a .z) in
     let w = walkIn (k .loop .len) (k .loop .y) (k .loop .q) in
     let v = uncross (a .m) (a .partitions) 1 g ok (walkIn (a .m) (a .y .now) (a .q .now)) in
     let p : (e .earlier .result < r .later .result) × (r .later .result < k .loop .len) =
     pair-in (a .partitions) g ok v w (e .earlier .result) (r .later .result) (e .earlier .ensures) (r .later .ensures) (omega arith) in
-    omega arith
+    omega (arith, s .pre .0, s .pre .1, s .pre .2)
 
 sub-left : tie.Need-sub-left Inv-loop μ-loop
 sub-left c = omega arith
@@ -79,7 +80,7 @@ loop-again c = let d = c .before .before .before .before in
     let r = d .before .before .before in
     let e = r .before .before .before .before in
     let k = e .before .before .before .before in
-    let a = k .before .before .before .before .before .before .args in
+    let a = k .before .before .before .before .before .before .before .args in
     let g = bitsAt (a .former .now) in
     let ok = okOf (a .rows .now) (a .mates .now) (a .all) (a .z) in
     let w = walkIn (k .loop .len) (k .loop .y) (k .loop .q) in
@@ -99,7 +100,7 @@ same-length-4 c = omega arith
 
 returns-2 : tie.Need-returns-2 Inv-loop μ-loop
 returns-2 c = let k = c .before in
-    let a = k .before .before .before .before .before .before .args in
+    let a = k .before .before .before .before .before .before .before .args in
     let g = bitsAt (a .former .now) in
     let ok = okOf (a .rows .now) (a .mates .now) (a .all) (a .z) in
     let w = walkIn (k .loop .len) (k .loop .y) (k .loop .q) in

@@ -12,14 +12,14 @@ use Rattle.circuits.proofs.load.Statement.{statement}
 use Rattle.circuits.proofs.load.Tie as tie
 
 abbrev Inv-loop : tie.InvT-loop
-Inv-loop y₀ q₀ walk m rows held former had partitions mates arcs all z t₀ y q t = (t ≤ m) × (length y ≡ length y₀) × (length q ≡ length q₀) × (y ≡ put 0 (λ s. getD walk s 0) t y₀)
+Inv-loop y₀ q₀ walk m rows tight held former had partitions mates arcs all z t₀ y q t = (t ≤ m) × (length y ≡ length y₀) × (length q ≡ length q₀) × (y ≡ put 0 (λ s. getD walk s 0) t y₀)
     × (q ≡ put 0 (witnessIn walk rows former partitions mates arcs all z) t q₀)
 
 abbrev μ-loop : tie.MeasureT-loop
-μ-loop y₀ q₀ walk m rows held former had partitions mates arcs all z t₀ y q t = m - t
+μ-loop y₀ q₀ walk m rows tight held former had partitions mates arcs all z t₀ y q t = m - t
 
 loop-holds : tie.Need-loop-holds Inv-loop μ-loop
-loop-holds c = let a = c .before .before .before .before .before .before .before .before .before .args in
+loop-holds c = let a = c .before .before .before .before .before .before .before .before .before .before .args in
     let n : ℕ → ℕ = λ s. getD (a .walk .now) s 0 in
     let w : ℕ → ℕ =
     witnessIn (a .walk .now) (a .rows .now) (a .former .now) (a .partitions) (a .mates .now) (a .arcs .now) (a .all) (a .z) in
@@ -72,7 +72,7 @@ loop-less c = omega arith
 
 loop-again : tie.Need-loop-again Inv-loop μ-loop
 loop-again c = let k = c .before .before .before .before .before in
-    let a = k .before .before .before .before .before .before .before .before .before .before .args in
+    let a = k .before .before .before .before .before .before .before .before .before .before .before .args in
     let n : ℕ → ℕ = λ s. getD (a .walk .now) s 0 in
     let w : ℕ → ℕ =
     witnessIn (a .walk .now) (a .rows .now) (a .former .now) (a .partitions) (a .mates .now) (a .arcs .now) (a .all) (a .z) in (
@@ -103,7 +103,7 @@ same-length-2 c = omega arith
 
 returns : tie.Need-returns Inv-loop μ-loop
 returns c = let k = c .before .before in
-    let a = k .before .before .before .before .before .before .before .before .before .before .args in
+    let a = k .before .before .before .before .before .before .before .before .before .before .before .args in
     let n : ℕ → ℕ = λ s. getD (a .walk .now) s 0 in
     let w : ℕ → ℕ =
     witnessIn (a .walk .now) (a .rows .now) (a .former .now) (a .partitions) (a .mates .now) (a .arcs .now) (a .all) (a .z) in

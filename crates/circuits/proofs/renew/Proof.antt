@@ -15,11 +15,11 @@ use Rattle.circuits.proofs.renew.Statement.{statement}
 use Rattle.circuits.proofs.renew.Tie as tie
 
 abbrev Inv-loop : tie.InvT-loop
-Inv-loop y q₀ m rows held former had partitions mates caps all z t₀ q t = (t ≤ m) × (length q ≡ length q₀)
+Inv-loop y q₀ m rows tight held former had partitions mates caps all z t₀ q t = (t ≤ m) × (length q ≡ length q₀)
     × (q ≡ put 0 (renewedIn rows former partitions mates all z caps y q₀) t q₀) × (everyTo t (standsIn rows former partitions mates all z caps y q₀) ≡ true)
 
 abbrev μ-loop : tie.MeasureT-loop
-μ-loop y q₀ m rows held former had partitions mates caps all z t₀ q t = m - t
+μ-loop y q₀ m rows tight held former had partitions mates caps all z t₀ q t = m - t
 
 loop-holds : tie.Need-loop-holds Inv-loop μ-loop
 loop-holds c = (omega arith, omega arith, put-none 0 _ _, every-none _)
@@ -54,7 +54,7 @@ same-length c = omega arith
 returns : tie.Need-returns Inv-loop μ-loop
 returns c = let r = c .before .before in
     let k = r .before .before .before .before .before in
-    let a = k .before .before .before .before .before .before .before .before .before .args in (
+    let a = k .before .before .before .before .before .before .before .before .before .before .args in (
       omega arith,
       renew-fails (a .rows .now) (a .former .now) (a .partitions) (a .mates .now) (a .all) (a .z) (a .caps .now) (a .y .now) (a .q .now) (a .m) (k .loop .t) (omega arith)
           (stands-at (a .rows .now) (a .former .now) (a .partitions) (a .mates .now) (a .all) (a .z) (a .caps .now) (a .y .now) (a .q .now) (k .loop .q) (k .loop .t) (k .loop .inv .2) (r .renewed .result .stands) (r .renewed .ensures .0)
@@ -80,7 +80,7 @@ loop-less c = omega arith
 loop-again : tie.Need-loop-again Inv-loop μ-loop
 loop-again c = let r = c .before .before .before in
     let k = r .before .before .before .before .before in
-    let a = k .before .before .before .before .before .before .before .before .before .args in (
+    let a = k .before .before .before .before .before .before .before .before .before .before .args in (
       omega arith,
       search needs,
       put-next (renewedIn (a .rows .now) (a .former .now) (a .partitions) (a .mates .now) (a .all) (a .z) (a .caps .now) (a .y .now) (a .q .now)) (k .loop .t) (r .renewed .result .partition) (a .q .now) (k .loop .q) (k .loop .inv .2)
@@ -95,7 +95,7 @@ same-length-2 c = omega arith
 
 returns-2 : tie.Need-returns-2 Inv-loop μ-loop
 returns-2 c = let k = c .before in
-    let a = k .before .before .before .before .before .before .before .before .before .args in
+    let a = k .before .before .before .before .before .before .before .before .before .before .args in
     let e : k .loop .t ≡ a .m = omega arith in (
       omega arith,
       renew-stands (a .rows .now) (a .former .now) (a .partitions) (a .mates .now) (a .all) (a .z) (a .caps .now) (a .y .now) (a .q .now) (a .m)

@@ -9,7 +9,9 @@ free-requires : tie.Need-free-requires
 free-requires c κs = search needs
 
 make-requires : tie.Need-make-requires
-make-requires c κs = (search needs, search needs, search needs, search needs, c .before .before .before .before .before .before .before .before .before .before .before .before .before .before .before .before .before .before .pre .5)
+make-requires c κs =
+    let s = c .before .before .before .before .before .before .before .before .before .before .before .before .before .before .before .before .before .before .before .before .before in
+    (search needs, search needs, search needs, search needs, s .pre .5, s .pre .6)
 
 same-length : tie.Need-same-length
 same-length c = search needs
@@ -23,20 +25,25 @@ same-length-3 c = search needs
 same-length-4 : tie.Need-same-length-4
 same-length-4 c = search needs
 
+same-length-5 : tie.Need-same-length-5
+same-length-5 c = search needs
+
 returns : tie.Need-returns
-returns c = let f = c .before .before .before .before .before .before .before .before .before .before .before .before .before .free in
-    let m = c .before .before .before .before .make in
-    let a = c .before .before .before .before .before .before .before .before .before .before .before .before .before .before .before .before .before .before .before .before .before .before .before .args in (
-      f .ensures .0,
-      f .ensures .1,
-      f .ensures .2,
-      m .ensures .0 ∙ sym (walked-same (a .partitions) (f .ensures .3) (a .rows .now)),
-      f .ensures .3,
-      m .ensures .1,
-      m .ensures .2,
+returns c =
+    let m = c .before .before .before .before .before .before in
+    let f = m .before .before .before .before .before .before .before .before .before .before in
+    let a = f .before .before .before .before .before .before .before .before .before .before .before .before .args in (
+      f .free .ensures .0,
+      f .free .ensures .1,
+      f .free .ensures .2,
+      m .make .ensures .0 ∙ sym (walked-same (a .partitions) (f .free .ensures .3) (a .rows .now)),
+      f .free .ensures .3,
+      m .make .ensures .1,
+      m .make .ensures .2,
+      m .make .ensures .3,
     )
 
 pub turn-spec : {M : Type 1} → statement M
 turn-spec =
     tie.close
-    (tie.spec free-requires make-requires same-length same-length-2 same-length-3 same-length-4 returns)
+    (tie.spec free-requires make-requires same-length same-length-2 same-length-3 same-length-4 same-length-5 returns)

@@ -9,7 +9,7 @@ use Rattle.sums.specs.ModelSums.{is}
 use Rattle.sets.specs.ModelBits.{bit, maskOf, memberOf, withOf}
 use Rattle.fields.specs.ModelTags.{tagsFrom, tagsOf}
 use Rattle.fields.proofs.Tags.{tags-alone}
-use Rattle.cluster_record.specs.RecordClusterFaults.{allowedAfter}
+use Rattle.cluster_record.specs.RecordClusterReading.{allowedAfter}
 use Prim.Native.Nat.{ℕ, _+_}
 use borrow.Author.Needs.{needs}
 use Rattle.cluster_record.proofs.allowed_after.Statement.{statement}

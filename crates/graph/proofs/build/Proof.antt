@@ -1,127 +1,114 @@
--- `graph::build` meets its contract. The loop's invariant: the blocks that are not left are right.
--- The measure is the number of blocks that are left. Assumes nothing.
+-- `graph::build` meets its contract. The loop's invariant: the leaves of the branches passed, and these branches, are right. Assumes nothing.
 use borrow.Author.Needs.{needs}
-use native.Mathlib.Omega.{arith}
-use Prim.Native.Nat.{ℕ, _+_, _-_, _/_, _^_, _≤_, _<_}
-use mathlib.Core.Path.{_≡_, refl, sym, ap, _∙_, subst}
-use lib.ListN.{length}
 use borrow.Author.Tests.{lt-ltb}
+use native.Mathlib.Omega.{arith}
+use Prim.Native.Nat.{_-_, _*_, _/_, _%_, _^_, _≤_}
+use mathlib.Core.Path.{refl, sym, _∙_}
+use lib.ListN.{length}
 use Rattle.cluster.specs.Terms.{bufferRows}
 use Rattle.cycles.specs.ModelGraph.{arcCells}
-use Rattle.sets.specs.ModelBits.{maskBits, countOf, leastOf}
-use Rattle.sets.proofs.Laws.{without-lt, least-taken}
-use Rattle.swaps.specs.ModelBlocks.{blockRows}
+use Rattle.sets.specs.ModelBits.{bit}
+use Rattle.swaps.specs.ModelSwaps.{Tight}
 use Rattle.graph.specs.ModelArcs.{arcsOf}
-use Rattle.graph.specs.ModelKept.{Kept}
-use Rattle.graph.proofs.Turns.{clear-length}
-use Rattle.graph.proofs.Blocks.{kept-few, arcs-all}
+use Rattle.graph.specs.ModelKept.{parts, Kept}
+use Rattle.graph.proofs.Keeping.{staleFrom, kept-first, kept-last, kept-branch, kept-renewed, arcs-all}
 use Rattle.graph.proofs.build.Statement.{statement}
 use Rattle.graph.proofs.build.Tie as tie
 
 abbrev Inv-loop : tie.InvT-loop
-Inv-loop rows former partitions mates caps all z stale kept₀ arcs left₀ kept left =
-    (partitions ≤ bufferRows) × (left < 2 ^ maskBits) × Kept rows former partitions mates all z left kept
+Inv-loop rows tight former partitions mates caps room all z stale kept₀ arcs i₀ kept i =
+    (i ≤ parts) × (partitions ≤ bufferRows) × Tight mates z rows partitions tight × Kept rows former partitions mates all z (staleFrom stale i) kept
 
 abbrev μ-loop : tie.MeasureT-loop
-μ-loop rows former partitions mates caps all z stale kept₀ arcs left₀ kept left = countOf left
+μ-loop rows tight former partitions mates caps room all z stale kept₀ arcs i₀ kept i = parts - i
 
--- Where no block is left, all are right.
-fresh : (k : tie.At-loop Inv-loop μ-loop) → k .loop .left ≡ 0
-    → (let a = k .before .before .before .before .before .before .before .args in
-    Kept (a .rows .now) (a .former .now) (a .partitions) (a .mates .now) (a .all) (a .z) 0 (k .loop .kept))
-fresh k e =
-    let a = k .before .before .before .before .before .before .before .args in
-    subst (λ (x : ℕ). Kept (a .rows .now) (a .former .now) (a .partitions) (a .mates .now) (a .all) (a .z) x (k .loop .kept)) e (k .loop .inv .2)
+-- Where all branches are passed, all is right.
+fresh : (k : tie.At-loop Inv-loop μ-loop) → parts ≤ k .loop .i
+    → (let a = k .before .before .before .before .before .before .before .before .args in
+    Kept (a .rows .now) (a .former .now) (a .partitions) (a .mates .now) (a .all) (a .z) (bit 0) (k .loop .kept))
+fresh k h =
+    let a = k .before .before .before .before .before .before .before .before .args in
+    kept-last (a .former .now) (a .partitions) (a .mates .now) (a .all) (a .z) (a .rows .now) (k .loop .kept) (a .stale) (k .loop .i) (omega (arith, k .loop .inv .0)) (k .loop .inv .3)
 
 loop-holds : tie.Need-loop-holds Inv-loop μ-loop
-loop-holds c = (search needs, search needs, c .before .before .before .before .before .before .pre .1)
+loop-holds c =
+    let s = c .before .before .before .before .before .before .before in
+    let a = s .args in
+    (search needs, search needs, s .pre .1, kept-first (a .former .now) (a .partitions) (a .mates .now) (a .all) (a .z) (a .rows .now) (a .kept .now) (a .stale) (s .pre .3))
+
+mul-part : tie.Need-mul-part Inv-loop μ-loop
+mul-part c = search needs
+
+shr-part : tie.Need-shr-part Inv-loop μ-loop
+shr-part c = search needs
+
+cast-part : tie.Need-cast-part Inv-loop μ-loop
+cast-part c = search needs
 
 renew-requires : tie.Need-renew-requires Inv-loop μ-loop
-renew-requires c κs = let k = c .before .before in (k .loop .inv .0, c .before .loop-test .taken, k .loop .inv .2)
+renew-requires c κs =
+    let k = c .before .before in
+    let a = k .before .before .before .before .before .before .before .before .args in
+    let o =
+    kept-branch (a .former .now) (a .partitions) (a .mates .now) (a .all) (a .z) (a .rows .now) (k .loop .kept) (a .stale) (k .loop .i)
+    (a .stale / 2 ^ (parts * k .loop .i) % 2 ^ parts) (omega arith) refl (k .loop .inv .3) in
+    (k .loop .inv .1, omega arith, omega arith, k .loop .inv .3 .long, k .loop .inv .2, o .0, o .1)
+
+add-i : tie.Need-add-i Inv-loop μ-loop
+add-i c = search needs
 
 loop-less : tie.Need-loop-less Inv-loop μ-loop
-loop-less c =
-    let r = c .before .before in
-    let k = r .before .before .before in
-    omega (arith, least-taken (k .loop .left) (k .loop .inv .1) (r .before .before .loop-test .taken), ap countOf (r .renew .ensures .0))
+loop-less c = search needs
 
 loop-again : tie.Need-loop-again Inv-loop μ-loop
 loop-again c =
     let r = c .before .before in
     let k = r .before .before .before in
-    (k .loop .inv .0, omega (arith, r .renew .ensures .0, without-lt (k .loop .left) (leastOf (k .loop .left))), r .renew .ensures .1)
+    let a = k .before .before .before .before .before .before .before .before .args in (
+      search needs,
+      k .loop .inv .1,
+      k .loop .inv .2,
+      kept-renewed (a .former .now) (a .partitions) (a .mates .now) (a .all) (a .z) (a .rows .now) (k .loop .kept) (r .renew .last .1 .1 .1 .1 .1 .1 .1 .1 .1 .0) (a .stale)
+          (k .loop .i) (omega arith) (r .renew .ensures) (k .loop .inv .3),
+    )
 
 same-length : tie.Need-same-length Inv-loop μ-loop
-same-length c = let k = c .before .before in k .loop .inv .2 .long ∙ sym (k .before .before .before .before .before .before .before .pre .1 .long)
+same-length c = let k = c .before .before in k .loop .inv .3 .long ∙ sym (k .before .before .before .before .before .before .before .before .pre .3 .long)
 
 returns : tie.Need-returns Inv-loop μ-loop
 unfolding arcsOf
 returns c =
     let k = c .before .before in
-    let a = k .before .before .before .before .before .before .before .args in (
-      sym (rw (lt-ltb (length (a .arcs .now)) arcCells (c .if1 .taken))),
-      fresh k (c .before .loop-test .left),
-    )
-
-clear-requires : tie.Need-clear-requires Inv-loop μ-loop
-clear-requires c κs = search needs
-
-sub-blocks : tie.Need-sub-blocks Inv-loop μ-loop
-sub-blocks c = search needs
-
-add-blocks : tie.Need-add-blocks Inv-loop μ-loop
-add-blocks c = search needs
-
-slice-aggregate-gather : tie.Need-slice-aggregate-gather Inv-loop μ-loop
-slice-aggregate-gather c = search needs
+    let a = k .before .before .before .before .before .before .before .before .args in
+    (sym (rw (lt-ltb (length (a .arcs .now)) arcCells (c .if1 .taken))), fresh k (c .before .loop-test .left))
 
 gather-requires : tie.Need-gather-requires Inv-loop μ-loop
-gather-requires c κs =
-    let l = c .before .before .before .before in
-    let k = l .before .before .before .before in
-    let a = k .before .before .before .before .before .before .before .args in
-    let K = fresh k (l .before .before .before .loop-test .left) in (
-      search needs,
-      k .loop .inv .2 .long,
-      search needs,
-      kept-few (a .former .now) (a .partitions) (a .mates .now) (a .all) (a .z) (k .loop .inv .0) (a .rows .now) (k .loop .kept) K
-          ((a .partitions + (blockRows - 1)) / blockRows) refl,
-    )
+gather-requires c κs = (search needs, c .before .before .before .before .loop .inv .3 .long)
 
-slice-aggregate-add-nodes : tie.Need-slice-aggregate-add-nodes Inv-loop μ-loop
-slice-aggregate-add-nodes c = search needs
-
-add-nodes-requires : tie.Need-add-nodes-requires Inv-loop μ-loop
-add-nodes-requires c κs =
-    let l = c .before .before .before .before .before .before .before .before in
-    let a = l .before .before .before .before .before .before .before .before .before .before .before .args in
-    (omega (arith, clear-length (a .arcs .now) (l .clear .last .0) (omega arith) (l .clear .ensures)), search needs)
+add-room-requires : tie.Need-add-room-requires Inv-loop μ-loop
+add-room-requires c κs = let g = c .before .before .before in omega (arith, g .gather .ensures .long)
 
 same-length-2 : tie.Need-same-length-2 Inv-loop μ-loop
 same-length-2 c =
-    let g = c .before .before .before .before .before .before in
-    let k = g .before .before .before .before .before .before .before .before .before in
-    k .loop .inv .2 .long ∙ sym (k .before .before .before .before .before .before .before .pre .1 .long)
+    let k = c .before .before .before .before .before .before .before .before .before .before .before in
+    k .loop .inv .3 .long ∙ sym (k .before .before .before .before .before .before .before .before .pre .3 .long)
 
 same-length-3 : tie.Need-same-length-3 Inv-loop μ-loop
 same-length-3 c =
     let r = c .before .before in
-    let g = r .before .before .before .before in
-    let l = g .before .before .before .before .before in
-    let a = l .before .before .before .before .before .before .before .before .before .before .before .args in
-    r .add-nodes .ensures .long ∙ clear-length (a .arcs .now) (l .clear .last .0) (omega arith) (l .clear .ensures)
+    r .add-room .ensures .long ∙ r .before .before .before .before .gather .ensures .long
 
 returns-2 : tie.Need-returns-2 Inv-loop μ-loop
 returns-2 c =
     let r = c .before .before in
     let g = r .before .before .before .before in
-    let l = g .before .before .before .before .before in
-    let k = l .before .before .before .before in
-    let a = k .before .before .before .before .before .before .before .args in
-    let K = fresh k (l .before .before .before .loop-test .left) in (
-      arcs-all (a .former .now) (a .partitions) (a .mates .now) (a .all) (a .z) (k .loop .inv .0) (a .rows .now) (k .loop .kept) K
-          ((a .partitions + (blockRows - 1)) / blockRows) refl (g .gather .last .0) (a .caps .now) (a .arcs .now) (l .clear .last .0) (r .add-nodes .last .0) (g .gather .ensures)
-          (omega arith) (l .clear .ensures) (r .add-nodes .ensures) (λ j. omega (arith, c .slice-known5 .given j)),
+    let d = g .before .before .before .before in
+    let k = d .before in
+    let s = k .before .before .before .before .before .before .before .before in
+    let a = s .args in
+    let K = fresh k (d .loop-test .left) in (
+      arcs-all (a .former .now) (a .partitions) (a .mates .now) (a .all) (a .z) (a .rows .now) (k .loop .kept) (a .caps .now) (a .arcs .now) (g .gather .last .0) (r .add-room .last .0)
+          (a .room) (k .loop .inv .1) K (omega arith) (s .pre .2) (g .gather .ensures) (r .add-room .ensures) (λ j. omega (arith, c .slice-known5 .given j)),
       K,
     )
 
@@ -132,18 +119,17 @@ build-spec =
     Inv-loop
     μ-loop
     loop-holds
+    mul-part
+    shr-part
+    cast-part
     renew-requires
+    add-i
     loop-less
     loop-again
     same-length
     returns
-    clear-requires
-    sub-blocks
-    add-blocks
-    slice-aggregate-gather
     gather-requires
-    slice-aggregate-add-nodes
-    add-nodes-requires
+    add-room-requires
     same-length-2
     same-length-3
     returns-2)

@@ -1,143 +1,79 @@
--- `graph::gather` meets its contract. The loop's invariant: the cells of the nodes below i have what the blocks hold together, and what is left of `all` are the
--- nodes from i on. Assumes nothing.
+-- `graph::gather` meets its contract. Assumes nothing.
 use borrow.Author.Needs.{needs}
+use Prim.Native.Nat.{ℕ}
 use native.Mathlib.Omega.{arith}
-use Prim.Native.Nat.{ℕ, _+_, _-_, _/_, _%_, _^_, _≤_, _<_}
-use mathlib.Core.Path.{_≡_, sym, ap, _∙_}
-use mathlib.Core.Logic.{⊎-elim}
-use lib.ListN.{length, getD}
-use lib.Pow.{shr-shr}
-use Rattle.cluster.specs.Terms.{mostNodes}
-use Rattle.sums.proofs.Sum.{lt-or-ge}
-use Rattle.graph.specs.ModelKept.{mostBlocks, blockCells, keptCells, wide, Few, wholeOf}
-use Rattle.graph.proofs.Wholes.{shifted-none, shifted-some, gather-turn}
+use Rattle.graph.specs.ModelKept.{mostLeaves, unionAt}
+use Rattle.graph.proofs.Unions.{stored-none, stored-more, gathered}
 use Rattle.graph.proofs.gather.Statement.{statement}
 use Rattle.graph.proofs.gather.Tie as tie
 
-abbrev Inv-loop : tie.InvT-loop
-Inv-loop whole₀ kept blocks all i₀ left₀ whole i left =
-    (i ≤ mostNodes) × (i % wide ≡ 0) × (blocks ≤ mostBlocks) × (length whole₀ ≡ blockCells) × (length whole ≡ blockCells) × (length kept ≡ keptCells)
-    × Few kept blocks × (left ≡ all / 2 ^ i) × ((c : ℕ) → c < blockCells → c % mostNodes < i → getD whole c 0 ≡ wholeOf kept blocks c)
+united-requires : tie.Need-united-requires
+united-requires c κs = search needs
 
-abbrev μ-loop : tie.MeasureT-loop
-μ-loop whole₀ kept blocks all i₀ left₀ whole i left = mostNodes - i
+slice-aggregate-store : tie.Need-slice-aggregate-store
+slice-aggregate-store c = search needs
 
-loop-holds : tie.Need-loop-holds Inv-loop μ-loop
-loop-holds c = (
-  search needs,
-  search needs,
-  search needs,
-  search needs,
-  search needs,
-  search needs,
-  c .before .before .pre .3,
-  omega arith,
-  λ x p q. absurd (omega arith),
-)
+store-requires : tie.Need-store-requires
+store-requires c κs = search needs
 
--- Within a turn there are nodes from i on.
-inside : (c : tie.In-loop Inv-loop μ-loop) → c .before .loop .i + wide ≤ mostNodes
-inside c =
-    let k = c .before in
-    let a = k .before .before .before .args in
-    let l = shifted-some (a .all) (k .loop .i) (search needs) (k .loop .inv .0) (λ z. c .loop-test .taken (k .loop .inv .7 ∙ z)) in
-    omega (arith, l)
+united-requires-2 : tie.Need-united-requires-2
+united-requires-2 c κs = search needs
 
-unite-blocks-requires : tie.Need-unite-blocks-requires Inv-loop μ-loop
-unite-blocks-requires c κs = (search needs, search needs, search needs, omega (arith, inside (c .before)))
+slice-aggregate-store-2 : tie.Need-slice-aggregate-store-2
+slice-aggregate-store-2 c = search needs
 
-add-unite-blocks : tie.Need-add-unite-blocks Inv-loop μ-loop
-add-unite-blocks c = search needs
+store-requires-2 : tie.Need-store-requires-2
+store-requires-2 c κs = search needs
 
-unite-blocks-requires-2 : tie.Need-unite-blocks-requires-2 Inv-loop μ-loop
-unite-blocks-requires-2 c κs =
-    (search needs, search needs, search needs, omega (arith, inside (c .before .before .before .before .before)))
+mul-united : tie.Need-mul-united
+mul-united c = search needs
 
-add-unite-blocks-2 : tie.Need-add-unite-blocks-2 Inv-loop μ-loop
-add-unite-blocks-2 c = search needs
+united-requires-3 : tie.Need-united-requires-3
+united-requires-3 c κs = search needs
 
-unite-blocks-requires-3 : tie.Need-unite-blocks-requires-3 Inv-loop μ-loop
-unite-blocks-requires-3 c κs =
-    let n = c .before .before .before .before .before .before .before .before .before in
-    (search needs, search needs, search needs, omega (arith, inside n))
+mul-store : tie.Need-mul-store
+mul-store c = search needs
 
-add-blocks-requires : tie.Need-add-blocks-requires Inv-loop μ-loop
-add-blocks-requires c κs =
-    let n = c .before .before .before .before .before .before .before .before .before .before .before .before .before in
-    (search needs, search needs, search needs, omega (arith, inside n), n .before .loop .inv .6)
+slice-aggregate-store-3 : tie.Need-slice-aggregate-store-3
+slice-aggregate-store-3 c = search needs
 
-add-i : tie.Need-add-i Inv-loop μ-loop
-add-i c = search needs
+store-requires-3 : tie.Need-store-requires-3
+store-requires-3 c κs = search needs
 
-cast-left : tie.Need-cast-left Inv-loop μ-loop
-cast-left c = search needs
-
-shr-left : tie.Need-shr-left Inv-loop μ-loop
-shr-left c = search needs
-
-loop-less : tie.Need-loop-less Inv-loop μ-loop
-loop-less c =
-    let u4 = c .before .before in
-    let u3 = u4 .before .before .before .before in
-    let u2 = u3 .before .before .before .before in
-    let u1 = u2 .before .before .before .before in
-    omega (arith, inside (u1 .before .before))
-
-loop-again : tie.Need-loop-again Inv-loop μ-loop
-loop-again c =
-    let u4 = c .before .before in
-    let u3 = u4 .before .before .before .before in
-    let u2 = u3 .before .before .before .before in
-    let u1 = u2 .before .before .before .before in
-    let n = u1 .before .before in
-    let k = n .before in
-    let a = k .before .before .before .args in
-    let t =
-    gather-turn (a .kept .now) (a .blocks) (k .loop .i) (k .loop .whole) (u1 .unite-blocks .last .0) (u2 .unite-blocks2 .last .0) (u3 .unite-blocks3 .last .0)
-    (u4 .add-blocks .last .0) (k .loop .inv .4) (inside n) (k .loop .inv .8) (u1 .unite-blocks .ensures) (u2 .unite-blocks2 .ensures) (u3 .unite-blocks3 .ensures)
-    (u4 .add-blocks .ensures) in (
-      inside n,
-      search needs,
-      search needs,
-      search needs,
-      t .0,
-      search needs,
-      k .loop .inv .6,
-      ap (λ (x : ℕ). x / 2 ^ wide) (k .loop .inv .7) ∙ shr-shr (a .all) (k .loop .i) wide,
-      t .1,
-    )
-
-same-length : tie.Need-same-length Inv-loop μ-loop
+same-length : tie.Need-same-length
 same-length c = search needs
 
-returns : tie.Need-returns Inv-loop μ-loop
+returns : tie.Need-returns
 returns c =
-    let k = c .before in
-    let a = k .before .before .before .args in
-    record {
-      cells = λ x p o.
-          ⊎-elim (λ h. k .loop .inv .8 x p h)
-          (λ h. absurd (omega (arith, o, shifted-none (a .all) (k .loop .i) (x % mostNodes) (sym (k .loop .inv .7) ∙ c .loop-test .left) h)))
-          (lt-or-ge (x % mostNodes) (k .loop .i));
-    }
+    let s₃ = c .before .before in
+    let u₃ = s₃ .before .before .before in
+    let s₂ = u₃ .before .before .before in
+    let u₂ = s₂ .before .before .before in
+    let s₁ = u₂ .before .before .before in
+    let u₁ = s₁ .before .before .before in
+    let s = u₁ .before .before .before in
+    let a = s .args in
+    let F : ℕ → ℕ = unionAt (a .kept .now) mostLeaves in
+    gathered (a .kept .now) (a .arcs .now) (s₃ .store3 .last .0)
+    (stored-more F 0 64 (a .arcs .now) (s₂ .store2 .last .0) (s₃ .store3 .last .0) (u₃ .united3 .result) (u₃ .united3 .ensures .0) (u₃ .united3 .ensures .1) (omega (arith, s .pre)) (s₃ .store3 .ensures)
+    (stored-more F 0 32 (a .arcs .now) (s₁ .store .last .0) (s₂ .store2 .last .0) (u₂ .united2 .result) (u₂ .united2 .ensures .0) (u₂ .united2 .ensures .1) (omega (arith, s .pre)) (s₂ .store2 .ensures)
+    (stored-more F 0 0 (a .arcs .now) (a .arcs .now) (s₁ .store .last .0) (u₁ .united .result) (u₁ .united .ensures .0) (u₁ .united .ensures .1) (omega (arith, s .pre)) (s₁ .store .ensures)
+    (stored-none F 0 (a .arcs .now)))))
 
 pub gather-spec : {M : Type 1} → statement M
 gather-spec =
     tie.close
     (tie.spec
-    Inv-loop
-    μ-loop
-    loop-holds
-    unite-blocks-requires
-    add-unite-blocks
-    unite-blocks-requires-2
-    add-unite-blocks-2
-    unite-blocks-requires-3
-    add-blocks-requires
-    add-i
-    cast-left
-    shr-left
-    loop-less
-    loop-again
+    united-requires
+    slice-aggregate-store
+    store-requires
+    united-requires-2
+    slice-aggregate-store-2
+    store-requires-2
+    mul-united
+    united-requires-3
+    mul-store
+    slice-aggregate-store-3
+    store-requires-3
     same-length
     returns)

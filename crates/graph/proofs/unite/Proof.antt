@@ -7,18 +7,18 @@ use lib.ListN.{length, getD}
 use Rattle.sets.specs.ModelBits.{unionOf}
 use Rattle.cells.specs.ModelCells.{put}
 use Rattle.cells.proofs.Cells.{put-none}
-use Rattle.graph.specs.ModelKept.{wide}
-use Rattle.graph.proofs.Wholes.{put-joined}
+use Rattle.cluster.specs.Terms.{mostNodes}
+use Rattle.graph.proofs.Unions.{put-joined}
 use Rattle.graph.proofs.unite.Statement.{statement}
 use Rattle.graph.proofs.unite.Tie as tie
 
 abbrev Inv-loop : tie.InvT-loop
 Inv-loop held₀ kept at t₀ held t =
-    (t ≤ wide) × (length held₀ ≡ wide) × (at + wide ≤ length kept) × (length held ≡ length held₀)
+    (t ≤ mostNodes) × (length held₀ ≡ mostNodes) × (at + mostNodes ≤ length kept) × (length held ≡ length held₀)
     × (held ≡ put 0 (λ i. unionOf (getD held₀ i 0) (getD kept (at + i) 0)) t held₀)
 
 abbrev μ-loop : tie.MeasureT-loop
-μ-loop held₀ kept at t₀ held t = wide - t
+μ-loop held₀ kept at t₀ held t = mostNodes - t
 
 loop-holds : tie.Need-loop-holds Inv-loop μ-loop
 loop-holds c =
@@ -67,7 +67,7 @@ returns : tie.Need-returns Inv-loop μ-loop
 returns c =
     let k = c .before in
     let a = k .before .before .before .args in
-    let e : k .loop .t ≡ wide = omega arith in
+    let e : k .loop .t ≡ mostNodes = omega arith in
     k .loop .inv .4 ∙ ap (λ (n : ℕ). put 0 (λ i. unionOf (getD (a .held .now) i 0) (getD (a .kept .now) (a .at + i) 0)) n (a .held .now)) e
 
 pub unite-spec : {M : Type 1} → statement M

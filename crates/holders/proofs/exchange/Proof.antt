@@ -1,8 +1,5 @@
 -- `holders::exchange` meets its contract. Assumes nothing.
-use mathlib.Core.Path.{ap, _∙_}
-use mathlib.Core.List.{List}
-use Prim.Native.Nat.{ℕ}
-use Rattle.holders.specs.ModelHolders.{takenOn}
+use Rattle.holders.proofs.Holding.{held-exchange}
 use borrow.Author.Needs.{needs}
 use Rattle.holders.proofs.exchange.Statement.{statement}
 use Rattle.holders.proofs.exchange.Tie as tie
@@ -17,9 +14,10 @@ same-length : tie.Need-same-length
 same-length c = search needs
 
 returns : tie.Need-returns
-returns c = let t = c .before .before in
-    let a = t .before .before .before .before .before .before .before .args in
-    t .take-on .ensures ∙ ap (λ (h : List ℕ). takenOn h (a .p) (a .v)) (t .before .before .before .before .let-go .ensures)
+returns c rows P few lp lr H = let t = c .before .before in
+    let g = t .before .before .before .before in
+    let a = g .before .before .before .args in
+    held-exchange (a .held .now) (g .let-go .last .0) (t .take-on .last .0) (a .p) (a .u) (a .v) (t .take-on .ensures .0) (g .let-go .ensures .1) (t .take-on .ensures .1) rows P few lp lr H
 
 pub exchange-spec : {M : Type 1} → statement M
 exchange-spec = tie.close (tie.spec let-go-requires take-on-requires same-length returns)

@@ -3,6 +3,7 @@ use Prim.Native.Nat.{ℕ, _-_, _≤_}
 use mathlib.Core.Path.{_≡_, subst}
 use native.Mathlib.Omega.{arith}
 use lib.ListN.{length}
+use Rattle.sets.specs.ModelBits.{bit}
 use Rattle.holders.specs.ModelHolders.{Held, Taken}
 use Rattle.holders.proofs.Holding.{held-more}
 use borrow.Author.Needs.{needs}
@@ -37,7 +38,7 @@ loop-again c = let h = c .before .before in
       omega arith,
       omega arith,
       held-more (a .rows .now) (k .loop .p) (k .loop .held) (h .hold .last .0) (omega arith) (k .loop .inv .2) (h .hold .ensures .0)
-          (subst (λ (x : ℕ). Taken x (k .loop .p) (k .loop .held) (h .hold .last .0)) (h .before .cell .ensures) (h .hold .ensures .1)),
+          (subst (λ (x : ℕ). Taken (bit x) (k .loop .p) (k .loop .held) (h .hold .last .0)) (h .before .cell .ensures) (h .hold .ensures .1)),
     )
 
 same-length : tie.Need-same-length Inv-loop μ-loop

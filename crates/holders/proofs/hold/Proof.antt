@@ -1,24 +1,24 @@
 -- `holders::hold` meets its contract. The nodes of the row that are left no more have taken the partition on. Assumes nothing.
 use Prim.Native.Nat.{ℕ}
-use mathlib.Core.Path.{_≡_, refl, sym, ap, _∙_, subst}
+use mathlib.Core.Path.{sym, ap, _∙_, subst}
 use native.Mathlib.Omega.{arith}
-use lib.ListN.{length}
-use Rattle.sets.specs.ModelBits.{withoutOf, countOf, leastOf}
-use Rattle.sets.proofs.Scan.{Left, left-all, left-less}
-use Rattle.holders.specs.ModelHolders.{takenOn}
-use Rattle.holders.proofs.Holding.{fewer, length-taken-on, Partly, partly-none, partly-more, partly-all}
+use Rattle.sums.specs.ModelSums.{is}
+use Rattle.sets.specs.ModelBits.{withoutOf, countOf}
+use Rattle.sets.proofs.Scan.{Left, left-all, left-less, fewer}
+use Rattle.holders.specs.ModelHolders.{Counted, Taken}
+use Rattle.holders.proofs.Holding.{Partly, partly-none, partly-more, partly-all}
 use borrow.Author.Needs.{needs}
 use Rattle.holders.proofs.hold.Statement.{statement}
 use Rattle.holders.proofs.hold.Tie as tie
 
 abbrev Inv-loop : tie.InvT-loop
-Inv-loop held₀ p row left₀ held left = (length held ≡ length held₀) × Left row left × Partly row left p held₀ held
+Inv-loop held₀ p row left₀ held left = Counted held × Left row left × Partly row left p held₀ held
 
 abbrev μ-loop : tie.MeasureT-loop
 μ-loop held₀ p row left₀ held left = countOf left
 
 loop-holds : tie.Need-loop-holds Inv-loop μ-loop
-loop-holds c = let a = c .before .args in (refl, left-all (a .row) (omega arith), partly-none (a .row) (a .p) (a .held .now))
+loop-holds c = let a = c .before .args in (search needs, left-all (a .row) (omega arith), partly-none (a .row) (a .p) (a .held .now))
 
 least-requires : tie.Need-least-requires Inv-loop μ-loop
 least-requires c κs = search needs
@@ -41,13 +41,12 @@ loop-again c = let t = c .before .before .before in
     let k = l .before .before in
     let a = k .before .before .args in
     let n = l .before .loop-test .taken in
-    let e = c .without .ensures ∙ ap (withoutOf (k .loop .left)) (l .least .ensures) in
-    let h = t .take-on .ensures ∙ ap (takenOn (k .loop .held) (a .p)) (l .least .ensures) in (
-      ap length h ∙ (length-taken-on (k .loop .held) (a .p) (leastOf (k .loop .left)) ∙ k .loop .inv .0),
+    let e = c .without .ensures ∙ ap (withoutOf (k .loop .left)) (l .least .ensures) in (
+      t .take-on .ensures .0,
       subst (Left (a .row)) (sym e) (left-less (a .row) (k .loop .left) (k .loop .inv .1) n),
       subst (λ (x : ℕ). Partly (a .row) x (a .p) (a .held .now) (t .take-on .last .0)) (sym e)
-          (subst (Partly (a .row) (withoutOf (k .loop .left) (leastOf (k .loop .left))) (a .p) (a .held .now)) (sym h)
-          (partly-more (a .row) (a .p) (a .held .now) (k .loop .left) (k .loop .held) (omega arith) (omega arith) (k .loop .inv .1) n (k .loop .inv .2))),
+          (partly-more (a .row) (a .p) (a .held .now) (k .loop .left) (k .loop .held) (t .take-on .last .0) (k .loop .inv .1) n (k .loop .inv .2)
+          (subst (λ (x : ℕ). Taken (is x) (a .p) (k .loop .held) (t .take-on .last .0)) (l .least .ensures) (t .take-on .ensures .1))),
     )
 
 same-length : tie.Need-same-length Inv-loop μ-loop
@@ -56,7 +55,7 @@ same-length c = search needs
 returns : tie.Need-returns Inv-loop μ-loop
 returns c = let k = c .before in
     let a = k .before .before .args in
-    (omega arith, partly-all (a .row) (a .p) (a .held .now) (k .loop .left) (k .loop .held) (omega arith) (k .loop .inv .2))
+    (k .loop .inv .0, partly-all (a .row) (a .p) (a .held .now) (k .loop .left) (k .loop .held) (omega arith) (k .loop .inv .2))
 
 pub hold-spec : {M : Type 1} → statement M
 hold-spec =

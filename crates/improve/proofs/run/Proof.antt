@@ -1,24 +1,27 @@
 -- `improve::run` meets its contract. Assumes nothing.
-use Prim.Native.Nat.{ℕ}
 use mathlib.Core.Path.{refl}
-use lib.ListN.{length-replicate}
-use Rattle.graph.specs.ModelKept.{keptCells}
 use Rattle.holders.proofs.Holding.{held-none}
 use borrow.Author.Needs.{needs}
 use Rattle.improve.proofs.run.Statement.{statement}
 use Rattle.improve.proofs.run.Tie as tie
 
+slice-aggregate-tighten : tie.Need-slice-aggregate-tighten
+slice-aggregate-tighten c = search needs
+
+tighten-requires : tie.Need-tighten-requires
+tighten-requires c κs = search needs
+
 slice-aggregate-fill : tie.Need-slice-aggregate-fill
 slice-aggregate-fill c = search needs
 
 fill-requires : tie.Need-fill-requires
-fill-requires c κs = (c .before .before .before .before .before .before .pre .0, held-none (c .before .before .before .before .before .before .args .rows .now))
+fill-requires c κs = let s = c .before .before .before .before .before .before .before .before .before .before .before in (s .pre .0, held-none (s .args .rows .now))
 
 slice-aggregate-fill-2 : tie.Need-slice-aggregate-fill-2
 slice-aggregate-fill-2 c = search needs
 
 fill-requires-2 : tie.Need-fill-requires-2
-fill-requires-2 c κs = (c .before .before .before .before .before .before .before .before .before .pre .0, held-none (c .before .before .before .before .before .before .before .before .before .args .former .now))
+fill-requires-2 c κs = let s = c .before .before .before .before .before .before .before .before .before .before .before .before .before .before in (s .pre .0, held-none (s .args .former .now))
 
 slice-aggregate-go : tie.Need-slice-aggregate-go
 slice-aggregate-go c = search needs
@@ -36,11 +39,15 @@ slice-aggregate-go-5 : tie.Need-slice-aggregate-go-5
 slice-aggregate-go-5 c = search needs
 
 go-requires : tie.Need-go-requires
-go-requires c κs = let p = c .before .before .before .before .before .before .before .before .before .before .before .before .before .before .before .before .before .pre in
-    (p .0, p .1, refl, refl, length-replicate {A = ℕ} keptCells 0, c .before .before .before .before .before .before .before .before .before .before .fill .ensures, c .before .before .before .before .before .before .before .fill2 .ensures)
+go-requires c κs =
+    let p = c .before .before .before .before .before .before .before .before .before .before .before .before .before .before .before .before .before .before .before .before .before .before .before .pre in
+    (p .0, p .1, refl, refl, p .2, c .before .before .before .before .before .before .before .before .before .before .before .before .before .before .before .tighten .ensures, c .before .before .before .before .before .before .before .before .before .before .before .fill .ensures, c .before .before .before .before .before .before .before .before .fill2 .ensures)
 
 same-length : tie.Need-same-length
 same-length c = search needs
+
+same-length-2 : tie.Need-same-length-2
+same-length-2 c = search needs
 
 returns : tie.Need-returns
 returns c = search needs
@@ -49,6 +56,8 @@ pub run-spec : {M : Type 1} → statement M
 run-spec =
     tie.close
     (tie.spec
+    slice-aggregate-tighten
+    tighten-requires
     slice-aggregate-fill
     fill-requires
     slice-aggregate-fill-2
@@ -60,4 +69,5 @@ run-spec =
     slice-aggregate-go-5
     go-requires
     same-length
+    same-length-2
     returns)

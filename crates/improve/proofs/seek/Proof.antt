@@ -10,7 +10,7 @@ below-requires : tie.Need-below-requires
 below-requires c κs = search needs
 
 renew-requires : tie.Need-renew-requires
-renew-requires c κs = let p = c .before .before .before .before .before .before .before .before .before .before .before .before .pre in (omega (arith, p .0, p .1), omega (arith, p .0, p .2), p .3, p .5, p .6)
+renew-requires c κs = let p = c .before .before .before .before .before .before .before .before .before .before .before .before .before .pre in (omega (arith, p .0, p .1), omega (arith, p .0, p .2), p .3, p .5, p .6, p .7)
 
 same-length : tie.Need-same-length
 same-length c = search needs
@@ -21,7 +21,7 @@ same-length-2 c = search needs
 returns : tie.Need-returns
 returns c = let r = c .before .before .before .renew in
     let b = c .before .before .before .before .before .before .below in
-    let s = c .before .before .before .before .before .before .before .before .before .before .before .before .before .before .before .before in
+    let s = c .before .before .before .before .before .before .before .before .before .before .before .before .before .before .before .before .before in
     let a = s .args in (
       omega arith,
       search needs,
@@ -32,7 +32,7 @@ returns c = let r = c .before .before .before .renew in
     )
 
 search-requires : tie.Need-search-requires
-search-requires c κs = let p = c .before .before .before .before .before .before .before .before .before .before .before .before .before .before .before .before .before .before .before .pre in (p .1, omega (arith, p .2, c .before .before .before .before .before .before .renew .ensures .0), p .3, p .4, p .5, p .6)
+search-requires c κs = let p = c .before .before .before .before .before .before .before .before .before .before .before .before .before .before .before .before .before .before .before .before .pre in (p .1, omega (arith, p .2, c .before .before .before .before .before .before .renew .ensures .0), p .3, p .4, p .5, p .6, p .7)
 
 same-length-3 : tie.Need-same-length-3
 same-length-3 c = search needs
@@ -47,7 +47,7 @@ returns-2 : tie.Need-returns-2
 returns-2 c = let l = c .before .before .before .before .before .before .search in
     let r = c .before .before .before .before .before .before .before .before .before .before .before .before .before .renew in
     let b = c .before .before .before .before .before .before .before .before .before .before .before .before .before .before .before .before .below in
-    let a = c .before .before .before .before .before .before .before .before .before .before .before .before .before .before .before .before .before .before .before .before .before .before .before .before .before .before .args in (
+    let a = c .before .before .before .before .before .before .before .before .before .before .before .before .before .before .before .before .before .before .before .before .before .before .before .before .before .before .before .args in (
       l .ensures .0,
       search needs,
       search needs,

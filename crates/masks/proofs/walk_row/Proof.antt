@@ -1,20 +1,30 @@
--- `masks::walk_row` meets its contract. The loop's invariant: the nodes that the row names are those of the mask, and what is left to the walk.
+-- `masks::walk_row` meets its contract. The invariant of both loops: the nodes that the row names are those of the mask, and what is left to
+-- the walk; of the inner one also that no node from b on is passed by the id.
 -- Assumes nothing.
 use borrow.Author.Needs.{needs}
 use native.Mathlib.Omega.{arith}
 use Prim.Native.Nat.{ℕ, _≤_, _<_, _+_, _-_, _*_, _^_}
 use mathlib.Core.Path.{_≡_, refl, sym, ap, _∙_}
 use mathlib.Core.List.{List}
-use mathlib.Core.Logic.{_⊎_, inl, inr, ⊎-elim}
+use mathlib.Core.Logic.{inl}
 use lib.ListN.{length, take, drop, getD}
-use Rattle.sets.specs.ModelBits.{withOf}
+use lib.Arith.{lt-of-le-ne}
+use lib.Pow.{pow-mono}
 use Rattle.cluster.specs.Terms.{rowCells, idsIn}
 use Rattle.cluster.specs.declared.Node.{Node}
 use Rattle.masks.specs.ModelMasks.{idCells, named}
 use Rattle.masks.proofs.Where.{id-cell}
-use Rattle.masks.proofs.Named.{left, left-all, left-end, left-past, left-zero, left-skip, left-node, node-done, walked}
+use Rattle.masks.proofs.Named.{left, left-all, left-end, left-past, left-zero, left-skip, left-node, node-done, passed, walked}
 use Rattle.masks.proofs.walk_row.Statement.{statement}
 use Rattle.masks.proofs.walk_row.Tie as tie
+
+abbrev Inv-loop2 : tie.InvT-loop2
+Inv-loop2 ids n cells from to mask₀ b₀ i id mask b =
+    (b ≤ n) × (mask < 2 ^ b) × (b < n → id ≤ getD ids b 0)
+    × ((ns : List Node) → n ≡ length ns → ids ≡ idCells ns → named ns (idsIn (take rowCells (drop from cells))) ≡ mask + 2 ^ b * left ns b cells to i)
+
+abbrev μ-loop2 : tie.MeasureT-loop2
+μ-loop2 ids n cells from to mask₀ b₀ i id mask b = n - b
 
 abbrev Inv-loop : tie.InvT-loop
 Inv-loop ids n cells from to mask₀ b₀ i₀ mask b i =
@@ -22,12 +32,12 @@ Inv-loop ids n cells from to mask₀ b₀ i₀ mask b i =
     × ((ns : List Node) → n ≡ length ns → ids ≡ idCells ns → named ns (idsIn (take rowCells (drop from cells))) ≡ mask + 2 ^ b * left ns b cells to i)
 
 abbrev μ-loop : tie.MeasureT-loop
-μ-loop ids n cells from to mask₀ b₀ i₀ mask b i = (n - b) + (to - i)
+μ-loop ids n cells from to mask₀ b₀ i₀ mask b i = to - i
 
-add-to : tie.Need-add-to Inv-loop μ-loop
+add-to : tie.Need-add-to Inv-loop2 μ-loop2 Inv-loop μ-loop
 add-to c = search needs
 
-loop-holds : tie.Need-loop-holds Inv-loop μ-loop
+loop-holds : tie.Need-loop-holds Inv-loop2 μ-loop2 Inv-loop μ-loop
 loop-holds c = (
   search needs,
   search needs,
@@ -36,106 +46,135 @@ loop-holds c = (
   λ ns m e. left-all ns (c .before .before .args .cells .now) (c .before .before .args .from) rowCells,
 )
 
-returns : tie.Need-returns Inv-loop μ-loop
-returns c =
-    let k = c .before .before in
-    λ ns m e. walked _ _ (k .loop .b) _ (k .loop .inv .4 ns m e) (left-end ns (k .loop .b) _ _ _ (c .if1 .taken))
-
-mul-id : tie.Need-mul-id Inv-loop μ-loop
+mul-id : tie.Need-mul-id Inv-loop2 μ-loop2 Inv-loop μ-loop
 mul-id c = search needs
 
-shared-slice-read-id : tie.Need-shared-slice-read-id Inv-loop μ-loop
+shared-slice-read-id : tie.Need-shared-slice-read-id Inv-loop2 μ-loop2 Inv-loop μ-loop
 shared-slice-read-id c = search needs
 
-returns-2 : tie.Need-returns-2 Inv-loop μ-loop
-returns-2 c =
-    let k = c .before .before .before .before in
+returns : tie.Need-returns Inv-loop2 μ-loop2 Inv-loop μ-loop
+returns c =
+    let k = c .before .before .before in
     let a = k .before .before .before .args in
     λ ns m e. walked _ _ (k .loop .b) _ (k .loop .inv .4 ns m e)
-    (left-zero ns (k .loop .b) (a .cells .now) (a .from + rowCells) (k .loop .i) (search needs) (search needs) (c .if2 .taken))
+    (left-zero ns (k .loop .b) (a .cells .now) (a .from + rowCells) (k .loop .i) (search needs) (search needs) (c .if1 .taken))
 
-mul-node : tie.Need-mul-node Inv-loop μ-loop
-mul-node c = search needs
+seek-requires : tie.Need-seek-requires Inv-loop2 μ-loop2 Inv-loop μ-loop
+seek-requires c κs = search needs
 
-shared-slice-read-node : tie.Need-shared-slice-read-node Inv-loop μ-loop
-shared-slice-read-node c = search needs
-
-add-i : tie.Need-add-i Inv-loop μ-loop
-add-i c = search needs
-
-loop-less : tie.Need-loop-less Inv-loop μ-loop
-loop-less c = search needs
-
-loop-again : tie.Need-loop-again Inv-loop μ-loop
-loop-again c =
-    let k = c .before .before .before .before .before .before in
-    let a = k .before .before .before .args in (
+loop2-holds : tie.Need-loop2-holds Inv-loop2 μ-loop2 Inv-loop μ-loop
+loop2-holds c =
+    let k = c .before .before .before .before in
+    let a = k .before .before .before .args in
+    let s = c .seek .ensures in (
       search needs,
-      search needs,
-      search needs,
-      search needs,
-      λ ns m e. k .loop .inv .4 ns m e
-          ∙ ap (λ (n : ℕ). k .loop .mask + 2 ^ (k .loop .b) * n)
-          (left-skip ns (k .loop .b) (a .cells .now) (a .from + rowCells) (k .loop .i) (search needs) (search needs)
-          _ (omega arith) (sym (id-cell ns (a .ids .now) (k .loop .b) (omega arith) e (omega arith))) (c .before .before .if2 .left) (c .if3 .taken)),
+      omega (arith, pow-mono {i = k .loop .b} {j = c .seek .result} (s .0)),
+      s .3,
+      λ ns m e. passed ns (a .ids .now) (a .cells .now) (a .from + rowCells) (k .loop .i) _ (k .loop .mask) (search needs) (search needs) (c .before .if1 .left)
+          (omega arith) e (c .seek .result - k .loop .b) (k .loop .b) (c .seek .result) (omega arith) (omega arith) (s .2) (k .loop .inv .3) (k .loop .inv .4 ns m e),
     )
 
-cast-with : tie.Need-cast-with Inv-loop μ-loop
+returns-2 : tie.Need-returns-2 Inv-loop2 μ-loop2 Inv-loop μ-loop
+returns-2 c =
+    let q = c .before in
+    λ ns m e. walked _ _ (q .loop2 .b) _ (q .loop2 .inv .3 ns m e) (left-past ns (q .loop2 .b) _ _ _ (omega arith))
+
+mul-if3 : tie.Need-mul-if3 Inv-loop2 μ-loop2 Inv-loop μ-loop
+mul-if3 c = search needs
+
+shared-slice-read-if3 : tie.Need-shared-slice-read-if3 Inv-loop2 μ-loop2 Inv-loop μ-loop
+shared-slice-read-if3 c = search needs
+
+cast-with : tie.Need-cast-with Inv-loop2 μ-loop2 Inv-loop μ-loop
 cast-with c = search needs
 
-with-requires : tie.Need-with-requires Inv-loop μ-loop
+with-requires : tie.Need-with-requires Inv-loop2 μ-loop2 Inv-loop μ-loop
 with-requires c κs = search needs
 
-add-b : tie.Need-add-b Inv-loop μ-loop
-add-b c = search needs
+add-seek : tie.Need-add-seek Inv-loop2 μ-loop2 Inv-loop μ-loop
+add-seek c = search needs
 
-loop-less-2 : tie.Need-loop-less-2 Inv-loop μ-loop
-loop-less-2 c = search needs
+seek-requires-2 : tie.Need-seek-requires-2 Inv-loop2 μ-loop2 Inv-loop μ-loop
+seek-requires-2 c κs = search needs
 
-loop-again-2 : tie.Need-loop-again-2 Inv-loop μ-loop
-loop-again-2 c =
-    let k = c .before .before .before .before .before .before .before in
+loop2-less : tie.Need-loop2-less Inv-loop2 μ-loop2 Inv-loop μ-loop
+loop2-less c = search needs
+
+loop2-again : tie.Need-loop2-again Inv-loop2 μ-loop2 Inv-loop μ-loop
+loop2-again c =
+    let q = c .before .before .before .before .before in
+    let k = q .before .before .before .before .before in
     let a = k .before .before .before .args in
-    let came : ((getD (a .cells .now) (k .loop .i) 0 ≡ getD (a .ids .now) (k .loop .b) 0) × (c .if4 .mask ≡ withOf (k .loop .mask) (k .loop .b)))
-    ⊎ ((getD (a .cells .now) (k .loop .i) 0 ≡ getD (a .ids .now) (k .loop .b) 0 → ⊥) × (c .if4 .mask ≡ k .loop .mask)) =
-    ⊎-elim (λ u. inl (u .0 .taken, u .2 ∙ u .1 .ensures)) (λ u. inr (u .0 .left, u .1)) (c .if4 .came) in (
+    let s = c .seek2 .ensures in
+    let id = getD (a .cells .now) (k .loop .i) 0 in
+    let v = getD (a .ids .now) (q .loop2 .b) 0 in
+    let same : id ≡ v = omega (arith, c .before .before .if3 .left) in
+    let bound = node-done _ (q .loop2 .mask) (q .loop2 .b) id v 0 (c .before .with .result) (omega arith) (q .loop2 .inv .1) refl (inl (same, c .before .with .ensures)) .0 in (
       search needs,
-      search needs,
-      search needs,
-      node-done _ (k .loop .mask) (k .loop .b) _ _ 0 (c .if4 .mask) (omega arith) (k .loop .inv .3) refl came .0,
-      λ ns m e. node-done _ (k .loop .mask) (k .loop .b) _ _ _ (c .if4 .mask) (omega arith) (k .loop .inv .3)
-          (k .loop .inv .4 ns m e
-          ∙ ap (λ (n : ℕ). k .loop .mask + 2 ^ (k .loop .b) * n)
-          (left-node ns (k .loop .b) (a .cells .now) (a .from + rowCells) (k .loop .i) (search needs) (search needs) (getD (a .ids .now) (k .loop .b) 0)
-          (omega arith) (sym (id-cell ns (a .ids .now) (k .loop .b) (omega arith) e (omega arith))) (c .before .before .before .if2 .left) (c .before .if3 .left)))
-          came .1,
+      omega (arith, pow-mono {i = q .loop2 .b + 1} {j = c .seek2 .result} (s .0)),
+      s .3,
+      λ ns m e. passed ns (a .ids .now) (a .cells .now) (a .from + rowCells) (k .loop .i) _ (c .before .with .result) (omega arith) (omega arith) (q .before .before .if1 .left)
+          (omega arith) e (c .seek2 .result - (q .loop2 .b + 1)) (q .loop2 .b + 1) (c .seek2 .result) (omega arith) (omega arith) (s .2) bound
+          (node-done _ (q .loop2 .mask) (q .loop2 .b) id v _ (c .before .with .result) (omega arith) (q .loop2 .inv .1)
+          (q .loop2 .inv .3 ns m e
+          ∙ ap (λ (n : ℕ). q .loop2 .mask + 2 ^ (q .loop2 .b) * n)
+          (left-node ns (q .loop2 .b) (a .cells .now) (a .from + rowCells) (k .loop .i) (omega arith) (omega arith) v (omega arith)
+          (sym (id-cell ns (a .ids .now) (q .loop2 .b) (omega arith) e (omega arith))) (q .before .before .if1 .left) (omega arith)))
+          (inl (same, c .before .with .ensures)) .1),
     )
 
-returns-3 : tie.Need-returns-3 Inv-loop μ-loop
+add-i : tie.Need-add-i Inv-loop2 μ-loop2 Inv-loop μ-loop
+add-i c = search needs
+
+loop-less : tie.Need-loop-less Inv-loop2 μ-loop2 Inv-loop μ-loop
+loop-less c = search needs
+
+loop-again : tie.Need-loop-again Inv-loop2 μ-loop2 Inv-loop μ-loop
+loop-again c =
+    let q = c .before .before .before in
+    let k = q .before .before .before .before .before in
+    let a = k .before .before .before .args in
+    let above : getD (a .cells .now) (k .loop .i) 0 < getD (a .ids .now) (q .loop2 .b) 0 = lt-of-le-ne (q .loop2 .inv .2 (omega arith)) (λ w. c .if3 .taken (sym w)) in (
+      search needs,
+      search needs,
+      search needs,
+      search needs,
+      λ ns m e. q .loop2 .inv .3 ns m e
+          ∙ ap (λ (n : ℕ). q .loop2 .mask + 2 ^ (q .loop2 .b) * n)
+          (left-skip ns (q .loop2 .b) (a .cells .now) (a .from + rowCells) (k .loop .i) (search needs) (search needs)
+          _ (omega arith) (sym (id-cell ns (a .ids .now) (q .loop2 .b) (omega arith) e (omega arith))) (q .before .before .if1 .left) above),
+    )
+
+returns-3 : tie.Need-returns-3 Inv-loop2 μ-loop2 Inv-loop μ-loop
 returns-3 c =
     let k = c .before in
-    λ ns m e. walked _ _ (k .loop .b) _ (k .loop .inv .4 ns m e) (left-past ns (k .loop .b) _ _ _ (omega arith))
+    λ ns m e. walked _ _ (k .loop .b) _ (k .loop .inv .4 ns m e) (left-end ns (k .loop .b) _ _ _ (omega arith))
 
 pub walk-row-spec : {M : Type 1} → statement M
 walk-row-spec =
     tie.close
     (tie.spec
+    Inv-loop2
+    μ-loop2
     Inv-loop
     μ-loop
     add-to
     loop-holds
-    returns
     mul-id
     shared-slice-read-id
+    returns
+    seek-requires
+    loop2-holds
     returns-2
-    mul-node
-    shared-slice-read-node
+    mul-if3
+    shared-slice-read-if3
+    cast-with
+    with-requires
+    add-seek
+    seek-requires-2
+    loop2-less
+    loop2-again
     add-i
     loop-less
     loop-again
-    cast-with
-    with-requires
-    add-b
-    loop-less-2
-    loop-again-2
     returns-3)

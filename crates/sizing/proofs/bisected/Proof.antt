@@ -16,16 +16,19 @@ use Rattle.sizing.proofs.bisected.Statement.{statement}
 use Rattle.sizing.proofs.bisected.Tie as tie
 
 abbrev Inv-loop : tie.InvT-loop
-Inv-loop c zones size₀ i₀ size i = (i ≤ sizeBits) × (size + 2 ^ i ≤ 2 ^ sizeBits) × (sizeOf (topology c) ≡ bisectFrom i (passing (topology c)) size)
+Inv-loop c zones most size₀ i₀ size i = (i ≤ sizeBits) × (size + 2 ^ i ≤ 2 ^ sizeBits) × (sizeOf (topology c) ≡ bisectFrom i (passing (topology c)) size)
 
 abbrev μ-loop : tie.MeasureT-loop
-μ-loop c zones size₀ i₀ size i = i
+μ-loop c zones most size₀ i₀ size i = i
 
 zones-requires : tie.Need-zones-requires Inv-loop μ-loop
 zones-requires c κs = search needs
 
+greatest-requires : tie.Need-greatest-requires Inv-loop μ-loop
+greatest-requires c κs = search needs
+
 loop-holds : tie.Need-loop-holds Inv-loop μ-loop
-loop-holds c = (search needs, search needs, size-begins (topology (c .before .args .c)))
+loop-holds c = (search needs, search needs, size-begins (topology (c .before .before .args .c)))
 
 sub-i : tie.Need-sub-i Inv-loop μ-loop
 sub-i c = search needs
@@ -42,7 +45,7 @@ slice-aggregate-passes : tie.Need-slice-aggregate-passes Inv-loop μ-loop
 slice-aggregate-passes c = search needs
 
 passes-requires : tie.Need-passes-requires Inv-loop μ-loop
-passes-requires c κs = (c .before .before .before .before .pre, c .before .before .before .zones .ensures)
+passes-requires c κs = let g = c .before .before .before in (g .before .before .pre, g .before .zones .ensures, g .greatest .ensures)
 
 loop-less : tie.Need-loop-less Inv-loop μ-loop
 loop-less c = search needs
@@ -50,7 +53,7 @@ loop-less c = search needs
 loop-again : tie.Need-loop-again Inv-loop μ-loop
 loop-again c =
     let k = c .before .before .before .before .loop in
-    let t = topology (c .before .before .before .before .before .before .args .c) in
+    let t = topology (c .before .before .before .before .before .before .before .args .c) in
     let w = word-one (k .i - 1) (omega arith) in (
       search needs,
       omega (arith, w, power-half (k .i) (omega arith)),
@@ -63,7 +66,7 @@ loop-less-2 c = search needs
 loop-again-2 : tie.Need-loop-again-2 Inv-loop μ-loop
 loop-again-2 c =
     let k = c .before .before .before .before .loop in
-    let t = topology (c .before .before .before .before .before .before .args .c) in
+    let t = topology (c .before .before .before .before .before .before .before .args .c) in
     let w = word-one (k .i - 1) (omega arith) in (
       search needs,
       omega (arith, power-half (k .i) (omega arith)),
@@ -75,7 +78,7 @@ unfolding bisectFrom
 returns c =
     let k = c .before .loop in
     let e : k .i ≡ 0 = omega arith in
-    sym (k .inv .2 ∙ ap (λ (x : ℕ). bisectFrom x (passing (topology (c .before .before .before .args .c))) (k .size)) e)
+    sym (k .inv .2 ∙ ap (λ (x : ℕ). bisectFrom x (passing (topology (c .before .before .before .before .args .c))) (k .size)) e)
 
 pub bisected-spec : {M : Type 1} → statement M
 bisected-spec =
@@ -84,6 +87,7 @@ bisected-spec =
     Inv-loop
     μ-loop
     zones-requires
+    greatest-requires
     loop-holds
     sub-i
     shl-larger

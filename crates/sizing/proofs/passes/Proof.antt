@@ -8,9 +8,15 @@ use Rattle.sizing.proofs.Reading.{caps-in}
 use Rattle.cluster.specs.Terms.{topology}
 use Rattle.cluster.specs.TermsReading.{Accepted}
 use Rattle.cluster.proofs.Accepting.{accepted}
-use Rattle.sizing.proofs.Arrays.{partitions-known, zones-long, zones-most, caps-long, caps-most, arrays-fit}
+use Rattle.sizing.proofs.Arrays.{partitions-known, zones-long, zones-most, caps-long, caps-most, arrays-fit, none-above}
 use Rattle.sizing.proofs.passes.Statement.{statement}
 use Rattle.sizing.proofs.passes.Tie as tie
+
+returns : tie.Need-returns
+returns c =
+    let s = c .before .before in
+    let t = topology (s .args .c) in
+    none-above t (s .args .most) (s .args .size) (accepted (s .args .c) (s .pre .0)) (s .pre .2) (c .if1 .taken)
 
 used-requires : tie.Need-used-requires
 used-requires c κs = search needs
@@ -28,12 +34,12 @@ cast-fit : tie.Need-cast-fit
 cast-fit c = search needs
 
 -- The caps are those of the cluster.
-caps-told : (c : tie.After-caps) → c .caps .result ≡ capCells (topology (c .before .before .before .args .c)) (c .before .before .before .args .size)
-caps-told c = let s = c .before .before .before in c .caps .ensures .0 ∙ caps-in (s .args .c) (s .args .size) (accepted (s .args .c) (s .pre .0) .bits)
+caps-told : (c : tie.After-caps) → c .caps .result ≡ capCells (topology (c .before .before .before .before .args .c)) (c .before .before .before .before .args .size)
+caps-told c = let s = c .before .before .before .before in c .caps .ensures .0 ∙ caps-in (s .args .c) (s .args .size) (accepted (s .args .c) (s .pre .0) .bits)
 
 fit-requires : tie.Need-fit-requires
 fit-requires c κs =
-    let s = c .before .before .before .before .before in
+    let s = c .before .before .before .before .before .before in
     let t = topology (s .args .c) in
     let n = c .before .before .before .used in
     let k = c .before .before in
@@ -49,9 +55,9 @@ fit-requires c κs =
       λ b l. omega (arith, p, caps-most t (a .few) (s .args .size) (k .caps .result) (caps-told k) b (omega (arith, n .ensures))),
     )
 
-returns : tie.Need-returns
-returns c =
-    let s = c .before .before .before .before .before .before in
+returns-2 : tie.Need-returns-2
+returns-2 c =
+    let s = c .before .before .before .before .before .before .before in
     let t = topology (s .args .c) in
     let n = c .before .before .before .before .used in
     let k = c .before .before .before in
@@ -64,10 +70,11 @@ pub passes-spec : {M : Type 1} → statement M
 passes-spec =
     tie.close
     (tie.spec
+    returns
     used-requires
     caps-requires
     slice-aggregate-fit
     partitions-requires
     cast-fit
     fit-requires
-    returns)
+    returns-2)

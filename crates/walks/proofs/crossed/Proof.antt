@@ -15,7 +15,7 @@ cast-p c = search needs
 
 returns : tie.Need-returns
 returns c = let k = c .before in
-    let a = k .before .before .before .before .before .args in
+    let a = k .before .before .before .before .before .before .args in
     let ok = okOf (a .rows .now) (a .mates .now) (a .all) (a .z) in
     cross-store (a .partitions) ok (a .y .now) (a .q .now) (a .i) (a .j) (k .cell .result) (k .cell .ensures) (c .if1 .taken)
 
@@ -25,7 +25,7 @@ cell-requires-2 c κs = search needs
 returns-2 : tie.Need-returns-2
 returns-2 c = let h = c .before in
     let k = h .before .before in
-    let a = k .before .before .before .before .before .args in
+    let a = k .before .before .before .before .before .before .args in
     let ok = okOf (a .rows .now) (a .mates .now) (a .all) (a .z) in
     cross-apart (a .partitions) ok (a .y .now) (a .q .now) (a .i) (a .j) (k .cell .result) (k .cell .ensures) (h .cell2 .result) (h .cell2 .ensures)
     (h .before .if1 .left) (λ e. omega arith)
@@ -46,7 +46,7 @@ returns-3 : tie.Need-returns-3
 returns-3 c = let t = c .before in
     let h = t .before .before .before .before in
     let k = h .before .before in
-    let a = k .before .before .before .before .before .args in
+    let a = k .before .before .before .before .before .before .args in
     let ok = okOf (a .rows .now) (a .mates .now) (a .all) (a .z) in
     cross-first (a .partitions) ok (a .y .now) (a .q .now) (a .i) (a .j) (k .cell .result) (k .cell .ensures) (h .cell2 .result)
     (t .before .before .cell3 .result) (t .before .cell4 .result) (h .cell2 .ensures) (t .before .before .cell3 .ensures) (t .before .cell4 .ensures)
@@ -68,7 +68,7 @@ returns-4 : tie.Need-returns-4
 returns-4 c = let t = c .before .before .before .before in
     let h = t .before .before .before .before in
     let k = h .before .before in
-    let a = k .before .before .before .before .before .args in
+    let a = k .before .before .before .before .before .before .args in
     let ok = okOf (a .rows .now) (a .mates .now) (a .all) (a .z) in
     cross-both (a .partitions) ok (a .y .now) (a .q .now) (a .i) (a .j) (k .cell .result) (k .cell .ensures) (h .cell2 .result)
     (t .before .before .cell3 .result) (t .before .cell4 .result) (h .cell2 .ensures) (t .before .before .cell3 .ensures) (t .before .cell4 .ensures)

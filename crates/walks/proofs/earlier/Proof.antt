@@ -15,16 +15,16 @@ use Rattle.walks.proofs.earlier.Statement.{statement}
 use Rattle.walks.proofs.earlier.Tie as tie
 
 abbrev Inv-loop : tie.InvT-loop
-Inv-loop y q m rows partitions mates all z i₀ i = (i ≤ m)
+Inv-loop y q m rows tight partitions mates all z i₀ i = (i ≤ m)
     × (firstCrossed partitions (okOf rows mates all z) (walkIn m y q)
     ≡ firstFrom (λ k. ltb (partner partitions (okOf rows mates all z) (walkIn m y q) k) m) (m - i) i)
 
 abbrev μ-loop : tie.MeasureT-loop
-μ-loop y q m rows partitions mates all z i₀ i = m - i
+μ-loop y q m rows tight partitions mates all z i₀ i = m - i
 
 loop-holds : tie.Need-loop-holds Inv-loop μ-loop
 unfolding firstCrossed
-loop-holds c = let a = c .before .before .before .before .args in
+loop-holds c = let a = c .before .before .before .before .before .args in
     let test : ℕ → Bool =
     λ n. ltb (partner (a .partitions) (okOf (a .rows .now) (a .mates .now) (a .all) (a .z)) (walkIn (a .m) (a .y .now) (a .q .now)) n) (a .m) in
     (omega arith, ap (λ (n : ℕ). firstFrom test n 0) (sym (sub-zero (a .m))))
@@ -34,7 +34,7 @@ later-requires c κs = search needs
 
 returns : tie.Need-returns Inv-loop μ-loop
 returns c = let k = c .before .before .before in
-    let a = c .before .before .before .before .before .before .before .before .args in
+    let a = c .before .before .before .before .before .before .before .before .before .args in
     let test : ℕ → Bool =
     λ n. ltb (partner (a .partitions) (okOf (a .rows .now) (a .mates .now) (a .all) (a .z)) (walkIn (a .m) (a .y .now) (a .q .now)) n) (a .m) in
     sym
@@ -49,7 +49,7 @@ loop-less c = omega arith
 
 loop-again : tie.Need-loop-again Inv-loop μ-loop
 loop-again c = let k = c .before .before .before in
-    let a = c .before .before .before .before .before .before .before .before .args in
+    let a = c .before .before .before .before .before .before .before .before .before .args in
     let test : ℕ → Bool =
     λ n. ltb (partner (a .partitions) (okOf (a .rows .now) (a .mates .now) (a .all) (a .z)) (walkIn (a .m) (a .y .now) (a .q .now)) n) (a .m) in (
       omega arith,
@@ -59,7 +59,7 @@ loop-again c = let k = c .before .before .before in
 
 returns-2 : tie.Need-returns-2 Inv-loop μ-loop
 returns-2 c = let k = c .before in
-    let a = c .before .before .before .before .before .before .args in
+    let a = c .before .before .before .before .before .before .before .args in
     let test : ℕ → Bool =
     λ n. ltb (partner (a .partitions) (okOf (a .rows .now) (a .mates .now) (a .all) (a .z)) (walkIn (a .m) (a .y .now) (a .q .now)) n) (a .m) in
     sym (k .loop .inv .1 ∙ first-end test (a .m) (k .loop .i) (omega arith))

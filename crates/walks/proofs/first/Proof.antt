@@ -1,32 +1,32 @@
 -- `walks::first` meets its contract. No partition before p suits. Assumes nothing.
-use Prim.Native.Nat.{_-_, _*_, _/_, _%_, _≤_}
-use mathlib.Core.Path.{_≡_, ap, _∙_}
+use Prim.Native.Nat.{ℕ, _-_, _*_, _/_, _%_, _≤_}
+use mathlib.Core.Path.{_≡_, sym, ap, _∙_}
 use native.Mathlib.Omega.{arith}
 use lib.ListN.{length}
-use Rattle.sets.specs.ModelBits.{maskBits, differenceOf, belowOf}
+use Rattle.sets.specs.ModelBits.{maskBits, bit, differenceOf, belowOf}
 use Rattle.walks.specs.ModelWalks.{siftedOf}
 use Rattle.holders.specs.ModelHolders.{holderCells}
-use Rattle.walks.proofs.Finding.{NoneTo, no-source, no-target, first-none, word-none, word-found}
+use Rattle.walks.proofs.Finding.{NoneTo, no-source, no-target, first-none, inside, word-none, word-found}
 use borrow.Author.Needs.{needs}
 use Rattle.walks.proofs.first.Statement.{statement}
 use Rattle.walks.proofs.first.Tie as tie
 
 abbrev Inv-loop : tie.InvT-loop
-Inv-loop rows held former had partitions mates all z w u v start p₀ p =
+Inv-loop rows tight held former had partitions mates all z w u v start p₀ p =
     (start ≤ p) × (length held ≡ holderCells) × (length had ≡ holderCells) × NoneTo rows former mates all z w u v partitions start p
 
 abbrev μ-loop : tie.MeasureT-loop
-μ-loop rows held former had partitions mates all z w u v start p₀ p = partitions - p
+μ-loop rows tight held former had partitions mates all z w u v start p₀ p = partitions - p
 
 returns : tie.Need-returns Inv-loop μ-loop
-returns c = let a = c .before .before .before .before .before .before .args in (
+returns c = let a = c .before .before .before .before .before .before .before .args in (
   first-none (a .rows .now) (a .former .now) (a .mates .now) (a .all) (a .z) (a .w) (a .u) (a .v) (a .partitions) (a .start) (a .partitions) (omega arith) (omega arith)
-      (λ q f g d. no-source (a .rows .now) (a .former .now) (a .mates .now) (a .all) (a .z) (a .w) (a .u) (a .v) (λ p. omega (arith, c .before .before .before .before .before .shared-slice-known .given p)) (omega arith) q),
+      (λ q f g d. no-source (a .rows .now) (a .former .now) (a .mates .now) (a .all) (a .z) (a .w) (a .u) (a .v) (λ p. omega (arith, c .before .before .before .before .before .before .shared-slice-known .given p)) (omega arith) q),
   omega arith,
 )
 
 returns-2 : tie.Need-returns-2 Inv-loop μ-loop
-returns-2 c = let a = c .before .before .before .before .before .before .before .args in (
+returns-2 c = let a = c .before .before .before .before .before .before .before .before .args in (
   first-none (a .rows .now) (a .former .now) (a .mates .now) (a .all) (a .z) (a .w) (a .u) (a .v) (a .partitions) (a .start) (a .partitions) (omega arith) (omega arith) (λ q f g d. no-target (a .rows .now) (a .former .now) (a .mates .now) (a .all) (a .z) (a .w) (a .u) (a .v) (omega arith) q),
   omega arith,
 )
@@ -86,15 +86,24 @@ mul-sift : tie.Need-mul-sift Inv-loop μ-loop
 mul-sift c = search needs
 
 sift-requires : tie.Need-sift-requires Inv-loop μ-loop
-sift-requires c κs = search needs
+sift-requires c κs =
+    let k = c .before .before .before .before .before .before .before .before in
+    let s = k .before .before .before .before .before .before .before .before .before in
+    let a = s .args in
+    let e = c .difference .ensures ∙ ap (differenceOf (c .before .before .candidates .result)) (c .before .below .ensures) in (
+      omega arith,
+      λ j l b. inside (a .rows .now) (a .former .now) (a .mates .now) (a .all) (a .z) (a .w) (a .u) (a .v) (a .partitions) (a .held .now) (a .had .now) (omega arith) (search needs) (search needs) (omega arith) (omega arith) (k .loop .p) (omega arith)
+          (c .before .before .candidates .result) (c .before .before .candidates .ensures) j l (sym (ap (λ (x : ℕ). bit x j) e) ∙ b),
+      s .pre .3,
+    )
 
 -- What is found is sifted from the candidates from p on.
 found : (c : tie.After-sift Inv-loop μ-loop)
-    → let k = c .before .before .before .before .before .before .before .before .before in let a = k .before .before .before .before .before .before .before .before .args in
+    → let k = c .before .before .before .before .before .before .before .before .before in let a = k .before .before .before .before .before .before .before .before .before .args in
     c .sift .result ≡ siftedOf (a .rows .now) (a .mates .now) (a .all) (a .z) (a .u) (a .v) (maskBits * (k .loop .p / maskBits))
     (differenceOf (c .before .before .before .candidates .result) (belowOf (k .loop .p % maskBits)))
 found c = let k = c .before .before .before .before .before .before .before .before .before in
-    let a = k .before .before .before .before .before .before .before .before .args in
+    let a = k .before .before .before .before .before .before .before .before .before .args in
     c .sift .ensures .0
     ∙ ap (siftedOf (a .rows .now) (a .mates .now) (a .all) (a .z) (a .u) (a .v) (maskBits * (k .loop .p / maskBits)))
     (c .before .difference .ensures ∙ ap (differenceOf (c .before .before .before .candidates .result)) (c .before .before .below .ensures))
@@ -110,7 +119,7 @@ add-result c = search needs
 
 returns-3 : tie.Need-returns-3 Inv-loop μ-loop
 returns-3 c = let k = c .before .before .before .before .before .before .before .before .before .before in
-    let a = k .before .before .before .before .before .before .before .before .args in
+    let a = k .before .before .before .before .before .before .before .before .before .args in
     let h =
     word-found (a .rows .now) (a .former .now) (a .mates .now) (a .all) (a .z) (a .w) (a .u) (a .v) (a .partitions) (a .held .now) (a .had .now) (omega arith) (search needs) (search needs) (omega arith) (omega arith) (k .loop .p) (omega arith)
     (c .before .before .before .before .candidates .result) (c .before .before .before .before .candidates .ensures) (c .before .sift .result) (found (c .before))
@@ -128,7 +137,7 @@ loop-less c = search needs
 
 loop-again : tie.Need-loop-again Inv-loop μ-loop
 loop-again c = let k = c .before .before .before .before .before .before .before .before .before .before in
-    let a = k .before .before .before .before .before .before .before .before .args in (
+    let a = k .before .before .before .before .before .before .before .before .before .args in (
       omega arith,
       search needs,
       search needs,
@@ -139,7 +148,7 @@ loop-again c = let k = c .before .before .before .before .before .before .before
 
 returns-4 : tie.Need-returns-4 Inv-loop μ-loop
 returns-4 c = let k = c .before in
-    let a = k .before .before .before .before .before .before .before .before .args in
+    let a = k .before .before .before .before .before .before .before .before .before .args in
     (first-none (a .rows .now) (a .former .now) (a .mates .now) (a .all) (a .z) (a .w) (a .u) (a .v) (a .partitions) (a .start) (k .loop .p) (omega arith) (omega arith) (k .loop .inv .3), omega arith)
 
 pub first-spec : {M : Type 1} → statement M

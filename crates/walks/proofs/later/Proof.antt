@@ -14,18 +14,18 @@ use Rattle.walks.proofs.later.Statement.{statement}
 use Rattle.walks.proofs.later.Tie as tie
 
 abbrev Inv-loop : tie.InvT-loop
-Inv-loop y q m i rows partitions mates all z j₀ j =
+Inv-loop y q m i rows tight partitions mates all z j₀ j =
     partner partitions (okOf rows mates all z) (walkIn m y q) i ≡ firstFrom (crosses partitions (okOf rows mates all z) (λ t. getD y t 0) (λ t. getD q t 0) i) (m - j) j
 
 abbrev μ-loop : tie.MeasureT-loop
-μ-loop y q m i rows partitions mates all z j₀ j = m - j
+μ-loop y q m i rows tight partitions mates all z j₀ j = m - j
 
 add-j : tie.Need-add-j Inv-loop μ-loop
 add-j c = omega arith
 
 loop-holds : tie.Need-loop-holds Inv-loop μ-loop
 unfolding partner
-loop-holds c = let a = c .before .before .before .before .args in
+loop-holds c = let a = c .before .before .before .before .before .args in
     let test : ℕ → Bool =
     crosses (a .partitions) (okOf (a .rows .now) (a .mates .now) (a .all) (a .z)) (λ t. getD (a .y .now) t 0) (λ t. getD (a .q .now) t 0) (a .i) in
     ap (λ (k : ℕ). firstFrom test (a .m - k) k) (sym (add-one (a .i)))
@@ -35,7 +35,7 @@ crossed-requires c κs = search needs
 
 returns : tie.Need-returns Inv-loop μ-loop
 returns c = let k = c .before .before .before in
-    let a = c .before .before .before .before .before .before .before .before .args in
+    let a = c .before .before .before .before .before .before .before .before .before .args in
     let test : ℕ → Bool =
     crosses (a .partitions) (okOf (a .rows .now) (a .mates .now) (a .all) (a .z)) (λ t. getD (a .y .now) t 0) (λ t. getD (a .q .now) t 0) (a .i) in
     sym (k .loop .inv ∙ first-hit test (a .m) (k .loop .j) (omega arith) (sym (c .before .crossed .ensures) ∙ c .if1 .taken))
@@ -48,14 +48,14 @@ loop-less c = omega arith
 
 loop-again : tie.Need-loop-again Inv-loop μ-loop
 loop-again c = let k = c .before .before .before in
-    let a = c .before .before .before .before .before .before .before .before .args in
+    let a = c .before .before .before .before .before .before .before .before .before .args in
     let test : ℕ → Bool =
     crosses (a .partitions) (okOf (a .rows .now) (a .mates .now) (a .all) (a .z)) (λ t. getD (a .y .now) t 0) (λ t. getD (a .q .now) t 0) (a .i) in
     k .loop .inv ∙ first-miss test (a .m) (k .loop .j) (omega arith) (sym (c .before .crossed .ensures) ∙ c .if1 .left)
 
 returns-2 : tie.Need-returns-2 Inv-loop μ-loop
 returns-2 c = let k = c .before in
-    let a = c .before .before .before .before .before .before .args in
+    let a = c .before .before .before .before .before .before .before .args in
     let test : ℕ → Bool =
     crosses (a .partitions) (okOf (a .rows .now) (a .mates .now) (a .all) (a .z)) (λ t. getD (a .y .now) t 0) (λ t. getD (a .q .now) t 0) (a .i) in
     sym (k .loop .inv ∙ first-end test (a .m) (k .loop .j) (omega arith))

@@ -14,7 +14,7 @@ room-requires : tie.Need-room-requires
 room-requires c κs = search needs
 
 returns : tie.Need-returns
-returns c = let a = c .before .before .before .before .before .before .before .before .args in (
+returns c = let a = c .before .before .before .before .before .before .before .before .before .args in (
   c .room .ensures
       ∙ sym (stands-store (a .rows .now) (a .former .now) (a .partitions) (a .mates .now) (a .all) (a .z) (a .caps .now) (a .q) (a .u) (a .v) (omega arith)),
   sym (renewed-store (a .rows .now) (a .former .now) (a .partitions) (a .mates .now) (a .all) (a .z) (a .q) (a .u) (a .v) (omega arith)),
@@ -31,7 +31,7 @@ first-requires : tie.Need-first-requires
 first-requires c κs = search needs
 
 returns-2 : tie.Need-returns-2
-returns-2 c = let a = c .before .before .before .before .before .before .before .before .before .args in
+returns-2 c = let a = c .before .before .before .before .before .before .before .before .before .before .args in
     let e : c .first .result ≡ nextFrom (a .rows .now) (a .former .now) (a .partitions) (a .mates .now) (a .all) (a .z) (a .q) (a .u) (a .v) =
     c .first .ensures .0
     ∙ ap (λ (w : ℕ). firstFrom (suitsAt (a .rows .now) (a .former .now) (a .mates .now) (a .all) (a .z) w (a .u) (a .v)) (a .partitions - a .q) (a .q))

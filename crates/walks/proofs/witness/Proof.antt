@@ -17,7 +17,7 @@ first-requires c κs = search needs
 
 returns : tie.Need-returns
 unfolding witnessOf
-returns c = let a = c .before .before .before .before .before .before .before .before .args in (
+returns c = let a = c .before .before .before .before .before .before .before .before .before .args in (
   c .first .ensures .0
       ∙ ap₂ (λ (w n : ℕ). firstFrom (suitsAt (a .rows .now) (a .former .now) (a .mates .now) (a .all) (a .z) w (a .u) (a .v)) n 0)
       (c .before .weight .ensures .0) (sub-zero (a .partitions)),

@@ -31,8 +31,8 @@ partitions-requires : tie.Need-partitions-requires
 partitions-requires c κs = search needs
 
 -- The number of partitions of a cluster without fault.
-rows : (c : tie.After-partitions) → c .partitions .result ≡ partitions (topology (c .before .before .before .args .c))
-rows c = let s = c .before .before .before in
+rows : (c : tie.After-partitions) → c .partitions .result ≡ partitions (topology (c .before .before .before .before .args .c))
+rows c = let s = c .before .before .before .before in
     c .partitions .ensures .0 ∙ partitions-in-range (s .args .c .bits) (accepted (s .args .c) (s .pre .0) .bits)
 
 deal-requires : tie.Need-deal-requires
@@ -54,27 +54,32 @@ slice-aggregate-run-2 : tie.Need-slice-aggregate-run-2
 slice-aggregate-run-2 c = search needs
 
 cast-run : tie.Need-cast-run
-cast-run c = let s = c .before .before .before .before .before .before .before .before .before .before .before .before .before in omega (arith, few-nodes (s .args .c) (s .pre .0))
+cast-run c = let s = c .before .before .before .before .before .before .before .before .before .before .before .before .before .before in omega (arith, few-nodes (s .args .c) (s .pre .0))
 
 run-requires : tie.Need-run-requires
-run-requires c κs = let s = c .before .before .before .before .before .before .before .before .before .before .before .before .before in
-    dealt-fits (s .args .c) (s .args .size) (s .args .rows .now) _ (s .pre .0) (s .pre .1) (c .before .before .before .before .before .before .before .before .deal .ensures) _ (rows (c .before .before .before .before .before .before .before .before .before .before))
+run-requires c κs =
+    let s = c .before .before .before .before .before .before .before .before .before .before .before .before .before .before .before in
+    let d = dealt-fits (s .args .c) (s .args .size) (s .args .rows .now) _ (s .pre .0) (s .pre .1) (c .before .before .before .before .before .before .before .before .before .deal .ensures) _ (rows (c .before .before .before .before .before .before .before .before .before .before .before)) in
+    (d .0, d .1, s .pre .2)
 
 same-length : tie.Need-same-length
 same-length c = search needs
 
+same-length-2 : tie.Need-same-length-2
+same-length-2 c = search needs
+
 returns : tie.Need-returns
 returns c =
-    let s = c .before .before .before .before .before .before .before .before .before .before .before .before .before .before .before .before in
-    let r = c .before .before .run .ensures in
+    let s = c .before .before .before .before .before .before .before .before .before .before .before .before .before .before .before .before .before .before .before .before in
+    let r = c .before .before .before .before .run .ensures in
     let q =
     run-is (s .args .c) (s .args .size) _ _ (s .args .before .now) (s .args .rows .now) _ _ _ _ (s .args .allowance) (s .pre .0)
-    (rows (c .before .before .before .before .before .before .before .before .before .before .before .before .before)) (used s) (s .pre .1) (c .before .before .before .before .before .before .before .before .before .before .before .deal .ensures) (c .before .before .before .before .before .before .before .before .zones .ensures)
-    (c .before .before .before .before .before .before .before .mates .ensures) (c .before .before .before .before .before .before .caps .ensures .0 ∙ caps-in (s .args .c) (s .args .size) (accepted (s .args .c) (s .pre .0) .bits)) in (
+    (rows (c .before .before .before .before .before .before .before .before .before .before .before .before .before .before .before .before)) (used s) (s .pre .1) (c .before .before .before .before .before .before .before .before .before .before .before .before .before .before .deal .ensures) (c .before .before .before .before .before .before .before .before .before .before .before .zones .ensures)
+    (c .before .before .before .before .before .before .before .before .before .before .mates .ensures) (c .before .before .before .before .before .before .before .before .before .caps .ensures .0 ∙ caps-in (s .args .c) (s .args .size) (accepted (s .args .c) (s .pre .0) .bits)) in (
       r .0 ∙ ap (λ (x : Ran State). x .state .rows) q,
       r .1 ∙ ap (λ (x : Ran State). x .finished) q,
       r .2 ∙ ap (λ (x : Ran State). x .steps) q,
-      c .before .before .before .before .before .before .caps .ensures .1,
+      c .before .before .before .before .before .before .before .before .before .caps .ensures .1,
     )
 
 pub improved-spec : {M : Type 1} → statement M
@@ -91,4 +96,5 @@ improved-spec =
     cast-run
     run-requires
     same-length
+    same-length-2
     returns)

@@ -16,8 +16,8 @@ partitions-requires : tie.Need-partitions-requires
 partitions-requires c κs = search needs
 
 -- The number of partitions of a cluster without fault.
-rows : (c : tie.After-partitions) → c .partitions .result ≡ partitions (topology (c .before .before .before .args .c))
-rows c = let s = c .before .before .before in
+rows : (c : tie.After-partitions) → c .partitions .result ≡ partitions (topology (c .before .before .before .before .args .c))
+rows c = let s = c .before .before .before .before in
     c .partitions .ensures .0 ∙ partitions-in-range (s .args .c .bits) (accepted (s .args .c) (s .pre .0) .bits)
 
 slice-aggregate-read-masks : tie.Need-slice-aggregate-read-masks
@@ -49,23 +49,26 @@ slice-aggregate-measured-2 c = search needs
 
 measured-requires : tie.Need-measured-requires
 measured-requires c κs =
-    let s = c .before .before .before .before .before .before .before .before .before .before .before .before .before .before .before .before .before in
+    let s = c .before .before .before .before .before .before .before .before .before .before .before .before .before .before .before .before .before .before .before .before .before in
     measurable (s .args .c) (s .args .former .now) (s .args .allowance) (s .args .size) _ _ _ (s .pre .0) (s .pre .2) (s .pre .3) (s .pre .4)
-    (rows (c .before .before .before .before .before .before .before .before .before .before .before .before .before .before)) (c .before .before .before .before .before .before .before .before .before .before .before .before .read-masks .ensures) (c .before .before .before .before .before .before .before .before .improved .ensures .0) (c .before .before .before .before .before .before .before .before .improved .ensures .3)
+    (rows (c .before .before .before .before .before .before .before .before .before .before .before .before .before .before .before .before .before)) (c .before .before .before .before .before .before .before .before .before .before .before .before .before .before .before .read-masks .ensures) (c .before .before .before .before .before .before .before .before .before .before .improved .ensures .0) (c .before .before .before .before .before .before .before .before .before .before .improved .ensures .3)
 
 same-length : tie.Need-same-length
 same-length c = search needs
 
+same-length-2 : tie.Need-same-length-2
+same-length-2 c = search needs
+
 returns : tie.Need-returns
 returns c =
-    let s = c .before .before .before .before .before .before .before .before .before .before .before .before .before .before .before .before .before .before in
-    let i = c .before .before .before .before .before .before .before .before .before .improved in (
+    let s = c .before .before .before .before .before .before .before .before .before .before .before .before .before .before .before .before .before .before .before .before .before .before in
+    let i = c .before .before .before .before .before .before .before .before .before .before .before .improved in (
       answer-is (s .args .c) (s .args .former .now) (s .args .allowance) (s .args .size) _ _ _ (s .pre .0) (s .pre .2) (s .pre .3) (s .pre .4)
-          (rows (c .before .before .before .before .before .before .before .before .before .before .before .before .before .before .before)) (c .before .before .before .before .before .before .before .before .before .before .before .before .before .read-masks .ensures) (c .before .before .before .before .before .before .before .before .before .improved .ensures .0) (c .before .before .before .before .before .before .before .before .before .improved .ensures .3)
+          (rows (c .before .before .before .before .before .before .before .before .before .before .before .before .before .before .before .before .before .before)) (c .before .before .before .before .before .before .before .before .before .before .before .before .before .before .before .before .read-masks .ensures) (c .before .before .before .before .before .before .before .before .before .before .before .improved .ensures .0) (c .before .before .before .before .before .before .before .before .before .before .before .improved .ensures .3)
           (c .measured .result) (c .measured .ensures) (i .result .finished) (i .ensures .1) (i .result .improvements) (i .ensures .2),
       c .before .before .before .before .before .write-cells .ensures
           ∙ cells-are (s .args .c) (s .args .former .now) (s .args .allowance) (s .args .size) _ _ _ (s .pre .0) (s .pre .2) (s .pre .3) (s .pre .4)
-          (rows (c .before .before .before .before .before .before .before .before .before .before .before .before .before .before .before)) (c .before .before .before .before .before .before .before .before .before .before .before .before .before .read-masks .ensures) (c .before .before .before .before .before .before .before .before .before .improved .ensures .0) (c .before .before .before .before .before .before .before .before .before .improved .ensures .3) (s .args .assignment .now) (s .pre .1),
+          (rows (c .before .before .before .before .before .before .before .before .before .before .before .before .before .before .before .before .before .before)) (c .before .before .before .before .before .before .before .before .before .before .before .before .before .before .before .before .read-masks .ensures) (c .before .before .before .before .before .before .before .before .before .before .before .improved .ensures .0) (c .before .before .before .before .before .before .before .before .before .before .before .improved .ensures .3) (s .args .assignment .now) (s .pre .1),
       i .ensures .3,
     )
 
@@ -85,4 +88,5 @@ settle-spec =
     slice-aggregate-measured-2
     measured-requires
     same-length
+    same-length-2
     returns)

@@ -9,7 +9,7 @@ use Rattle.sums.specs.ModelSums.{is}
 use Rattle.sums.proofs.Sum.{is-eq, is-ne}
 use Rattle.sets.specs.ModelBits.{maskOf}
 use Rattle.incidence.specs.ModelIncidence.{cell}
-use Rattle.tallies.proofs.Masks.{mask-here, mask-not-here}
+use Rattle.sets.proofs.Masks.{mask-here, mask-not-here}
 use Rattle.tallies.proofs.nodes.of_zone.Statement.{statement}
 use Rattle.tallies.proofs.nodes.of_zone.Tie as tie
 

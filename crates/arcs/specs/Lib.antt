@@ -1,0 +1,2 @@
+pub mod ModelMoves
+pub mod ModelGrowth
