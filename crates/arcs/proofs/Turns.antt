@@ -144,9 +144,6 @@ module _ (row F all : ℕ) (l₀ l₁ l₂ : List ℕ) (free low high new old : 
   part-old : (c : ℕ) → c < mostNodes → bit old c ≡ min (bit row c) (bit F c)
   part-old c l = ap (λ (x : ℕ). bit x c) eo ∙ bit-meet row F c l
 
-  pub parts-row : (c : ℕ) → c < mostNodes → bit new c + bit old c ≡ bit row c
-  parts-row c l = omega (arith, part-new c l, part-old c l, bit-le row c, bit-le F c)
-
   -- So each node of the row leads at the weights that the former row gives.
   parts-lead : (j b : ℕ) → j < arcCells → b < mostNodes
       → max (min (bit new (j % mostNodes)) (leads 0 low high j b)) (min (bit old (j % mostNodes)) (leads 1 low high j b))

@@ -16,7 +16,7 @@ use Rattle.exchange.specs.ModelUncross.{Right, improved}
 use Rattle.exchange.specs.ModelJoin.{ExchangeGraph, cycleWalk, improves, nextLayout, Heaviest, Settles}
 use Rattle.exchange.proofs.Circuit.{ends}
 use Rattle.exchange.proofs.Prices.{potential-best}
-use Rattle.exchange.proofs.Search.{Stands, outcome-stands, outcome-cycle}
+use Rattle.exchange.proofs.Search.{Stands, outcome-stands}
 use Rattle.exchange.proofs.Uncross.{improved-better}
 
 -- Where no pair weighs anything, there is no circuit: each arc costs C.
@@ -67,12 +67,6 @@ module _ (P N R Z C : ℕ) (zone cap : ℕ → ℕ) (g free S : ℕ → ℕ → 
           → Allowed P N R Z zone cap free S (q (y (suc i)) (y i)) (y (suc i)) (y i) × (cost P C g (q (y (suc i)) (y i)) (y (suc i)) (y i) ≡ G .W (y (suc i)) (y i))
       at i l =
           x .witness (y (suc i)) (y i) (omega (arith, c .nodes (suc i) l, x .nodes)) (omega (arith, c .nodes i (omega arith), x .nodes)) (c .arcs i l)
-
-  -- Where no pair weighs anything, the search never ends with a cycle.
-  pub no-gain : 1 ≤ N → ((p b : ℕ) → p < P → b < N → g p b ≡ 0) → (k v : ℕ) → outcome G ≡ Cycle k v → ⊥
-  no-gain some none k v e =
-      no-circuit P N R Z C zone cap g free S (cycleLength G k v) (back G k v) (λ i. q (back G k v (suc i)) (back G k v i)) none
-      (graph-circuit (cycleLength G k v) (back G k v) (outcome-cycle G k v (omega (arith, x .nodes)) e .cycle))
 
   module _ (ok : ℕ → ℕ → ℕ → Bool) (right : Right P N R Z zone free S ok) (some : 1 ≤ N) (zones : (b : ℕ) → b < N → zone b < N)
       (light : (p b : ℕ) → g p b ≤ C) (bits : (p b : ℕ) → free p b ≤ 1) (w : Within P N R Z zone cap S) where

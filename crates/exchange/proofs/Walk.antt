@@ -1,7 +1,7 @@
 -- Freeing a walk of crossed pairs, step by step, as a program runs it; it reads the entries of a walk up to its length only, so that a program may
 -- hold them in arrays.
 -- Assumes nothing.
-use Prim.Native.Nat.{ℕ, zero, suc, _+_, _-_, _*_, _≤_, _<_}
+use Prim.Native.Nat.{ℕ, zero, suc, _-_, _*_, _≤_, _<_}
 use mathlib.Core.Path.{_≡_, refl, ap, ap₂, _∙_, subst}
 use mathlib.Core.Bool.{Bool, true, false, cond}
 use mathlib.Core.Logic.{⊎-elim}
@@ -10,10 +10,10 @@ use lib.Dec.{ltb}
 use borrow.Author.Tests.{lt-ltb, le-ltb}
 use Rattle.sums.proofs.First.{first-cong}
 use Rattle.sums.specs.TermsSums.{sumTo}
-use Rattle.sums.specs.ModelSums.{is, firstFrom}
+use Rattle.sums.specs.ModelSums.{firstFrom}
 use Rattle.sums.proofs.Sum.{lt-or-ge, sum-cong}
-use Rattle.exchange.specs.ModelCircuit.{cost, turn}
-use Rattle.exchange.specs.ModelUncross.{Walk, Same, crosses, partner, firstCrossed, skip, wrap, part, inner, outer, walk-costs, split, uncross, improved}
+use Rattle.exchange.specs.ModelCircuit.{cost}
+use Rattle.exchange.specs.ModelUncross.{Walk, Same, crosses, partner, firstCrossed, skip, wrap, part, inner, outer, walk-costs, split, uncross}
 use Rattle.exchange.proofs.Uncross.{skip-le, wrap-low, wrap-end, first-pair}
 
 -- ---- the steps
@@ -54,13 +54,6 @@ sum-same {w} {u} f s =
     sum-cong (w .len) (λ i. f (w .partition i) (w .node (suc i)) (w .node i)) (λ i. f (u .partition i) (u .node (suc i)) (u .node i))
     (λ i l. cc (s .partitions i l, s .nodes (suc i) l, s .nodes i (omega arith)))
     ∙ ap (λ (m : ℕ). sumTo m (λ i. f (u .partition i) (u .node (suc i)) (u .node i))) (s .lens)
-
--- The turn.
-pub turn-same : {w u : Walk} → Same w u → (S : ℕ → ℕ → ℕ) (p x : ℕ)
-    → turn (w .len) (w .node) (w .partition) S p x ≡ turn (u .len) (u .node) (u .partition) S p x
-unfolding turn
-turn-same s S p x =
-    ap₂ (λ (a b : ℕ). S p x + a - b) (sum-same (λ q a b. is q p * is b x) s) (sum-same (λ q a b. is q p * is a x) s)
 
 module _ (P C : ℕ) (g : ℕ → ℕ → ℕ) (ok : ℕ → ℕ → ℕ → Bool) where
   crosses-same : {w u : Walk} → Same w u → (i j : ℕ) → i < j → j < w .len
@@ -133,10 +126,3 @@ module _ (P C : ℕ) (g : ℕ → ℕ → ℕ) (ok : ℕ → ℕ → ℕ → Boo
       (λ b. let l : u .len ≤ firstCrossed P ok u = omega (arith, s .lens, first-same s) in
       rw (uncross-stop P C g ok (suc n) w b, uncross-stop P C g ok (suc n) u l) s)
       (lt-or-ge (firstCrossed P ok w) (w .len))
-
-  -- They lead to the same layout.
-  pub improved-same : {w u : Walk} → Same w u → (S : ℕ → ℕ → ℕ) (p x : ℕ) → improved P C g ok w S p x ≡ improved P C g ok u S p x
-  unfolding improved
-  improved-same {w} {u} s S p x =
-      turn-same (uncross-same (w .len) s) S p x
-      ∙ ap (λ (n : ℕ). let v = uncross n P C g ok u in turn (v .len) (v .node) (v .partition) S p x) (s .lens)

@@ -71,7 +71,7 @@ fn hold(held: &mut [u32], p: usize, row: u32)
     while left != 0 {
         let u = sets::least(left);
         take_on(held, p, u);
-        left = sets::without(left, u);
+        left = sets::rest(left);
     }
 }
 

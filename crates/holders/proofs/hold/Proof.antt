@@ -1,9 +1,9 @@
 -- `holders::hold` meets its contract. The nodes of the row that are left no more have taken the partition on. Assumes nothing.
 use Prim.Native.Nat.{ℕ}
-use mathlib.Core.Path.{sym, ap, _∙_, subst}
+use mathlib.Core.Path.{refl, sym, subst}
 use native.Mathlib.Omega.{arith}
 use Rattle.sums.specs.ModelSums.{is}
-use Rattle.sets.specs.ModelBits.{withoutOf, countOf}
+use Rattle.sets.specs.ModelBits.{leastOf, countOf}
 use Rattle.sets.proofs.Scan.{Left, left-all, left-less, fewer}
 use Rattle.holders.specs.ModelHolders.{Counted, Taken}
 use Rattle.holders.proofs.Holding.{Partly, partly-none, partly-more, partly-all}
@@ -26,14 +26,13 @@ least-requires c κs = search needs
 take-on-requires : tie.Need-take-on-requires Inv-loop μ-loop
 take-on-requires c κs = search needs
 
-without-requires : tie.Need-without-requires Inv-loop μ-loop
-without-requires c κs = search needs
+rest-requires : tie.Need-rest-requires Inv-loop μ-loop
+rest-requires c κs = search needs
 
 loop-less : tie.Need-loop-less Inv-loop μ-loop
 loop-less c = let t = c .before .before .before in
     let k = t .before .before .before .before in
-    fewer (k .loop .left) (t .before .before .least .result) (c .without .result) (k .loop .inv .1 .word) (t .before .before .before .loop-test .taken)
-    (t .before .before .least .ensures) (c .without .ensures)
+    fewer (k .loop .left) (leastOf (k .loop .left)) (c .rest .result) (k .loop .inv .1 .word) (t .before .before .before .loop-test .taken) refl (c .rest .ensures)
 
 loop-again : tie.Need-loop-again Inv-loop μ-loop
 loop-again c = let t = c .before .before .before in
@@ -41,7 +40,7 @@ loop-again c = let t = c .before .before .before in
     let k = l .before .before in
     let a = k .before .before .args in
     let n = l .before .loop-test .taken in
-    let e = c .without .ensures ∙ ap (withoutOf (k .loop .left)) (l .least .ensures) in (
+    let e = c .rest .ensures in (
       t .take-on .ensures .0,
       subst (Left (a .row)) (sym e) (left-less (a .row) (k .loop .left) (k .loop .inv .1) n),
       subst (λ (x : ℕ). Partly (a .row) x (a .p) (a .held .now) (t .take-on .last .0)) (sym e)
@@ -66,7 +65,7 @@ hold-spec =
     loop-holds
     least-requires
     take-on-requires
-    without-requires
+    rest-requires
     loop-less
     loop-again
     same-length
