@@ -40,7 +40,9 @@ use Rattle.walks.proofs.Renewing.{stands-some}
 use Rattle.circuits.specs.ModelCircuits.{cycleOf}
 use Rattle.circuits.proofs.Steps.{turned-length}
 use Rattle.circuits.proofs.Improving.{Ring, ok-right, witness-graph, cycle-round, held-cycle, again-round, freed-ring, turned-small, turned-better}
-use Rattle.improve.specs.ModelImprove.{State, begun, arcsIn, cycleIn, foundIn, soughtIn, turnedIn, improvesIn, nextIn, ranIn, agreementIn}
+use Rattle.agreement.specs.ModelAgreement.{agreementIn}
+use Rattle.steps.specs.ModelSteps.{State, arcsIn, cycleIn, foundIn, soughtIn, turnedIn, improvesIn, nextIn}
+use Rattle.improve.specs.ModelImprove.{begun, ranIn}
 use Rattle.improve.proofs.Runs.{not-both, run-keeps, run-ends}
 
 -- What a run stands on: the zones of the nodes in the slice of mates, the caps in cells, and a former row for each of the partitions.

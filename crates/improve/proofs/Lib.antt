@@ -1,3 +1,3 @@
 pub mod Runs
 pub mod Ground
-pub mod Steps
+pub mod Turns

@@ -24,7 +24,9 @@ use Rattle.masks.proofs.Laws.{mask-bits, formed-each, formed-former, ids-pairs,
 use Rattle.sizing.specs.ModelSizing.{nodesOf, mateCells, capCells, sizeOf, dealtIn}
 use Rattle.sizing.proofs.Reading.{deal-in, deal-length}
 use Rattle.improve.specs.ModelRun.{Ran}
-use Rattle.improve.specs.ModelImprove.{State, ranIn, agreementIn, sharedIn}
+use Rattle.agreement.specs.ModelAgreement.{agreementIn, sharedIn}
+use Rattle.steps.specs.ModelSteps.{State}
+use Rattle.improve.specs.ModelImprove.{ranIn}
 use Rattle.planning.specs.ModelPlan.{formerMasks, dealtAt, startRows, ranFrom, layoutRows, farRows, planFrom, planOf}
 use Rattle.planner.specs.TermsPlan.{planIn, answered}
 use Rattle.planner.specs.declared.Planned.{Planned}

@@ -9,7 +9,7 @@ ghost use Rattle.masks.specs.ModelMasks.{rowsFormed, idsTotal};
 ghost use Rattle.cluster.specs.TermsReading.{Fits32};
 ghost use Rattle.sizing.specs.ModelSizing.{sizeOf};
 ghost use Rattle.graph.specs.ModelKept.{keptCells};
-ghost use Rattle.improve.specs.ModelImprove.{agreementIn};
+ghost use Rattle.agreement.specs.ModelAgreement.{agreementIn};
 ghost use Rattle.planning.specs.ModelPlan.{dealtAt, ranFrom};
 ghost use Rattle.planner.specs.TermsPlan.{planIn, answered};
 use super::Planned;
@@ -67,7 +67,7 @@ pub(crate) fn measured(
         - 2 * agreementIn (now (rows .entry)) (now (before .entry)) partitions ⌝ }
 {
     let pairs = masks::count_ids(former, partitions);
-    let shared = improve::agreement(rows, before, partitions);
+    let shared = agreement::agreement(rows, before, partitions);
     replication * (partitions as u32) + pairs - 2 * shared
 }
 

@@ -27,7 +27,9 @@ use Rattle.incidence.proofs.Columns.{cell-column}
 use Rattle.sizing.specs.ModelSizing.{nodesOf, capCells, sizeOf, dealtBits, dealtRows}
 use Rattle.sizing.proofs.Sizes.{size-is, beginning-within}
 use Rattle.sizing.proofs.Reading.{mates-hold, deal-length, deal-cell, deal-bit}
-use Rattle.improve.specs.ModelImprove.{State, begun, ranIn, agreementIn}
+use Rattle.agreement.specs.ModelAgreement.{agreementIn}
+use Rattle.steps.specs.ModelSteps.{State}
+use Rattle.improve.specs.ModelImprove.{begun, ranIn}
 use Rattle.improve.proofs.Ground.{Ground, Good, GoodState, agreement-weighs, begun-good, next-good, next-gains, none-heavier, none-former, run-finishes}
 use Rattle.planning.specs.ModelPlan.{matesOf, formerMasks, startRows, layoutRows, farRows, layoutAt, farAt, improvesAt, nextAt}
 use Rattle.planning.proofs.Rules.{Machine}

@@ -10,8 +10,10 @@ use Rattle.sums.specs.TermsSums.{tab}
 use Rattle.cluster.specs.Terms.{bufferRows, Topology, partitions, Layout}
 use Rattle.incidence.specs.ModelIncidence.{incidence, layoutOf, formerPairs, zoneCells}
 use Rattle.sizing.specs.ModelSizing.{nodesOf, mateCells, capCells, sizeOf, dealtRows}
+use Rattle.agreement.specs.ModelAgreement.{agreementIn}
+use Rattle.steps.specs.ModelSteps.{State, improvesIn, nextIn}
 use Rattle.improve.specs.ModelRun.{Ran, run}
-use Rattle.improve.specs.ModelImprove.{State, begun, improvesIn, nextIn, ranIn, agreementIn}
+use Rattle.improve.specs.ModelImprove.{begun, ranIn}
 use Rattle.planning.specs.Demand.{Answer}
 
 -- ---- the plan of a topology

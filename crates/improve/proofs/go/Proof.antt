@@ -14,7 +14,7 @@ use Rattle.graph.proofs.Keeping.{kept-none}
 use Rattle.holders.specs.ModelHolders.{Held}
 use Rattle.walks.specs.ModelWalks.{walkIn}
 use Rattle.improve.specs.ModelImprove.{begun}
-use Rattle.improve.proofs.Steps.{At, Stopped, blank-walk, run-begins, run-finished, run-goes}
+use Rattle.improve.proofs.Turns.{At, Stopped, blank-walk, run-begins, run-finished, run-goes}
 use borrow.Author.Needs.{needs}
 use Rattle.improve.proofs.go.Statement.{statement}
 use Rattle.improve.proofs.go.Tie as tie

@@ -8,7 +8,7 @@ use Rattle.cluster.specs.Terms.{mostNodes, partitions, topology}
 use Rattle.cluster.proofs.Accepting.{partitions-in-range, accepted, few-nodes, nodes-count}
 use Rattle.sizing.specs.ModelSizing.{nodesOf}
 use Rattle.improve.specs.ModelRun.{Ran}
-use Rattle.improve.specs.ModelImprove.{State}
+use Rattle.steps.specs.ModelSteps.{State}
 use Rattle.planner.proofs.Settling.{run-is, dealt-fits}
 use Rattle.planner.proofs.settle.improved.Statement.{statement}
 use Rattle.planner.proofs.settle.improved.Tie as tie

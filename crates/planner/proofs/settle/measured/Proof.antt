@@ -2,13 +2,13 @@ use borrow.Author.Needs.{needs}
 use native.Mathlib.Omega.{arith}
 use mathlib.Core.Path.{_≡_, ap₂}
 use Prim.Native.Nat.{ℕ, _+_, _-_, _*_, _≤_}
-use Rattle.improve.specs.ModelImprove.{agreementIn}
+use Rattle.agreement.specs.ModelAgreement.{agreementIn}
 use Rattle.planner.proofs.Settling.{copies-few, shared-is}
 use Rattle.planner.proofs.settle.measured.Statement.{statement}
 use Rattle.planner.proofs.settle.measured.Tie as tie
 use Rattle.planner.proofs.settle.measured.Reads as reads
 use Rattle.planner.proofs.settle.measured.Lts as lts
-use Rattle.improve.proofs.agreement.Reads as agreement-reads
+use Rattle.agreement.proofs.agreement.Reads as agreement-reads
 use Rattle.masks.proofs.count_ids.Reads as count-ids-reads
 
 count-ids-requires : tie.Need-count-ids-requires

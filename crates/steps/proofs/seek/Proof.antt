@@ -1,10 +1,10 @@
--- `improve::seek` meets its contract. Assumes nothing.
+-- `steps::seek` meets its contract. Assumes nothing.
 use native.Mathlib.Omega.{arith}
 use Rattle.walks.specs.ModelWalks.{walkIn}
-use Rattle.improve.proofs.Steps.{sought-again, sought-found}
+use Rattle.steps.proofs.Steps.{sought-again, sought-found}
 use borrow.Author.Needs.{needs}
-use Rattle.improve.proofs.seek.Statement.{statement}
-use Rattle.improve.proofs.seek.Tie as tie
+use Rattle.steps.proofs.seek.Statement.{statement}
+use Rattle.steps.proofs.seek.Tie as tie
 
 below-requires : tie.Need-below-requires
 below-requires c κs = search needs

@@ -4,12 +4,12 @@ use Prim.Native.Nat.{_≤_, _-_, _*_}
 use mathlib.Core.Path.{_≡_, refl}
 use Rattle.sets.specs.ModelBits.{maskBits}
 use Rattle.sums.specs.TermsSums.{sumTo}
-use Rattle.improve.specs.ModelImprove.{agreementIn}
-use Rattle.improve.proofs.Steps.{agreement-more, few-shared}
-use Rattle.improve.proofs.sum.agreement_of.Statement.{statement}
-use Rattle.improve.proofs.sum.agreement_of.Tie as tie
-use Rattle.improve.proofs.sum.agreement_of.Reads as reads
-use Rattle.improve.proofs.sum.agreement_of.Lts as lts
+use Rattle.agreement.specs.ModelAgreement.{agreementIn}
+use Rattle.agreement.proofs.Sums.{agreement-more, few-shared}
+use Rattle.agreement.proofs.sum.agreement_of.Statement.{statement}
+use Rattle.agreement.proofs.sum.agreement_of.Tie as tie
+use Rattle.agreement.proofs.sum.agreement_of.Reads as reads
+use Rattle.agreement.proofs.sum.agreement_of.Lts as lts
 use Rattle.sets.proofs.count.Reads as count-reads
 use Rattle.sets.proofs.meet.Reads as meet-reads
 

@@ -5,12 +5,12 @@ use mathlib.Core.Path.{_∙_}
 use lib.ListN.{length}
 use borrow.Author.Tests.{lt-ltb, le-ltb}
 use Rattle.cluster.specs.Terms.{bufferRows}
-use Rattle.improve.specs.ModelImprove.{sharedIn}
-use Rattle.improve.proofs.agreement.Statement.{statement}
-use Rattle.improve.proofs.agreement.Tie as tie
-use Rattle.improve.proofs.agreement.Reads as reads
-use Rattle.improve.proofs.agreement.Lts as lts
-use Rattle.improve.proofs.sum.agreement_of.Reads as agreement-of-reads
+use Rattle.agreement.specs.ModelAgreement.{sharedIn}
+use Rattle.agreement.proofs.agreement.Statement.{statement}
+use Rattle.agreement.proofs.agreement.Tie as tie
+use Rattle.agreement.proofs.agreement.Reads as reads
+use Rattle.agreement.proofs.agreement.Lts as lts
+use Rattle.agreement.proofs.sum.agreement_of.Reads as agreement-of-reads
 
 returns : tie.Need-returns
 unfolding sharedIn

@@ -1,4 +1,4 @@
--- `improve::search` meets its contract. Assumes nothing.
+-- `steps::search` meets its contract. Assumes nothing.
 use Prim.Native.Nat.{ℕ, _≤_}
 use mathlib.Core.Path.{sym, subst}
 use native.Mathlib.Omega.{arith}
@@ -6,10 +6,10 @@ use Rattle.sets.specs.ModelBits.{bit}
 use Rattle.cluster.specs.Terms.{mostNodes}
 use Rattle.graph.specs.ModelKept.{Kept}
 use Rattle.walks.specs.ModelWalks.{walkIn}
-use Rattle.improve.proofs.Steps.{room-bit, found-walk, found-few}
+use Rattle.steps.proofs.Steps.{room-bit, found-walk, found-few}
 use borrow.Author.Needs.{needs}
-use Rattle.improve.proofs.search.Statement.{statement}
-use Rattle.improve.proofs.search.Tie as tie
+use Rattle.steps.proofs.search.Statement.{statement}
+use Rattle.steps.proofs.search.Tie as tie
 
 below-requires : tie.Need-below-requires
 below-requires c κs = search needs

@@ -3,7 +3,7 @@ ghost use mathlib.Core.Path.{_≡_};
 ghost use Prim.Native.Nat.{_≤_};
 ghost use lib.ListN.{length};
 ghost use Rattle.cluster.specs.Terms.{bufferRows};
-ghost use Rattle.improve.specs.ModelImprove.{agreementIn};
+ghost use Rattle.agreement.specs.ModelAgreement.{agreementIn};
 
 pub(crate) fn agreement_of(rows: &[u32], former: &[u32], partitions: usize) -> u32
     requires { ⌜ (partitions ≤ bufferRows) × (partitions ≤ length (now rows)) × (partitions ≤ length (now former)) ⌝ }

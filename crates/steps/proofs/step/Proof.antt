@@ -1,13 +1,13 @@
--- `improve::step` meets its contract. Assumes nothing.
+-- `steps::step` meets its contract. Assumes nothing.
 use borrow.Author.Tests.{not-true, not-false}
 use native.Mathlib.Omega.{arith}
 use Rattle.sets.specs.ModelBits.{belowOf}
 use Rattle.graph.proofs.Keeping.{kept-changed}
 use Rattle.walks.specs.ModelWalks.{walkIn}
-use Rattle.improve.proofs.Steps.{step-made, step-kept}
+use Rattle.steps.proofs.Steps.{step-made, step-kept}
 use borrow.Author.Needs.{needs}
-use Rattle.improve.proofs.step.Statement.{statement}
-use Rattle.improve.proofs.step.Tie as tie
+use Rattle.steps.proofs.step.Statement.{statement}
+use Rattle.steps.proofs.step.Tie as tie
 
 seek-requires : tie.Need-seek-requires
 seek-requires c κs = let p = c .before .before .before .before .before .before .before .before .before .before .before .before .before .before .before .before .pre in (p .0, p .1, p .2, p .3, p .5, p .6, p .7, p .8)
