@@ -6,7 +6,7 @@ use mathlib.Core.Bool.{true, false}
 use mathlib.Core.List.{List, [], _∷_}
 use native.Mathlib.Omega.{arith}
 use Rattle.sums.specs.TermsSums.{sumTo, one-if}
-use Rattle.cluster.specs.Terms.{Topology, mem, risingFrom, rising, different, zonesNamed, zonesOf, copiesIn, ValidAt, onlyIn, distance}
+use Rattle.cluster.specs.Terms.{Topology, mem, risingFrom, rising, different, zonesNamed, zonesOf, copiesIn, ValidAt, onlyIn, sent, distance}
 use Rattle.cluster.specs.declared.Node.{Node}
 
 abbrev pub node : ℕ → ℕ → ℕ → Node
@@ -73,6 +73,28 @@ distance-K = refl
 distance-none : distance E ((1 ∷ []) ∷ (1 ∷ []) ∷ []) ([] ∷ [] ∷ []) ≡ 2
 unfolding distance sumTo onlyIn mem one-if
 distance-none = refl
+
+-- 2026-01: "Examples E, F, H, I and K now read 2, 1, 1, 0 and 1", of layouts that are nearest; a copy that is only dropped is not sent.
+sent-E : sent E ((1 ∷ []) ∷ (1 ∷ []) ∷ []) ((2 ∷ []) ∷ (2 ∷ []) ∷ []) ≡ 2
+unfolding sent sumTo onlyIn mem one-if
+sent-E = refl
+
+sent-H : sent H ((1 ∷ []) ∷ []) ((9 ∷ []) ∷ []) ≡ 1
+unfolding sent sumTo onlyIn mem one-if
+sent-H = refl
+
+sent-I : sent I ((1 ∷ []) ∷ []) ((1 ∷ 2 ∷ []) ∷ []) ≡ 0
+unfolding sent sumTo onlyIn mem one-if
+sent-I = refl
+
+sent-K : sent K (row124 ∷ []) (row123 ∷ []) ≡ 1
+unfolding sent sumTo onlyIn mem one-if
+sent-K = refl
+
+-- Where there were no former copies, each copy is sent: half of the distance would be too few.
+sent-none : sent E ((1 ∷ []) ∷ (1 ∷ []) ∷ []) ([] ∷ [] ∷ []) ≡ 2
+unfolding sent sumTo onlyIn mem one-if
+sent-none = refl
 
 -- Node 1 of E holds two copies.
 copies-E : copiesIn ((1 ∷ []) ∷ (1 ∷ []) ∷ []) 1 ≡ 2

@@ -4,6 +4,7 @@ pub mod RowScans
 pub mod Scans
 pub mod Accepting
 pub mod Lists
+pub mod Sending
 pub mod Slots
 pub mod Taking
 pub mod Examples

@@ -67,7 +67,7 @@ nodeAt t b = getD (t .nodes) b noNode
 unfoldable pub idsOf : List Node → List ℕ
 idsOf l = map (λ (n : Node). n .id) l
 
--- ---- rows and layouts, the size, the former layout, the distance; layouts in lent cells; the faults of a cluster in hand
+-- ---- rows and layouts, the size, the former layout, the copies to be sent, the distance; layouts in lent cells; the faults of a cluster in hand
 
 -- Whether a number stands in a list.
 unfoldable pub mem : ℕ → List ℕ → Bool
@@ -144,6 +144,14 @@ pub record IsFormer (t : Topology) (F : Layout) : Type 0 where
 unfoldable pub onlyIn : List ℕ → List ℕ → ℕ
 onlyIn [] r = 0
 onlyIn (x ∷ xs) r = one-if (not (mem x r)) + onlyIn xs r
+
+-- 2026-01: "the number of pairs in the new layout and not in the former one", L the new layout and F the former one: the copies to be sent.
+unfoldable pub sent : Topology → Layout → Layout → ℕ
+sent t L F = sumTo (partitions t) (λ p. onlyIn (row L p) (row F p))
+
+-- The pairs of the former layout, those of gone nodes included.
+unfoldable pub formerCopies : Topology → Layout → ℕ
+formerCopies t F = sumTo (partitions t) (λ p. length (row F p))
 
 -- "The distance is the number of pairs (id, partition) standing in one of the two layouts and not in both, gone boxes included."
 unfoldable pub distance : Topology → Layout → Layout → ℕ

@@ -19,9 +19,9 @@ figureCells = 2 * mostNodes
 abbrev pub mostSize : ℕ
 mostSize = 4294967295
 
--- "7 distance (2, at most 4,096)"
-abbrev pub mostDistance : ℕ
-mostDistance = 4096
+-- 2026-01: "field 7 .., now `sent` .. Its ceiling becomes 2,048"
+abbrev pub mostSent : ℕ
+mostSent = 2048
 
 -- "8 verdict (1: 1 finished, 0 stopped)"
 abbrev pub mostVerdict : ℕ

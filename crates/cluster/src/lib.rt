@@ -63,8 +63,8 @@ impl Cluster {
     pub const FIGURES: usize = 2 * Cluster::NODES;
     // The largest size of a layout.
     pub const SIZE: u32 = 4294967295;
-    // The largest distance of a layout.
-    pub const DISTANCE: u32 = 4096;
+    // The most copies to be sent: every copy of every partition.
+    pub const SENT: u32 = 2048;
     // The larger verdict: 1 finished, 0 stopped.
     pub const VERDICT: u32 = 1;
     // The most improvements.

@@ -32,9 +32,9 @@ plannedAssignment r former allowance assignment scratch =
 unfoldable pub plannedScratch : ReadCluster → List ℕ → ℕ → List ℕ → List ℕ
 plannedScratch r former assignment scratch = afterReading r scratch (scratchAfter (r .cluster) former assignment scratch)
 
--- "byte; size; distance; verdict; improvements"; the verdict is 1 for finished, else 0.
+-- "byte; size; sent; verdict; improvements"; the verdict is 1 for finished, else 0.
 abbrev pub plannedNumbers : ReadCluster → Planned → List ℕ
-plannedNumbers r p = halves (r .byte) ++ (p .size ∷ p .distance ∷ one-if (p .finished) ∷ p .improvements ∷ [])
+plannedNumbers r p = halves (r .byte) ++ (p .size ∷ p .sent ∷ one-if (p .finished) ∷ p .improvements ∷ [])
 
 -- What is owed to a call whose record is read and whose slices are long enough, of the cluster and the former layout that the record carries: 9
 -- exactly where no layout is valid at size 1, and demand 3.

@@ -12,7 +12,7 @@ use cluster::refusal;
 use cluster_record::ReadCluster;
 use planner::Planned;
 
-// The cells of the answer: byte (two cells), size, distance, verdict, improvements.
+// The cells of the answer: byte (two cells), size, sent, verdict, improvements.
 const ANSWER: usize = 6;
 
 // The number of a verdict.
@@ -40,7 +40,7 @@ fn plan_read(
         return Planned {
             refusal: read.refusal,
             size: 0,
-            distance: 0,
+            sent: 0,
             finished: false,
             improvements: 0,
         };
@@ -74,7 +74,7 @@ pub extern "C" fn dezghuri_plan(
     let made = plan_read(read, &former, allowance, assignment, scratch);
     let numbers = [
         made.size,
-        made.distance,
+        made.sent,
         verdict(made.finished),
         made.improvements,
     ];

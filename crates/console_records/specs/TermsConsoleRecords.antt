@@ -36,11 +36,11 @@ clusterNumbers r =
 abbrev pub readLayoutCells : ℕ
 readLayoutCells = 8
 
--- "byte; bits; replication; size; distance; verdict; improvements"
+-- "byte; bits; replication; size; sent; verdict; improvements"
 abbrev pub layoutNumbers : ReadLayout → List ℕ
 layoutNumbers r =
     let n = r .numbers in
-    halves (r .byte) ++ (n .bits ∷ n .replication ∷ n .size ∷ n .distance ∷ n .verdict ∷ n .improvements ∷ [])
+    halves (r .byte) ++ (n .bits ∷ n .replication ∷ n .size ∷ n .sent ∷ n .verdict ∷ n .improvements ∷ [])
 
 -- "the record's length"
 abbrev pub writeCells : ℕ

@@ -5,7 +5,7 @@ ghost use Rattle.answers.specs.TermsAnswers.{unlessShort, answerAfter};
 ghost use Rattle.console_records.specs.TermsConsoleRecords.{readLayoutCells, layoutNumbers};
 use cluster::refusal;
 
-// The cells of the answer: byte (two cells), bits, replication, size, distance, verdict, improvements.
+// The cells of the answer: byte (two cells), bits, replication, size, sent, verdict, improvements.
 const ANSWER: usize = 8;
 
 // Reads a layout record into the lent cells.
@@ -29,7 +29,7 @@ pub extern "C" fn dezghuri_read_layout(
         n.bits,
         n.replication,
         n.size,
-        n.distance,
+        n.sent,
         n.verdict,
         n.improvements,
     ];

@@ -16,14 +16,14 @@ pub extern "C" fn dezghuri_write_layout(
     bits: u32,
     replication: u32,
     size: u32,
-    distance: u32,
+    sent: u32,
     verdict: u32,
     improvements: u32,
     assignment: &[u32],
     out: &mut [u8],
     answer: &mut [u32],
 ) -> u32
-    ensures { λ r. let n = numbersOf bits replication size distance verdict improvements in let written = writeAnswer n (now (assignment .entry)) (now (out .entry)) in let lent = now (answer .entry) in
+    ensures { λ r. let n = numbersOf bits replication size sent verdict improvements in let written = writeAnswer n (now (assignment .entry)) (now (out .entry)) in let lent = now (answer .entry) in
         ⌜ (r ≡ unlessShort writeCells lent 8 (written .refusal))
         × (now (out .exit) ≡ unlessShort writeCells lent (now (out .entry)) (outAfter n (now (assignment .entry)) (now (out .entry))))
         × (now (answer .exit) ≡ answerAfter writeCells lent (halves (written .length))) ⌝ }
@@ -35,7 +35,7 @@ pub extern "C" fn dezghuri_write_layout(
         bits,
         replication,
         size,
-        distance,
+        sent,
         verdict,
         improvements,
     };

@@ -10,7 +10,7 @@ use lib.Dec.{leb, eqb}
 use borrow.Author.Tests.{leb-true, eqb-true, eq-eqb, not-true}
 use Rattle.sums.specs.TermsSums.{sumTo, one-if}
 use Rattle.sums.proofs.Sum.{lt-or-ge}
-use Rattle.cluster.specs.Terms.{takes, Topology, idsOf, mem, risingFrom, rising, different, zonesNamed, Layout, copiesIn, ValidAt, onlyIn, distance}
+use Rattle.cluster.specs.Terms.{takes, Topology, idsOf, mem, risingFrom, rising, different, zonesNamed, Layout, copiesIn, ValidAt, onlyIn, sent}
 use Rattle.sums.proofs.Tests.{both}
 use Rattle.examples.specs.TermsExamples.{Rows, HasRows, Expected, no-layout, planned, Comes, Example, Holds, table, EveryHolds, Table}
 use Rattle.examples.specs.ModelExamples.{every, some, implies, choices, before, layoutsOf, candidates, rowTest, nodeTest, validTest, acceptedTest, formerRowTest, formerTest, sameRow, sameLayout, rowsTest, nearest, agrees, outcomeTest, passes}
@@ -41,26 +41,26 @@ then false b h e = absurd (false≢true e)
 
 -- ---- one layout
 
--- What passes as nearest is valid at the distance,
-nearest-valid : (t : Topology) (F : Layout) (s d : ℕ) (L : Layout) → nearest t F s d L ≡ true → ValidAt t L s × (distance t L F ≡ d)
+-- What passes as nearest is valid and sends as many copies as named,
+nearest-valid : (t : Topology) (F : Layout) (s d : ℕ) (L : Layout) → nearest t F s d L ≡ true → ValidAt t L s × (sent t L F ≡ d)
 unfolding nearest
 nearest-valid t F s d L h =
-    let a = both (validTest t L s) (eqb (distance t L F) d) h in (test-valid t L s (a .0), eqb-true (distance t L F) d (a .1))
+    let a = both (validTest t L s) (eqb (sent t L F) d) h in (test-valid t L s (a .0), eqb-true (sent t L F) d (a .1))
 
 -- and the other way.
-valid-nearest : (t : Topology) (F : Layout) (s d : ℕ) (L : Layout) → ValidAt t L s → distance t L F ≡ d → nearest t F s d L ≡ true
+valid-nearest : (t : Topology) (F : Layout) (s d : ℕ) (L : Layout) → ValidAt t L s → sent t L F ≡ d → nearest t F s d L ≡ true
 unfolding nearest
-valid-nearest t F s d L v e = ap₂ _&&_ (valid-test t L s v) (eq-eqb (distance t L F) d e)
+valid-nearest t F s d L v e = ap₂ _&&_ (valid-test t L s v) (eq-eqb (sent t L F) d e)
 
 -- What a layout that agrees is held to.
 agreed : (t : Topology) (F : Layout) (s d : ℕ) (rows : Rows) (L : Layout) → agrees t F s d rows L ≡ true
     → (not (validTest t L (suc s)) ≡ true)
-    × (implies (validTest t L s) (leb d (distance t L F)) ≡ true)
+    × (implies (validTest t L s) (leb d (sent t L F)) ≡ true)
     × (implies (nearest t F s d L) (rowsTest rows L) ≡ true)
 unfolding agrees
 agreed t F s d rows L h =
     let a = both (not (validTest t L (suc s))) _ h in
-    let b = both (implies (validTest t L s) (leb d (distance t L F))) (implies (nearest t F s d L) (rowsTest rows L)) (a .1) in
+    let b = both (implies (validTest t L s) (leb d (sent t L F))) (implies (nearest t F s d L) (rowsTest rows L)) (a .1) in
     (a .0, b .0, b .1)
 
 -- ---- the outcome
@@ -79,12 +79,12 @@ module _ (t : Topology) (F : Layout) (s d : ℕ) (rows : Rows) (u : rising (idsO
       (valid-test t L (suc s) (valid-below t L (suc s) s′ (omega arith) (omega arith) v))))
       (λ l. l) (lt-or-ge s s′)
 
-  none-nearer : (L : Layout) → ValidAt t L s → d ≤ distance t L F
+  none-nearer : (L : Layout) → ValidAt t L s → d ≤ sent t L F
   none-nearer L v =
-      leb-true d (distance t L F)
-      (then (validTest t L s) (leb d (distance t L F)) (agreed t F s d rows L (all-agree L s v) .1) (valid-test t L s v))
+      leb-true d (sent t L F)
+      (then (validTest t L s) (leb d (sent t L F)) (agreed t F s d rows L (all-agree L s v) .1) (valid-test t L s v))
 
-  nearest-rows : (L : Layout) → ValidAt t L s → distance t L F ≡ d → HasRows rows L
+  nearest-rows : (L : Layout) → ValidAt t L s → sent t L F ≡ d → HasRows rows L
   nearest-rows L v e =
       test-rows rows L
       (then (nearest t F s d L) (rowsTest rows L) (agreed t F s d rows L (all-agree L s v) .2) (valid-nearest t F s d L v e))
@@ -129,7 +129,7 @@ all-hold (e ∷ es) h = let a = both (passes e) (every passes es) h in (passes-h
 pub table-passes : every passes table ≡ true
 unfolding
     every some implies choices before layoutsOf candidates rowTest nodeTest validTest acceptedTest formerRowTest formerTest sameRow sameLayout
-    rowsTest nearest agrees outcomeTest passes sumTo one-if idsOf mem risingFrom different zonesNamed copiesIn takes onlyIn distance
+    rowsTest nearest agrees outcomeTest passes sumTo one-if idsOf mem risingFrom different zonesNamed copiesIn takes onlyIn sent
 table-passes = refl
 
 -- The paper's table: every starred example holds, of the terms.

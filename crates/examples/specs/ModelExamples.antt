@@ -6,7 +6,7 @@ use mathlib.Core.Bool.{Bool, true, false, not, _&&_, _||_}
 use mathlib.Core.List.{List, [], _∷_, _++_, map}
 use lib.Dec.{ltb, leb, eqb}
 use lib.ListN.{length}
-use Rattle.cluster.specs.Terms.{takes, mostBits, mostCopies, mostNodes, Topology, partitions, idsOf, mem, rising, zonesOf, Layout, copiesIn, distance}
+use Rattle.cluster.specs.Terms.{takes, mostBits, mostCopies, mostNodes, Topology, partitions, idsOf, mem, rising, zonesOf, Layout, copiesIn, sent}
 use Rattle.cluster.specs.declared.Node.{Node}
 use Rattle.examples.specs.TermsExamples.{Rows, unnamed, named, Expected, no-layout, planned, Example}
 
@@ -102,15 +102,15 @@ rowsTest (named M) L = sameLayout L M
 
 -- ---- the outcome
 
--- A layout valid at the size, at the distance named.
+-- A layout valid at the size that sends as many copies as named.
 unfoldable pub nearest : Topology → Layout → ℕ → ℕ → Layout → Bool
-nearest t F s d L = validTest t L s && eqb (distance t L F) d
+nearest t F s d L = validTest t L s && eqb (sent t L F) d
 
--- A layout is not valid at a larger size; valid at the size it is no nearer than named; and nearest it has the rows named.
+-- A layout is not valid at a larger size; valid at the size it sends no less than named; and where it sends so few, it has the rows named.
 unfoldable pub agrees : Topology → Layout → ℕ → ℕ → Rows → Layout → Bool
 agrees t F s d rows L =
     not (validTest t L (suc s))
-    && (implies (validTest t L s) (leb d (distance t L F)) && implies (nearest t F s d L) (rowsTest rows L))
+    && (implies (validTest t L s) (leb d (sent t L F)) && implies (nearest t F s d L) (rowsTest rows L))
 
 -- Comes: one candidate is what the example says, and all agree with it.
 unfoldable pub outcomeTest : Topology → Layout → Expected → Bool

@@ -1,12 +1,13 @@
 -- The starred examples of document 01's table, as one table with one proposition: "Those with a star are proved of the terms above, collected
--- in one table with one proposition". They are stated of layouts, size and distance as crates/cluster/specs/Terms.antt defines them, for all
--- layouts, and of no program. "Box" in the paper is a node here.
+-- in one table with one proposition". They are stated of layouts, size and copies to be sent as crates/cluster/specs/Terms.antt defines them,
+-- for all layouts, and of no program. Request 2026-01 replaced the distances: "Examples E, F, H, I and K now read 2, 1, 1, 0 and 1; A and L keep their
+-- numbers." "Box" in the paper is a node here.
 -- Assumes nothing.
 use Prim.Native.Nat.{ℕ, _≤_}
 use mathlib.Core.Path.{_≡_}
 use mathlib.Core.List.{List, [], _∷_}
 use lib.ListN.{replicate}
-use Rattle.cluster.specs.Terms.{Topology, Layout, ValidAt, IsSize, IsFormer, distance}
+use Rattle.cluster.specs.Terms.{Topology, Layout, ValidAt, IsSize, IsFormer, sent}
 use Rattle.cluster.specs.TermsReading.{Accepted}
 use Rattle.cluster.specs.declared.Node.{Node}
 
@@ -17,7 +18,7 @@ pub data Rows : Type 0 where
   unnamed : Rows
   named : Layout → Rows
 
--- The column "outcome": 9, that no layout is valid at size 1; or the size, the distance, and the rows where they are named.
+-- The column "outcome": 9, that no layout is valid at size 1; or the size, the copies to be sent, and the rows where they are named.
 pub data Expected : Type 0 where
   no-layout : Expected
   planned : ℕ → ℕ → Rows → Expected
@@ -35,12 +36,12 @@ abbrev pub HasRows : Rows → Layout → Type 0
 HasRows unnamed L = Unit {0}
 HasRows (named M) L = L ≡ M
 
--- Size s is the cluster's; d is the least distance of the layouts valid at it, and is reached; and each nearest layout has the rows named.
+-- Size s is the cluster's; d is the least that a layout valid at it sends, and is reached; and each layout that sends so few has the rows named.
 pub record Planned (t : Topology) (F : Layout) (s d : ℕ) (rows : Rows) : Type 0 where
   pub size : IsSize t s
-  pub reached : (L : Layout) × ValidAt t L s × (distance t L F ≡ d)
-  pub least : (L : Layout) → ValidAt t L s → d ≤ distance t L F
-  pub has-rows : (L : Layout) → ValidAt t L s → distance t L F ≡ d → HasRows rows L
+  pub reached : (L : Layout) × ValidAt t L s × (sent t L F ≡ d)
+  pub least : (L : Layout) → ValidAt t L s → d ≤ sent t L F
+  pub has-rows : (L : Layout) → ValidAt t L s → sent t L F ≡ d → HasRows rows L
 
 -- The outcome comes about. "9: no layout is valid at size 1."
 abbrev pub Comes : Topology → Layout → Expected → Type 0
@@ -71,12 +72,12 @@ noCopies partitions = replicate partitions []
 abbrev pub line : Topology → Layout → Expected → Example
 line t F o = record { topology = t; former = F; outcome = o }
 
--- ---- the lines. C and G name no distance: with no former copies it is "R times P".
+-- ---- the lines. C and G name no number: with no former copies it is "R times P".
 
 abbrev pub nodesA : List Node
 nodesA = node 1 1 100 ∷ node 2 1 70 ∷ node 3 2 50 ∷ []
 
--- A: 1, 3, 2; 1/1/100 2/1/70 3/2/50; none; size 25, distance 6.
+-- A: 1, 3, 2; 1/1/100 2/1/70 3/2/50; none; size 25, sent 6.
 abbrev pub A : Example
 A = line (cluster 1 3 2 nodesA) (noCopies 2) (planned 25 6 unnamed)
 
@@ -88,25 +89,25 @@ B = line (cluster 1 3 3 nodesA) (noCopies 2) no-layout
 abbrev pub C : Example
 C = line (cluster 0 1 1 (node 1 1 5 ∷ node 2 1 9 ∷ [])) (noCopies 1) (planned 9 1 (named ((2 ∷ []) ∷ [])))
 
--- E: 1, 1, 1; 1/1/10 2/1/4; 0: 2, 1: 2; size 5, rows 1, 1, distance 4.
+-- E: 1, 1, 1; 1/1/10 2/1/4; 0: 2, 1: 2; size 5, rows 1, 1, sent 2.
 abbrev pub E : Example
-E = line (cluster 1 1 1 (node 1 1 10 ∷ node 2 1 4 ∷ [])) ((2 ∷ []) ∷ (2 ∷ []) ∷ []) (planned 5 4 (named ((1 ∷ []) ∷ (1 ∷ []) ∷ [])))
+E = line (cluster 1 1 1 (node 1 1 10 ∷ node 2 1 4 ∷ [])) ((2 ∷ []) ∷ (2 ∷ []) ∷ []) (planned 5 2 (named ((1 ∷ []) ∷ (1 ∷ []) ∷ [])))
 
--- F: 1, 1, 1; 1/1/10 2/1/10; 0: 1, 1: 1; size 10, distance 2.
+-- F: 1, 1, 1; 1/1/10 2/1/10; 0: 1, 1: 1; size 10, sent 1.
 abbrev pub F : Example
-F = line (cluster 1 1 1 (node 1 1 10 ∷ node 2 1 10 ∷ [])) ((1 ∷ []) ∷ (1 ∷ []) ∷ []) (planned 10 2 unnamed)
+F = line (cluster 1 1 1 (node 1 1 10 ∷ node 2 1 10 ∷ [])) ((1 ∷ []) ∷ (1 ∷ []) ∷ []) (planned 10 1 unnamed)
 
 -- G: 2, 1, 1; 1/1/c; none; an outcome for each c.
 abbrev pub G : ℕ → Expected → Example
 G c o = line (cluster 2 1 1 (node 1 1 c ∷ [])) (noCopies 4) o
 
--- H: 0, 1, 1; 1/1/10; 0: 9; size 10, distance 2.
+-- H: 0, 1, 1; 1/1/10; 0: 9; size 10, sent 1.
 abbrev pub H : Example
-H = line (cluster 0 1 1 (node 1 1 10 ∷ [])) ((9 ∷ []) ∷ []) (planned 10 2 unnamed)
+H = line (cluster 0 1 1 (node 1 1 10 ∷ [])) ((9 ∷ []) ∷ []) (planned 10 1 unnamed)
 
--- I: 0, 1, 1; 1/1/5 2/1/5; 0: 1 2; size 5, distance 1.
+-- I: 0, 1, 1; 1/1/5 2/1/5; 0: 1 2; size 5, sent 0.
 abbrev pub I : Example
-I = line (cluster 0 1 1 (node 1 1 5 ∷ node 2 1 5 ∷ [])) ((1 ∷ 2 ∷ []) ∷ []) (planned 5 1 unnamed)
+I = line (cluster 0 1 1 (node 1 1 5 ∷ node 2 1 5 ∷ [])) ((1 ∷ 2 ∷ []) ∷ []) (planned 5 0 unnamed)
 
 abbrev pub nodesK : List Node
 nodesK = node 1 1 9 ∷ node 2 1 9 ∷ node 3 1 9 ∷ node 4 2 1 ∷ []
@@ -115,11 +116,11 @@ nodesK = node 1 1 9 ∷ node 2 1 9 ∷ node 3 1 9 ∷ node 4 2 1 ∷ []
 abbrev pub row123 : List ℕ
 row123 = 1 ∷ 2 ∷ 3 ∷ []
 
--- K: 0, 3, 2; 1/1/9 2/1/9 3/1/9 4/2/1; 0: 1 2 3; size 1, distance 2.
+-- K: 0, 3, 2; 1/1/9 2/1/9 3/1/9 4/2/1; 0: 1 2 3; size 1, sent 1.
 abbrev pub K : Example
-K = line (cluster 0 3 2 nodesK) (row123 ∷ []) (planned 1 2 unnamed)
+K = line (cluster 0 3 2 nodesK) (row123 ∷ []) (planned 1 1 unnamed)
 
--- L: 0, 3, 1; as K; as K; size 9, row 1 2 3, distance 0.
+-- L: 0, 3, 1; as K; as K; size 9, row 1 2 3, sent 0.
 abbrev pub L : Example
 L = line (cluster 0 3 1 nodesK) (row123 ∷ []) (planned 9 0 (named (row123 ∷ [])))
 

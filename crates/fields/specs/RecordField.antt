@@ -112,7 +112,7 @@ rules =
     ∷ rule nodeWidth nodeWidth 1
     -- "5 former row (2 + 4m: partition 2, then m rising ids, m from 1 to 8)"
     ∷ rule (rowWidth 1) (rowWidth mostCopies) 4
-    -- "6 size (4 bytes, at least 1), 7 distance (2, at most 4,096), 8 verdict (1: 1 finished, 0 stopped), 9 improvements (2, at most 2,048)"
+    -- "6 size (4 bytes, at least 1), 7 sent (2; 2026-01), 8 verdict (1: 1 finished, 0 stopped), 9 improvements (2, at most 2,048)"
     ∷ rule 4 4 1
     ∷ rule 2 2 1
     ∷ rule 1 1 1

@@ -66,7 +66,7 @@ const LEGAL: [Rule; 11] = [
         greatest: 4,
         step: 1,
     },
-    // 7 distance.
+    // 7 sent.
     Rule {
         least: 2,
         greatest: 2,

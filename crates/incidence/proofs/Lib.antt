@@ -1,7 +1,7 @@
 pub mod TieRows
 pub mod TieZones
 pub mod ZoneScan
-pub mod TieDistance
+pub mod TieSending
 pub mod TieLayouts
 pub mod Columns
 pub mod Examples

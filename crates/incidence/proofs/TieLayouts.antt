@@ -13,12 +13,12 @@ use Rattle.sums.proofs.Sum.{sum-cong, sum-le, sum-const}
 use Rattle.cells.proofs.Cells.{length-tab, getD-tab, tab-cong, tab-getD}
 use Rattle.exchange.specs.ModelRow.{Valid, copies, weigh, Within}
 use Rattle.exchange.proofs.Agreeing.{cover-cong, copies-cong, weigh-cong}
-use Rattle.cluster.specs.Terms.{Topology, partitions, noNode, nodeAt, idsOf, mem, rising, Layout, row, copiesIn, ValidRow, ValidAt, IsFormer, distance}
-use Rattle.incidence.specs.ModelIncidence.{zoneIndex, capAt, bitsOf, incidence, idsWhere, layoutOf, formerPairs}
+use Rattle.cluster.specs.Terms.{Topology, partitions, noNode, nodeAt, idsOf, mem, rising, Layout, row, copiesIn, ValidRow, ValidAt, sent}
+use Rattle.incidence.specs.ModelIncidence.{zoneIndex, capAt, bitsOf, incidence, idsWhere, layoutOf}
 use Rattle.sums.proofs.Tests.{one-if-le}
 use Rattle.incidence.proofs.TieRows.{row-length, copies-sum, where-known, where-rising, where-bits, where-row}
 use Rattle.incidence.proofs.TieZones.{zones-cover}
-use Rattle.incidence.proofs.TieDistance.{incidence-le, distance-law}
+use Rattle.incidence.proofs.TieSending.{incidence-le, sent-law}
 
 -- A layout made of 0/1 rows has a row for each partition.
 pub length-layout : (t : Topology) (S : ℕ → ℕ → ℕ) → length (layoutOf t S) ≡ partitions t
@@ -121,14 +121,13 @@ module _ (t : Topology) (ids : rising (idsOf (t .nodes)) ≡ true) where
       held : (b : ℕ) → b < length (t .nodes) → copies (partitions t) S b * s ≤ nodeAt t b .capacity
       held b h = takes-held (nodeAt t b) _ s .0 (takes-few (nodeAt t b) (copies (partitions t) S b) s l .1 (unfold capAt in omega (arith, w .caps b h)))
 
-  -- The distance of a layout made of valid 0/1 rows, and twice the agreement of its rows with the former layout, is all pairs of both.
-  pub distance-bits : (S : ℕ → ℕ → ℕ) (F : Layout)
-      → ((p : ℕ) → p < partitions t → Valid (length (t .nodes)) (t .replication) (t .redundancy) (zoneIndex t) (S p)) → IsFormer t F
-      → distance t (layoutOf t S) F + 2 * weigh (partitions t) (length (t .nodes)) (incidence t F) S
-      ≡ t .replication * partitions t + formerPairs t F
-  distance-bits S F v f =
-      ap (λ (k : ℕ). distance t (layoutOf t S) F + 2 * k) (sym same)
-      ∙ distance-law t (layoutOf t S) F ids (λ p h. subst (ValidRow t) (sym (row-layout t S p h)) (valid-ids (S p) (v p h))) (f .ids)
+  -- The copies that a layout made of valid 0/1 rows sends, and the agreement of its rows with the former layout, are all its copies.
+  pub sent-bits : (S : ℕ → ℕ → ℕ) (F : Layout)
+      → ((p : ℕ) → p < partitions t → Valid (length (t .nodes)) (t .replication) (t .redundancy) (zoneIndex t) (S p))
+      → sent t (layoutOf t S) F + weigh (partitions t) (length (t .nodes)) (incidence t F) S ≡ t .replication * partitions t
+  sent-bits S F v =
+      ap (λ (k : ℕ). sent t (layoutOf t S) F + k) (sym same)
+      ∙ sent-law t (layoutOf t S) F ids (λ p h. subst (ValidRow t) (sym (row-layout t S p h)) (valid-ids (S p) (v p h)))
     where
       same : weigh (partitions t) (length (t .nodes)) (incidence t F) (incidence t (layoutOf t S)) ≡ weigh (partitions t) (length (t .nodes)) (incidence t F) S
       same =

@@ -6,7 +6,7 @@ use mathlib.Core.List.{List, [], _∷_}
 use mathlib.Core.Bool.{Bool, cond}
 use lib.Dec.{eqb}
 use lib.ListN.{length, getD, replicate}
-use Rattle.sums.specs.TermsSums.{sumTo, one-if, tab}
+use Rattle.sums.specs.TermsSums.{one-if, tab}
 use Rattle.cells.specs.ModelCells.{put}
 use Rattle.cluster.specs.Terms.{mostNodes, Topology, partitions, noNode, nodeAt, Layout, row, mem}
 use Rattle.cluster.specs.declared.Node.{Node}
@@ -40,10 +40,6 @@ idsWhere (n ∷ ns) f = cond (eqb (f 0) 0) (idsWhere ns (λ i. f (suc i))) (n .i
 -- The layout of ids with the given 0/1 rows.
 unfoldable pub layoutOf : Topology → (ℕ → ℕ → ℕ) → Layout
 layoutOf t S = tab (λ p. idsWhere (t .nodes) (S p)) (partitions t)
-
--- All former pairs, those of gone nodes included.
-unfoldable pub formerPairs : Topology → Layout → ℕ
-formerPairs t F = sumTo (partitions t) (λ p. length (row F p))
 
 -- ---- columns: arrays with one number for each node in use, and zeros beyond
 

@@ -7,7 +7,7 @@ use mathlib.Core.List.{List, [], _∷_, _++_}
 use lib.Dec.{leb}
 use lib.ListN.{length, getD}
 use Rattle.cluster.specs.Terms.{mostBits, mostCopies, Layout, row, rising}
-use Rattle.cluster.specs.TermsReading.{mostSize, mostDistance, mostVerdict, mostImprovements}
+use Rattle.cluster.specs.TermsReading.{mostSize, mostSent, mostVerdict, mostImprovements}
 use Rattle.fields.specs.RecordField.{bytesOf, field, idBytes}
 use Rattle.layout_record.specs.declared.Numbers.{Numbers}
 use Rattle.layout_record.specs.declared.table.Entry.{Entry}
@@ -25,9 +25,10 @@ headTable =
     entry 1 1 0 mostBits
     -- "2 replication (1)", R from 1 to 8
     ∷ entry 2 1 1 mostCopies
-    -- "6 size (4 bytes, at least 1), 7 distance (2, at most 4,096), 8 verdict (1: 1 finished, 0 stopped), 9 improvements (2, at most 2,048)"
+    -- "6 size (4 bytes, at least 1)"; 7, of 2 bytes, is since 2026-01 "now `sent` .. Its ceiling becomes 2,048"; "8 verdict (1: 1 finished, 0 stopped),
+    -- 9 improvements (2, at most 2,048)"
     ∷ entry 6 4 1 mostSize
-    ∷ entry 7 2 0 mostDistance
+    ∷ entry 7 2 0 mostSent
     ∷ entry 8 1 0 mostVerdict
     ∷ entry 9 2 0 mostImprovements
     ∷ []
@@ -38,12 +39,12 @@ entryAt i = getD headTable i (entry 0 0 0 0)
 
 -- The numbers by name.
 abbrev pub numbersOf : ℕ → ℕ → ℕ → ℕ → ℕ → ℕ → Numbers
-numbersOf bits replication size distance verdict improvements =
-    record { bits = bits; replication = replication; size = size; distance = distance; verdict = verdict; improvements = improvements }
+numbersOf bits replication size sent verdict improvements =
+    record { bits = bits; replication = replication; size = size; sent = sent; verdict = verdict; improvements = improvements }
 
 -- The numbers in the order of the table,
 abbrev pub numbersIn : Numbers → List ℕ
-numbersIn n = n .bits ∷ n .replication ∷ n .size ∷ n .distance ∷ n .verdict ∷ n .improvements ∷ []
+numbersIn n = n .bits ∷ n .replication ∷ n .size ∷ n .sent ∷ n .verdict ∷ n .improvements ∷ []
 
 -- and back.
 abbrev pub numbersFrom : List ℕ → Numbers

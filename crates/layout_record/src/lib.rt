@@ -16,7 +16,7 @@ pub struct Numbers {
     pub bits: u32,
     pub replication: u32,
     pub size: u32,
-    pub distance: u32,
+    pub sent: u32,
     pub verdict: u32,
     pub improvements: u32,
 }
@@ -30,7 +30,7 @@ impl Numbers {
             bits: 0,
             replication: 0,
             size: 0,
-            distance: 0,
+            sent: 0,
             verdict: 0,
             improvements: 0,
         }

@@ -37,12 +37,12 @@ pub(crate) const HEAD: [Entry; 6] = [
         least: 1,
         most: Cluster::SIZE,
     },
-    // 7 distance.
+    // 7 sent.
     Entry {
         tag: 7,
         width: 2,
         least: 0,
-        most: Cluster::DISTANCE,
+        most: Cluster::SENT,
     },
     // 8 verdict.
     Entry {
@@ -88,7 +88,7 @@ pub fn numbers_in(n: Numbers) -> [u32; 6]
         n.bits,
         n.replication,
         n.size,
-        n.distance,
+        n.sent,
         n.verdict,
         n.improvements,
     ]
@@ -102,7 +102,7 @@ pub fn numbers_from(values: [u32; 6]) -> Numbers
         bits: values[0],
         replication: values[1],
         size: values[2],
-        distance: values[3],
+        sent: values[3],
         verdict: values[4],
         improvements: values[5],
     }

@@ -5,7 +5,7 @@ ghost use lib.ListN.{length};
 use layout_record::Numbers;
 use libc::STDOUT_FILENO;
 
-// A record of 55 bytes: two partitions, two copies, size 25, distance 4, finished, no improvements, rows 1 2 and 2 3.
+// A record of 55 bytes: two partitions, two copies, size 25, sent 4, finished, no improvements, rows 1 2 and 2 3.
 // A third row stands after it.
 fn sample() -> [u8; 68]
     ensures { λ r. ⌜ 68 ≡ length r ⌝ }
@@ -88,7 +88,7 @@ fn numbers() -> Numbers {
         bits: 1,
         replication: 2,
         size: 25,
-        distance: 4,
+        sent: 4,
         verdict: 1,
         improvements: 0,
     }
@@ -191,8 +191,8 @@ fn readings() {
     read_altered(b"bits 9", 2, 1, 9);
     read_altered(b"replication 9", 6, 1, 9);
     read_altered(b"size 0", 13, 0, 0);
-    read_altered(b"distance 4,096", 18, 16, 0);
-    read_altered(b"distance 4,097", 18, 16, 1);
+    read_altered(b"sent 2,048", 18, 8, 0);
+    read_altered(b"sent 2,049", 18, 8, 1);
     read_altered(b"verdict 2", 22, 1, 2);
     read_altered(b"improvements 2,048", 27, 8, 0);
     read_altered(b"improvements 2,049", 27, 8, 1);
@@ -221,9 +221,15 @@ fn writings() {
     let n = numbers();
     let mut none = n;
     none.size = 0;
+    let mut most = n;
+    most.sent = 2048;
+    let mut more = n;
+    more.sent = 2049;
     write_cell(b"write into 55 bytes", n, 0, 1, 55);
     write_cell(b"write into 54 bytes", n, 0, 1, 54);
     write_cell(b"write size 0", none, 0, 1, 68);
+    write_cell(b"write sent 2,048", most, 0, 1, 68);
+    write_cell(b"write sent 2,049", more, 0, 1, 68);
     write_cell(b"write row 2 2", n, 0, 2, 68);
     write_cell(b"write three ids", n, 2, 3, 68);
     write_cell(b"write a row past the last", n, 16, 5, 68);

@@ -1,29 +1,29 @@
--- What the models mean: a mask read from cells has the nodes that the row names, written cells are those of the layout of the masks, formed rows are a
--- former layout, and their ids are its pairs.
+-- What the models mean: a mask read from cells has the nodes that the row names, written cells are those of the layout of the masks, and formed rows
+-- are a former layout.
 -- Assumes nothing.
 use Prim.Native.Nat.{ℕ, _≤_, _<_, min}
-use mathlib.Core.Path.{_≡_, sym, ap, ap₂, _∙_}
+use mathlib.Core.Path.{_≡_, ap, ap₂, _∙_}
 use mathlib.Core.List.{List, _++_}
 use mathlib.Core.Bool.{Bool, true, _&&_, cond}
 use native.Mathlib.Omega.{arith}
 use lib.Dec.{ltb, leb}
 use lib.ListN.{length, take, drop, getD}
 use lib.Seq.{take-all}
-use borrow.Author.Tests.{ltb-true, leb-true, lt-ltb, le-leb}
+use borrow.Author.Tests.{ltb-true, lt-ltb, le-leb}
 use Rattle.sums.specs.TermsSums.{sumTo, everyTo}
 use Rattle.sums.proofs.Sum.{sum-cong}
 use Rattle.sets.specs.ModelBits.{bit, maskOf}
 use Rattle.sets.proofs.Laws.{bit-le}
 use Rattle.cells.proofs.Cells.{tab-cong}
-use Rattle.cluster.specs.Terms.{rowCells, bufferRows, layoutCells, Topology, partitions, idsOf, rising, Layout, row, IsFormer, cellsOf, rowAt, idsIn, formed, rowsIn}
+use Rattle.cluster.specs.Terms.{rowCells, bufferRows, layoutCells, Topology, partitions, idsOf, rising, Layout, IsFormer, cellsOf, rowAt, idsIn, formed, rowsIn}
 use Rattle.cluster.specs.ModelRows.{HoldsRows, illFormed, hasRow, rowIds}
-use Rattle.incidence.specs.ModelIncidence.{bitsOf, idsWhere, layoutOf, formerPairs}
+use Rattle.incidence.specs.ModelIncidence.{bitsOf, idsWhere, layoutOf}
 use Rattle.cluster.specs.declared.Node.{Node}
 use Rattle.sums.proofs.Tests.{both, every-at, every-all}
 use Rattle.cluster.proofs.CellRows.{formed-rising}
 use Rattle.cluster.proofs.CellLayouts.{few-ids, length-rowsIn, row-rowsIn}
 use Rattle.cluster.proofs.RowScans.{row-ids-formed, hold-ids}
-use Rattle.masks.specs.ModelMasks.{named, rowMask, rowsWhere, cellsWritten, idsTotal, rowsFormed}
+use Rattle.masks.specs.ModelMasks.{named, rowMask, rowsWhere, cellsWritten, rowsFormed}
 use Rattle.masks.proofs.Named.{named-bits}
 use Rattle.masks.proofs.Where.{where-length}
 
@@ -45,11 +45,6 @@ formed-each cells n p h l =
     row-ids-formed cells p
     (ltb-true (rowIds cells p) illFormed
     (every-at n p (λ q. ltb (rowIds cells q) illFormed) (both (leb n bufferRows) (everyTo n (λ q. ltb (rowIds cells q) illFormed)) h .1) l))
-
--- They are no more rows than a buffer has.
-pub formed-few : (cells : List ℕ) (n : ℕ) → rowsFormed cells n ≡ true → n ≤ bufferRows
-unfolding rowsFormed
-formed-few cells n h = leb-true n bufferRows (both (leb n bufferRows) (everyTo n (λ q. ltb (rowIds cells q) illFormed)) h .0)
 
 -- Cells that hold n rows pass the test.
 pub holds-formed : (n : ℕ) (cells : List ℕ) → HoldsRows n cells → rowsFormed cells n ≡ true
@@ -94,11 +89,3 @@ module _ (t : Topology) (cells : List ℕ) (h : rowsFormed cells (partitions t) 
     ids = λ p l. ap rising (row-rowsIn (partitions t) cells p l) ∙ formed-rising 0 (rowAt cells p) (formed-each cells (partitions t) p h l .1);
     few = λ p l. omega (arith, ap length (row-rowsIn (partitions t) cells p l), few-ids cells p);
   }
-
-  -- Their ids are its pairs.
-  pub ids-pairs : idsTotal cells (partitions t) ≡ formerPairs t (rowsIn (partitions t) cells)
-  unfolding idsTotal formerPairs
-  ids-pairs =
-      ap (λ (b : Bool). cond b (sumTo (partitions t) (λ p. rowIds cells p)) 0) (le-leb (partitions t) bufferRows (formed-few cells (partitions t) h))
-      ∙ sum-cong (partitions t) (λ p. rowIds cells p) (λ p. length (row (rowsIn (partitions t) cells) p))
-      (λ p l. sym (ap length (row-rowsIn (partitions t) cells p l) ∙ formed-each cells (partitions t) p h l .2))

@@ -2,4 +2,3 @@ pub mod Named
 pub mod Where
 pub mod Written
 pub mod Laws
-pub mod Rows

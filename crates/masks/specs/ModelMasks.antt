@@ -6,7 +6,7 @@ use mathlib.Core.List.{List, [], _∷_, _++_}
 use mathlib.Core.Bool.{Bool, _&&_, cond}
 use lib.Dec.{ltb, leb}
 use lib.ListN.{length, take, drop, getD}
-use Rattle.sums.specs.TermsSums.{sumTo, everyTo, tab}
+use Rattle.sums.specs.TermsSums.{everyTo, tab}
 use Rattle.sums.specs.ModelSums.{is}
 use Rattle.sets.specs.ModelBits.{bit}
 use Rattle.cluster.specs.Terms.{rowCells, bufferRows, layoutCells, noNode, Layout, rowAt, idsIn, cellsOf}
@@ -51,10 +51,6 @@ cellsWritten ns masks n cells =
     cond (leb n bufferRows && (leb n (length masks) && leb layoutCells (length cells))) (cellsOf (rowsWhere ns masks n) ++ drop layoutCells cells) cells
 
 -- ---- the rows of cells
-
--- How many ids the first n rows have, each row that is ill formed or not there counted as nine; 0 where n is more than a buffer has rows.
-unfoldable pub idsTotal : List ℕ → ℕ → ℕ
-idsTotal cells n = cond (leb n bufferRows) (sumTo n (λ p. rowIds cells p)) 0
 
 -- Whether the first n rows are there, n at most as many as a buffer has, and each is rising ids followed by zeros.
 unfoldable pub rowsFormed : List ℕ → ℕ → Bool

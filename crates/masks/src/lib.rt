@@ -4,13 +4,13 @@ ghost use Prim.Native.Nat.{ℕ, _+_, _<_, _≤_};
 ghost use mathlib.Core.List.{List};
 ghost use lib.ListN.{length, take, drop, getD};
 ghost use lib.Dec.{ltb};
-ghost use mathlib.Core.Bool.{true, cond};
+ghost use mathlib.Core.Bool.{cond};
 ghost use Rattle.sets.specs.ModelBits.{bit};
 ghost use Rattle.cells.specs.ModelCells.{put};
 ghost use Rattle.cluster.specs.Terms.{mostNodes, rowCells, topology, idsIn};
 ghost use Rattle.cluster.specs.declared.Node.{Node};
 ghost use Rattle.incidence.specs.ModelIncidence.{idsWhere};
-ghost use Rattle.masks.specs.ModelMasks.{idCells, named, rowMask, masksRead, cellsWritten, idsTotal, rowsFormed};
+ghost use Rattle.masks.specs.ModelMasks.{idCells, named, rowMask, masksRead, cellsWritten, rowsFormed};
 use cluster::Cluster;
 use cluster::rows;
 use incidence::zones;
@@ -119,21 +119,6 @@ pub fn read_masks(c: Cluster, cells: &[u32], partitions: usize, masks: &mut [u32
         masks[p] = mask_of(&ids, n, cells, p);
         p += 1;
     }
-}
-
-// How many ids the first `partitions` rows have, each of which is rising ids followed by zeros: its cells that are not 0.
-pub fn count_ids(cells: &[u32], partitions: usize) -> u32
-    requires { ⌜ rowsFormed (now cells) partitions ≡ true ⌝ }
-    ensures { λ r. ⌜ r ≡ idsTotal (now (cells .entry)) partitions ⌝ }
-{
-    let n = partitions * Cluster::ROW;
-    let mut total = 0;
-    let mut i = 0;
-    while i < n {
-        total += if cells[i] == 0 { 0 } else { 1 };
-        i += 1;
-    }
-    total
 }
 
 // Whether the first `partitions` rows are there, at most as many as a buffer has, and each is rising ids followed by zeros.

@@ -26,7 +26,7 @@ pub(crate) fn refused(refusal: u32) {
 // The lines of the numbers and of the verdict.
 pub(crate) fn numbers(made: Planned) {
     line(b"size ", made.size);
-    line(b"distance ", made.distance);
+    line(b"sent ", made.sent);
     line(b"improvements ", made.improvements);
     if made.finished {
         io::write_all(STDOUT_FILENO, b"finished\n");

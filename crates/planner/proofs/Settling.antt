@@ -1,7 +1,7 @@
 -- What settling a plan rests on, over plain lists and numbers: the run is the one of the definition, what is subtracted is there, and the
 -- answer and the cells are those of the definition.
 -- Assumes nothing.
-use Prim.Native.Nat.{ℕ, _+_, _-_, _*_, _≤_, _<_}
+use Prim.Native.Nat.{ℕ, _-_, _*_, _≤_, _<_}
 use mathlib.Core.Path.{_≡_, sym, ap, _∙_, subst}
 use mathlib.Core.Bool.{Bool, true}
 use mathlib.Core.List.{List, _++_}
@@ -12,22 +12,21 @@ use borrow.Author.Tests.{le-ltb, le-leb}
 use Rattle.sets.specs.ModelBits.{maskOf}
 use Rattle.sets.proofs.Laws.{mask-cong}
 use Rattle.cells.proofs.Cells.{tab-cong}
-use Rattle.cluster.specs.Terms.{bufferRows, layoutCells, mostCopies, Topology, topology, partitions, Layout, IsFormer, rowsIn, cellsOf, rowAt, idsIn, faultOf}
+use Rattle.cluster.specs.Terms.{bufferRows, layoutCells, mostCopies, Topology, topology, partitions, Layout, rowsIn, cellsOf, rowAt, idsIn, faultOf}
 use Rattle.cluster.specs.TermsReading.{Accepted, Fits32}
-use Rattle.incidence.specs.ModelIncidence.{bitsOf, incidence, formerPairs, zoneCells}
+use Rattle.incidence.specs.ModelIncidence.{bitsOf, incidence, zoneCells}
 use Rattle.cluster.specs.declared.Cluster.{Cluster}
 use Rattle.cluster.proofs.Accepting.{few-partitions, accepted}
 use Rattle.cluster.proofs.CellLayouts.{row-rowsIn}
-use Rattle.incidence.proofs.TieDistance.{former-few}
-use Rattle.masks.specs.ModelMasks.{masksRead, rowMask, cellsWritten, idsTotal, rowsFormed}
-use Rattle.masks.proofs.Laws.{mask-bits, formed-each, formed-former, ids-pairs, written-layout}
+use Rattle.masks.specs.ModelMasks.{masksRead, rowMask, cellsWritten, rowsFormed}
+use Rattle.masks.proofs.Laws.{mask-bits, formed-each, written-layout}
 use Rattle.sizing.specs.ModelSizing.{nodesOf, mateCells, capCells, sizeOf, dealtIn}
 use Rattle.sizing.proofs.Reading.{deal-in, deal-length}
 use Rattle.improve.specs.ModelRun.{Ran}
 use Rattle.agreement.specs.ModelAgreement.{agreementIn, sharedIn}
 use Rattle.steps.specs.ModelSteps.{State}
 use Rattle.improve.specs.ModelImprove.{ranIn}
-use Rattle.planning.specs.ModelPlan.{formerMasks, dealtAt, startRows, ranFrom, layoutRows, farRows, planFrom, planOf}
+use Rattle.planning.specs.ModelPlan.{formerMasks, dealtAt, startRows, ranFrom, layoutRows, sentRows, planFrom, planOf}
 use Rattle.planner.specs.TermsPlan.{planIn, answered}
 use Rattle.planner.specs.declared.Planned.{Planned}
 use Rattle.improve.proofs.Ground.{run-good}
@@ -87,9 +86,6 @@ module _ (c : Cluster) (former : List ℕ) (a size P : ℕ) (before rows : List 
     acc : Accepted t
     acc = accepted c e
 
-    fo : IsFormer t F
-    fo = formed-former t former formed
-
     has-size : 1 ≤ sizeOf t
     has-size = omega (arith, es)
 
@@ -125,38 +121,33 @@ module _ (c : Cluster) (former : List ℕ) (a size P : ℕ) (before rows : List 
     unfolding ranFrom
     good = subst (GoodRows t) (sym rows-are) (run-good (ground t acc F) (startRows t) (start-good t acc has-size) a .good)
 
-    ids-are : idsTotal former P ≡ formerPairs t F
-    ids-are = ap (idsTotal former) eP ∙ ids-pairs t former formed
-
     agreement-is : agreementIn rows before P ≡ agreementIn rows (formerMasks t F) (partitions t)
     agreement-is = λ i. agreementIn rows (before-is i) (eP i)
 
-    -- What measuring asks for is there.
-    pub measurable : (c .replication ≤ mostCopies) × (P ≤ bufferRows) × (P ≤ length before) × (P ≤ length rows) × (idsTotal former P ≤ layoutCells)
-        × (2 * agreementIn rows before P ≤ c .replication * P + idsTotal former P) × (rowsFormed former P ≡ true)
-    measurable = (
+    -- What counting asks for is there.
+    pub countable : (c .replication ≤ mostCopies) × (P ≤ bufferRows) × (P ≤ length before) × (P ≤ length rows)
+        × (agreementIn rows before P ≤ c .replication * P)
+    countable = (
       acc .replication .1,
       omega (arith, eP, few-partitions (t .bits) (acc .bits)),
       omega (arith, eP, ap length before-is, fm-long t acc F),
       omega (arith, eP, good .long),
-      omega (arith, ids-are, former-few t F fo, few-partitions (t .bits) (acc .bits)),
-      omega (arith, ids-are, agreement-is, ap (λ (n : ℕ). c .replication * n) eP, measure t acc F fo rows good),
-      ap (rowsFormed former) eP ∙ formed,
+      omega (arith, agreement-is, ap (λ (n : ℕ). c .replication * n) eP, measure t acc F rows good),
     )
 
     -- The answer is that of the definition.
-    pub answer-is : (d : ℕ) → d ≡ c .replication * P + idsTotal former P - 2 * agreementIn rows before P → (f : Bool) → f ≡ ranFrom t size before (dealtAt t size) a .finished
+    pub answer-is : (d : ℕ) → d ≡ c .replication * P - agreementIn rows before P → (f : Bool) → f ≡ ranFrom t size before (dealtAt t size) a .finished
         → (s : ℕ) → s ≡ ranFrom t size before (dealtAt t size) a .steps
-        → _≡_ {A = Planned} (record { refusal = 0; size = size; distance = d; finished = f; improvements = s }) (answered (planIn c former a))
-    unfolding planOf planFrom farRows ranFrom ranIn
+        → _≡_ {A = Planned} (record { refusal = 0; size = size; sent = d; finished = f; improvements = s }) (answered (planIn c former a))
+    unfolding planOf planFrom sentRows ranFrom ranIn
     answer-is d ed f ef s es′ =
-        λ i. record { refusal = 0; size = es i; distance = far i; finished = (ef ∙ ap (λ (r : Ran State). r .finished) ran-is) i; improvements = (es′ ∙ ap (λ (r : Ran State). r .steps) ran-is) i }
+        λ i. record { refusal = 0; size = es i; sent = sends i; finished = (ef ∙ ap (λ (r : Ran State). r .finished) ran-is) i; improvements = (es′ ∙ ap (λ (r : Ran State). r .steps) ran-is) i }
       where
-        far : d ≡ farRows t F (ran .state .rows)
-        far =
+        sends : d ≡ sentRows t F (ran .state .rows)
+        sends =
             ed
-            ∙ ((λ i. c .replication * eP i + ids-are i - 2 * agreement-is i)
-            ∙ ap (λ (l : List ℕ). c .replication * partitions t + formerPairs t F - 2 * agreementIn l (formerMasks t F) (partitions t)) rows-are)
+            ∙ ((λ i. c .replication * eP i - agreement-is i)
+            ∙ ap (λ (l : List ℕ). c .replication * partitions t - agreementIn l (formerMasks t F) (partitions t)) rows-are)
 
     -- The cells written are those of its layout.
     pub cells-are : (cells : List ℕ) → layoutCells ≤ length cells

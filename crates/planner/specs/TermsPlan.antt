@@ -32,10 +32,10 @@ planIn c former a = planOf (topology c) (rowsIn (partitions (topology c)) former
 
 -- "every number for which nothing is laid down here is 0"
 abbrev pub refusedWith : ℕ → Planned
-refusedWith n = record { refusal = n; size = 0; distance = 0; finished = false; improvements = 0 }
+refusedWith n = record { refusal = n; size = 0; sent = 0; finished = false; improvements = 0 }
 
 abbrev pub answered : Answer → Planned
-answered x = record { refusal = 0; size = x .size; distance = x .distance; finished = x .finished; improvements = x .improvements }
+answered x = record { refusal = 0; size = x .size; sent = x .sent; finished = x .finished; improvements = x .improvements }
 
 -- What planning answers, for every cluster, former layout, allowance and length of the other buffers.
 unfoldable pub plannedOf : Cluster → List ℕ → ℕ → ℕ → ℕ → Planned

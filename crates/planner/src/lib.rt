@@ -14,7 +14,7 @@ mod settle;
 pub struct Planned {
     pub refusal: u32,
     pub size: u32,
-    pub distance: u32,
+    pub sent: u32,
     pub finished: bool,
     pub improvements: u32,
 }
@@ -26,14 +26,14 @@ fn refused(number: u32) -> Planned
     Planned {
         refusal: number,
         size: 0,
-        distance: 0,
+        sent: 0,
         finished: false,
         improvements: 0,
     }
 }
 
-// The plan of a cluster: the largest size, and a layout of that size that is nearest to the former one, or as near as the allowance of
-// improvements brings it. The assignment takes the layout. The run works in the scratch, all of which is zeroed at the end.
+// The plan of a cluster: the largest size, and a layout of that size that sends the fewest copies, or as few as the allowance of
+// improvements brings it to. The assignment takes the layout. The run works in the scratch, all of which is zeroed at the end.
 pub fn plan(
     c: Cluster,
     former: &[u32],

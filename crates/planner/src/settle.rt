@@ -1,11 +1,11 @@
-// The plan of a cluster that has a layout: the run from the dealt beginning, its cells, and how far it is from the former layout.
+// The plan of a cluster that has a layout: the run from the dealt beginning, its cells, and how many copies it sends.
 ghost use mathlib.Core.Path.{_≡_};
 ghost use mathlib.Core.Bool.{true};
 ghost use mathlib.Core.List.{_++_};
-ghost use Prim.Native.Nat.{_+_, _-_, _*_, _≤_};
+ghost use Prim.Native.Nat.{_-_, _*_, _≤_};
 ghost use lib.ListN.{length, drop, replicate};
 ghost use Rattle.cluster.specs.Terms.{bufferRows, layoutCells, mostCopies, topology, partitions, cellsOf, faultOf};
-ghost use Rattle.masks.specs.ModelMasks.{rowsFormed, idsTotal};
+ghost use Rattle.masks.specs.ModelMasks.{rowsFormed};
 ghost use Rattle.cluster.specs.TermsReading.{Fits32};
 ghost use Rattle.sizing.specs.ModelSizing.{sizeOf};
 ghost use Rattle.graph.specs.ModelKept.{keptCells};
@@ -51,24 +51,14 @@ pub(crate) fn improved(
     )
 }
 
-// How far the layout of the rows is from the former one: the pairs of either, less those of both twice.
-pub(crate) fn measured(
-    replication: u32,
-    former: &[u32],
-    before: &[u32],
-    rows: &[u32],
-    partitions: usize,
-) -> u32
+// What the layout of the rows sends: all its copies but those that the former layout has.
+pub(crate) fn sent(replication: u32, before: &[u32], rows: &[u32], partitions: usize) -> u32
     requires { ⌜ (replication ≤ mostCopies) × (partitions ≤ bufferRows) × (partitions ≤ length (now before)) × (partitions ≤ length (now rows))
-        × (idsTotal (now former) partitions ≤ layoutCells)
-        × (2 * agreementIn (now rows) (now before) partitions ≤ replication * partitions + idsTotal (now former) partitions)
-        × (rowsFormed (now former) partitions ≡ true) ⌝ }
-    ensures { λ r. ⌜ r ≡ replication * partitions + idsTotal (now (former .entry)) partitions
-        - 2 * agreementIn (now (rows .entry)) (now (before .entry)) partitions ⌝ }
+        × (agreementIn (now rows) (now before) partitions ≤ replication * partitions) ⌝ }
+    ensures { λ r. ⌜ r ≡ replication * partitions - agreementIn (now (rows .entry)) (now (before .entry)) partitions ⌝ }
 {
-    let pairs = masks::count_ids(former, partitions);
     let shared = agreement::agreement(rows, before, partitions);
-    replication * (partitions as u32) + pairs - 2 * shared
+    replication * (partitions as u32) - shared
 }
 
 // The plan of a cluster that has a layout; `kept` is room for the run.
@@ -92,11 +82,11 @@ pub(crate) fn settle(
     let mut rows = [0u32; Cluster::PARTITIONS];
     let ended = improved(c, size, &before, allowance, &mut rows, kept);
     masks::write_cells(c, &rows, partitions, assignment);
-    let distance = measured(c.replication, former, &before, &rows, partitions);
+    let sent = sent(c.replication, &before, &rows, partitions);
     Planned {
         refusal: 0,
         size,
-        distance,
+        sent,
         finished: ended.finished,
         improvements: ended.improvements,
     }

@@ -1,3 +1,4 @@
 pub mod Rules
+pub mod Distances
 pub mod Machines
 pub mod Demands

@@ -1,5 +1,5 @@
 -- The states of planning are a machine that improves layouts, from any good first rows: the cluster is a ground of improvements, and the pairs that
--- rows share with the former ones tell how far their layout is from the former layout.
+-- rows share with the former ones tell how many copies their layout sends.
 -- Assumes nothing.
 use Prim.Native.Nat.{ℕ, _+_, _*_, _^_, _≤_, _<_}
 use mathlib.Core.Path.{_≡_, refl, sym, ap, _∙_, subst}
@@ -11,18 +11,17 @@ use lib.ListN.{length, drop, replicate, length-replicate, length-append, List·g
 use lib.Pow.{pow-pos}
 use Rattle.cluster.proofs.Accepting.{few-partitions}
 use Rattle.sums.specs.TermsSums.{one-if, tab}
-use Rattle.sums.proofs.Sum.{sum-zero}
 use Rattle.sets.specs.ModelBits.{bit, bitsAt, maskOf}
 use Rattle.sets.proofs.Laws.{mask-lt, bit-maskOf}
 use Rattle.cells.proofs.Cells.{length-tab, getD-tab}
 use Rattle.exchange.specs.ModelRow.{weigh}
 use Rattle.exchange.proofs.Agreeing.{weigh-cong, within-cong}
-use Rattle.cluster.specs.Terms.{bufferRows, Topology, partitions, nodeAt, mem, Layout, row, ValidAt, IsFormer, distance}
+use Rattle.cluster.specs.Terms.{bufferRows, Topology, partitions, nodeAt, mem, Layout, row, ValidAt, sent}
 use Rattle.cluster.specs.TermsReading.{mostImprovements, Accepted, Fits32}
-use Rattle.incidence.specs.ModelIncidence.{zoneIndex, capAt, incidence, formerPairs, zoneCells}
+use Rattle.incidence.specs.ModelIncidence.{zoneIndex, capAt, incidence, zoneCells}
 use Rattle.incidence.proofs.TieZones.{zone-below}
-use Rattle.incidence.proofs.TieDistance.{incidence-le, distance-law}
-use Rattle.incidence.proofs.TieLayouts.{distance-bits, within-of-valid, valid-of-within}
+use Rattle.incidence.proofs.TieSending.{incidence-le, sent-law}
+use Rattle.incidence.proofs.TieLayouts.{sent-bits, within-of-valid, valid-of-within}
 use Rattle.incidence.proofs.Columns.{cell-column}
 use Rattle.sizing.specs.ModelSizing.{nodesOf, capCells, sizeOf, dealtBits, dealtRows}
 use Rattle.sizing.proofs.Sizes.{size-is, beginning-within}
@@ -31,7 +30,7 @@ use Rattle.agreement.specs.ModelAgreement.{agreementIn}
 use Rattle.steps.specs.ModelSteps.{State}
 use Rattle.improve.specs.ModelImprove.{begun, ranIn}
 use Rattle.improve.proofs.Ground.{Ground, Good, GoodState, agreement-weighs, begun-good, next-good, next-gains, none-heavier, none-former, run-finishes}
-use Rattle.planning.specs.ModelPlan.{matesOf, formerMasks, startRows, layoutRows, farRows, layoutAt, farAt, improvesAt, nextAt}
+use Rattle.planning.specs.ModelPlan.{matesOf, formerMasks, startRows, layoutRows, sentRows, layoutAt, sentAt, improvesAt, nextAt}
 use Rattle.planning.proofs.Rules.{Machine}
 
 -- Rows of nodes of the cluster, within the caps at its size.
@@ -107,64 +106,62 @@ module _ (t : Topology) (acc : Accepted t) where
     abbrev pub GoodAt : State → Type 0
     GoodAt = GoodState P N R (t .redundancy) (zoneIndex t) (capAt t (sizeOf t)) fm
 
-    -- ---- how far rows are
+    -- ---- what rows send
 
-    module _ (fo : IsFormer t F) where
-      -- The distance and twice the pairs shared make up the pairs of both layouts.
-      pub measure : (rows : List ℕ) → GoodRows t rows → distance t (layoutRows t rows) F + 2 * agreementIn rows fm P ≡ R * P + formerPairs t F
-      unfolding layoutRows
-      measure rows g =
-          omega (arith, agreement-weighs ground rows g, same-weight (bitsAt rows), distance-bits t (acc .ids) (bitsAt rows) F (g .within .rows) fo)
+    -- What is sent and the pairs shared make up all copies.
+    pub measure : (rows : List ℕ) → GoodRows t rows → sent t (layoutRows t rows) F + agreementIn rows fm P ≡ R * P
+    unfolding layoutRows
+    measure rows g = omega (arith, agreement-weighs ground rows g, same-weight (bitsAt rows), sent-bits t (acc .ids) (bitsAt rows) F (g .within .rows))
 
-      far-is : (rows : List ℕ) → GoodRows t rows → farRows t F rows ≡ distance t (layoutRows t rows) F
-      unfolding farRows
-      far-is rows g = omega (arith, measure rows g)
+    sent-is : (rows : List ℕ) → GoodRows t rows → sentRows t F rows ≡ sent t (layoutRows t rows) F
+    unfolding sentRows
+    sent-is rows g = omega (arith, measure rows g)
 
-      -- Where a state cannot be improved, no layout is nearer.
-      none-nearer : (s : State) → GoodAt s → improvesAt t F s ≡ false → (L : Layout) → ValidAt t L (sizeOf t) → farAt t F s ≤ distance t L F
-      none-nearer s g e L v =
-          omega (
-            arith,
-            far-is (s .rows) (g .good),
-            measure (s .rows) (g .good),
-            none-heavier ground s g e (incidence t L) (within-of-valid t (acc .ids) L (sizeOf t) v),
-            same-weight (incidence t L),
-            distance-law t L F (acc .ids) (v .rows) (fo .ids),
-          )
+    -- Where a state cannot be improved, no layout sends less.
+    none-less : (s : State) → GoodAt s → improvesAt t F s ≡ false → (L : Layout) → ValidAt t L (sizeOf t) → sentAt t F s ≤ sent t L F
+    none-less s g e L v =
+        omega (
+          arith,
+          sent-is (s .rows) (g .good),
+          measure (s .rows) (g .good),
+          none-heavier ground s g e (incidence t L) (within-of-valid t (acc .ids) L (sizeOf t) v),
+          same-weight (incidence t L),
+          sent-law t L F (acc .ids) (v .rows),
+        )
 
-      -- Without former copies nothing is to be improved.
-      blank : (s : State) → GoodAt s → ((p : ℕ) → p < P → row F p ≡ []) → (improvesAt t F s ≡ false) × (farAt t F s ≡ R * P)
-      unfolding incidence mem one-if formerPairs farRows
-      blank s g h =
-          let w = none-former ground s g (λ p b l k. fm-bit p l b k ∙ ap (λ (r : List ℕ). one-if (mem (nodeAt t b .id) r)) (h p l)) in
-          (w .0, omega (arith, w .1, sum-zero P (λ p. length (row F p)) (λ p l. ap length (h p l))))
+    -- Without former copies nothing is to be improved.
+    blank : (s : State) → GoodAt s → ((p : ℕ) → p < P → row F p ≡ []) → (improvesAt t F s ≡ false) × (sentAt t F s ≡ R * P)
+    unfolding incidence mem one-if sentRows
+    blank s g h =
+        let w = none-former ground s g (λ p b l k. fm-bit p l b k ∙ ap (λ (r : List ℕ). one-if (mem (nodeAt t b .id) r)) (h p l)) in
+        (w .0, omega (arith, w .1))
 
-      -- One improvement brings the layout nearer by twice the number of nodes at most ..
-      bounded : (s : State) → GoodAt s → improvesAt t F s ≡ true → farAt t F s ≤ farAt t F (nextAt t F s) + 2 * N
-      bounded s g e =
-          let n = next-good ground s g e .good in
-          omega (arith, next-gains ground s g e .1, far-is (s .rows) (g .good), measure (s .rows) (g .good), far-is _ n, measure _ n)
+    -- One improvement saves as many copies as there are nodes at most ..
+    bounded : (s : State) → GoodAt s → improvesAt t F s ≡ true → sentAt t F s ≤ sentAt t F (nextAt t F s) + N
+    bounded s g e =
+        let n = next-good ground s g e .good in
+        omega (arith, next-gains ground s g e .1, sent-is (s .rows) (g .good), measure (s .rows) (g .good), sent-is _ n, measure _ n)
 
-      -- .. and by two at least.
-      falls : (s : State) → GoodAt s → improvesAt t F s ≡ true → farAt t F (nextAt t F s) + 2 ≤ farAt t F s
-      falls s g e =
-          let n = next-good ground s g e .good in
-          omega (arith, next-gains ground s g e .0, far-is (s .rows) (g .good), measure (s .rows) (g .good), far-is _ n, measure _ n)
+    -- .. and one at least.
+    falls : (s : State) → GoodAt s → improvesAt t F s ≡ true → sentAt t F (nextAt t F s) + 1 ≤ sentAt t F s
+    falls s g e =
+        let n = next-good ground s g e .good in
+        omega (arith, next-gains ground s g e .0, sent-is (s .rows) (g .good), measure (s .rows) (g .good), sent-is _ n, measure _ n)
 
-      -- From good first rows the states of planning are a machine that improves layouts.
-      pub machine : Fits32 t → 1 ≤ sizeOf t → (start : List ℕ) → GoodRows t start
-          → Machine t F (sizeOf t) (improvesAt t F) (nextAt t F) (layoutAt t) (farAt t F) (begun start) GoodAt
-      unfolding ranIn
-      machine low large start g =
-          record {
-            sized = size-is t acc low large;
-            starts = begun-good ground start g;
-            stays = next-good ground;
-            valid = λ x h. unfold layoutRows in valid-of-within t (acc .ids) (bitsAt (x .rows)) (sizeOf t) large (h .good .within);
-            measured = λ x h. far-is (x .rows) (h .good);
-            falls = falls;
-            bounded = bounded;
-            nearest = none-nearer;
-            enough = run-finishes ground start g mostImprovements (mul-le-mul (few-partitions (t .bits) (acc .bits)) (acc .replication .1));
-            blank = blank (begun start) (begun-good ground start g);
-          }
+    -- From good first rows the states of planning are a machine that improves layouts.
+    pub machine : Fits32 t → 1 ≤ sizeOf t → (start : List ℕ) → GoodRows t start
+        → Machine t F (sizeOf t) (improvesAt t F) (nextAt t F) (layoutAt t) (sentAt t F) (begun start) GoodAt
+    unfolding ranIn
+    machine low large start g =
+        record {
+          sized = size-is t acc low large;
+          starts = begun-good ground start g;
+          stays = next-good ground;
+          valid = λ x h. unfold layoutRows in valid-of-within t (acc .ids) (bitsAt (x .rows)) (sizeOf t) large (h .good .within);
+          measured = λ x h. sent-is (x .rows) (h .good);
+          falls = falls;
+          bounded = bounded;
+          nearest = none-less;
+          enough = run-finishes ground start g mostImprovements (mul-le-mul (few-partitions (t .bits) (acc .bits)) (acc .replication .1));
+          blank = blank (begun start) (begun-good ground start g);
+        }

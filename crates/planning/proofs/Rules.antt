@@ -8,7 +8,7 @@ use mathlib.Core.Logic.{_⊎_, ⊎-elim}
 use native.Mathlib.Omega.{arith}
 use lib.ListN.{length}
 use Rattle.sums.proofs.Sum.{lt-or-ge}
-use Rattle.cluster.specs.Terms.{Topology, partitions, Layout, row, ValidAt, IsSize, distance}
+use Rattle.cluster.specs.Terms.{Topology, partitions, Layout, row, ValidAt, IsSize, sent}
 use Rattle.improve.specs.ModelRun.{Ran, run}
 use Rattle.cluster.specs.TermsReading.{mostImprovements}
 use Rattle.planning.specs.Demand.{Answer, Rules}
@@ -16,54 +16,54 @@ use Rattle.planning.specs.ModelPlan.{reached, answerAt}
 use Rattle.sums.proofs.Tests.{true-or-false}
 use Rattle.improve.proofs.Runs.{not-both, run-is, run-none, run-keeps, stopped-improves, finished-done, stopped-spent, finished-larger, finished-smallest, stopped-next}
 
-module _ (t : Topology) (F : Layout) (s : ℕ) {A : Type 0} (improves : A → Bool) (next : A → A) (lay : A → Layout) (far : A → ℕ) (start : A) (Good : A → Type 0) where
-  -- States that stand for layouts valid at the size s: an improvement brings the layout nearer, and where there is none, no layout is nearer.
+module _ (t : Topology) (F : Layout) (s : ℕ) {A : Type 0} (improves : A → Bool) (next : A → A) (lay : A → Layout) (sends : A → ℕ) (start : A) (Good : A → Type 0) where
+  -- States that stand for layouts valid at the size s: an improvement lowers what is sent, and where there is none, no layout sends less.
   pub record Machine : Type 0 where
     pub sized : IsSize t s
     pub starts : Good start
     pub stays : (x : A) → Good x → improves x ≡ true → Good (next x)
     pub valid : (x : A) → Good x → ValidAt t (lay x) s
-    pub measured : (x : A) → Good x → far x ≡ distance t (lay x) F
-    pub falls : (x : A) → Good x → improves x ≡ true → far (next x) + 2 ≤ far x
-    pub bounded : (x : A) → Good x → improves x ≡ true → far x ≤ far (next x) + 2 * length (t .nodes)
-    pub nearest : (x : A) → Good x → improves x ≡ false → (L : Layout) → ValidAt t L s → far x ≤ distance t L F
+    pub measured : (x : A) → Good x → sends x ≡ sent t (lay x) F
+    pub falls : (x : A) → Good x → improves x ≡ true → sends (next x) + 1 ≤ sends x
+    pub bounded : (x : A) → Good x → improves x ≡ true → sends x ≤ sends (next x) + length (t .nodes)
+    pub nearest : (x : A) → Good x → improves x ≡ false → (L : Layout) → ValidAt t L s → sends x ≤ sent t L F
     pub enough : run improves next mostImprovements start .finished ≡ true
-    pub blank : ((p : ℕ) → p < partitions t → row F p ≡ []) → (improves start ≡ false) × (far start ≡ t .replication * partitions t)
+    pub blank : ((p : ℕ) → p < partitions t → row F p ≡ []) → (improves start ≡ false) × (sends start ≡ t .replication * partitions t)
 
   abbrev plan : ℕ → Answer
-  plan = answerAt improves next lay far s start
+  plan = answerAt improves next lay sends s start
 
   -- Each rule is proved of the answers by itself, so that an answer that breaks it is refused there.
   module _ (machine : Machine) where
     abbrev state : ℕ → A
-    state = reached improves next lay far s start
+    state = reached improves next lay sends s start
 
     -- All states that a run reaches are good.
     good : (a : ℕ) → Good (state a)
     good a = run-keeps improves next Good (machine .stays) _ start (machine .starts)
 
-    begins : plan 0 .distance ≡ distance t (lay start) F
-    begins = ap (λ (r : Ran A). far (r .state)) (run-none improves next start) ∙ machine .measured start (machine .starts)
+    begins : plan 0 .sent ≡ sent t (lay start) F
+    begins = ap (λ (r : Ran A). sends (r .state)) (run-none improves next start) ∙ machine .measured start (machine .starts)
 
     -- ---- a stopped run: it can still be improved
 
     module _ (a : ℕ) (e : plan a .finished ≡ false) where
-      lower : plan (suc a) .distance + 2 ≤ plan a .distance
+      lower : plan (suc a) .sent + 1 ≤ plan a .sent
       lower =
           omega (
             arith,
-            ap far (stopped-next improves next a start (cc)),
+            ap sends (stopped-next improves next a start (cc)),
             machine .falls (state a) (good a) (stopped-improves improves next start a (cc)),
           )
 
       spent : plan a .improvements ≡ a
       spent = omega (arith, stopped-spent improves next start a (cc))
 
-      bounded : plan a .distance ≤ plan (suc a) .distance + 2 * length (t .nodes)
+      bounded : plan a .sent ≤ plan (suc a) .sent + length (t .nodes)
       bounded =
           omega (
             arith,
-            ap far (stopped-next improves next a start (cc)),
+            ap sends (stopped-next improves next a start (cc)),
             machine .bounded (state a) (good a) (stopped-improves improves next start a (cc)),
           )
 
@@ -73,7 +73,7 @@ module _ (t : Topology) (F : Layout) (s : ℕ) {A : Type 0} (improves : A → Bo
     steps-few a = run-is improves next a start .few
 
     module _ (a : ℕ) (e : plan a .finished ≡ true) where
-      nearest : (L : Layout) → ValidAt t L s → plan a .distance ≤ distance t L F
+      nearest : (L : Layout) → ValidAt t L s → plan a .sent ≤ sent t L F
       nearest = machine .nearest (state a) (good a) (finished-done improves next start a (cc))
 
       smallest : (b : ℕ) → plan b .finished ≡ true → plan a .improvements ≤ b
@@ -83,7 +83,7 @@ module _ (t : Topology) (F : Layout) (s : ℕ) {A : Type 0} (improves : A → Bo
       same : (b : ℕ) → run improves next a start .steps ≤ b → plan b ≡ plan a
       same b l =
           let q = finished-larger improves next start a e b l in
-          λ i. record { layout = lay (q i .state); size = s; distance = far (q i .state); finished = q i .finished; improvements = q i .steps }
+          λ i. record { layout = lay (q i .state); size = s; sent = sends (q i .state); finished = q i .finished; improvements = q i .steps }
 
     -- ---- the rules
 
@@ -99,7 +99,7 @@ module _ (t : Topology) (F : Layout) (s : ℕ) {A : Type 0} (improves : A → Bo
         (lt-or-ge a (plan mostImprovements .improvements)))
         (true-or-false (plan a .finished))
 
-    exactly : (a : ℕ) → ((L : Layout) → ValidAt t L s → plan a .distance ≤ distance t L F) → plan a .finished ≡ true
+    exactly : (a : ℕ) → ((L : Layout) → ValidAt t L s → plan a .sent ≤ sent t L F) → plan a .finished ≡ true
     exactly a h =
         ⊎-elim (λ e. e)
         (λ e. absurd (omega (arith, lower a e, machine .measured (state (suc a)) (good (suc a)), h _ (machine .valid (state (suc a)) (good (suc a))))))

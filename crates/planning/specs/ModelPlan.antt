@@ -1,14 +1,14 @@
 -- The run of planning over row masks: the walk that was turned last, where it stands again in the rows, else the cycle found in the graph of the
 -- rows; the exchanges of that walk; until there is none or the allowance is spent. Nobody has to believe this file: the theorem of proofs/Demands.antt says in the paper's terms what it achieves.
 -- Assumes nothing.
-use Prim.Native.Nat.{ℕ, _+_, _-_, _*_}
+use Prim.Native.Nat.{ℕ, _-_, _*_}
 use mathlib.Core.Bool.{Bool}
 use mathlib.Core.List.{List, _++_}
 use lib.ListN.{drop, replicate}
 use Rattle.sets.specs.ModelBits.{bitsAt, maskOf}
 use Rattle.sums.specs.TermsSums.{tab}
 use Rattle.cluster.specs.Terms.{bufferRows, Topology, partitions, Layout}
-use Rattle.incidence.specs.ModelIncidence.{incidence, layoutOf, formerPairs, zoneCells}
+use Rattle.incidence.specs.ModelIncidence.{incidence, layoutOf, zoneCells}
 use Rattle.sizing.specs.ModelSizing.{nodesOf, mateCells, capCells, sizeOf, dealtRows}
 use Rattle.agreement.specs.ModelAgreement.{agreementIn}
 use Rattle.steps.specs.ModelSteps.{State, improvesIn, nextIn}
@@ -38,17 +38,16 @@ startRows t = dealtAt t (sizeOf t)
 unfoldable pub layoutRows : Topology → List ℕ → Layout
 layoutRows t rows = layoutOf t (bitsAt rows)
 
--- How far the layout of the rows is from the former one.
-unfoldable pub farRows : Topology → Layout → List ℕ → ℕ
-farRows t F rows =
-    t .replication * partitions t + formerPairs t F - 2 * agreementIn rows (formerMasks t F) (partitions t)
+-- What the layout of the rows sends: all its copies but those that the former layout has.
+unfoldable pub sentRows : Topology → Layout → List ℕ → ℕ
+sentRows t F rows = t .replication * partitions t - agreementIn rows (formerMasks t F) (partitions t)
 
 -- The same of a state of the run.
 abbrev pub layoutAt : Topology → State → Layout
 layoutAt t s = layoutRows t (s .rows)
 
-abbrev pub farAt : Topology → Layout → State → ℕ
-farAt t F s = farRows t F (s .rows)
+abbrev pub sentAt : Topology → Layout → State → ℕ
+sentAt t F s = sentRows t F (s .rows)
 
 abbrev pub improvesAt : Topology → Layout → State → Bool
 improvesAt t F = improvesIn (formerMasks t F) (partitions t) (matesOf t) (capCells t (sizeOf t)) (nodesOf t) (t .redundancy)
@@ -62,7 +61,7 @@ ranFrom t s before rows a = ranIn before (partitions t) (matesOf t) (capCells t 
 
 -- ---- the answer
 
-module _ {A : Type 0} (improves : A → Bool) (next : A → A) (lay : A → Layout) (far : A → ℕ) (s : ℕ) (start : A) where
+module _ {A : Type 0} (improves : A → Bool) (next : A → A) (lay : A → Layout) (sends : A → ℕ) (s : ℕ) (start : A) where
   -- How the run with an allowance ended.
   abbrev pub ended : ℕ → Ran A
   ended a = run improves next a start
@@ -71,13 +70,13 @@ module _ {A : Type 0} (improves : A → Bool) (next : A → A) (lay : A → Layo
   abbrev pub reached : ℕ → A
   reached a = ended a .state
 
-  -- The answer with an allowance, s the size, `lay` the layout that a state stands for and `far` its distance.
+  -- The answer with an allowance, s the size, `lay` the layout that a state stands for and `sends` the copies that it sends.
   abbrev pub answerAt : ℕ → Answer
-  answerAt a = record { layout = lay (reached a); size = s; distance = far (reached a); finished = ended a .finished; improvements = ended a .steps }
+  answerAt a = record { layout = lay (reached a); size = s; sent = sends (reached a); finished = ended a .finished; improvements = ended a .steps }
 
 -- The answer of planning from any first rows.
 unfoldable pub planFrom : Topology → Layout → List ℕ → ℕ → Answer
-planFrom t F rows = answerAt (improvesAt t F) (nextAt t F) (layoutAt t) (farAt t F) (sizeOf t) (begun rows)
+planFrom t F rows = answerAt (improvesAt t F) (nextAt t F) (layoutAt t) (sentAt t F) (sizeOf t) (begun rows)
 
 -- The answer of planning, of the nodes in use, the first P former rows and the allowance alone: the run from the beginning.
 unfoldable pub planOf : Topology → Layout → ℕ → Answer

@@ -1,7 +1,7 @@
 -- A plan that is made: where planning refuses nothing, its answer and its cells are those of a layout valid at the cluster's size, and its
 -- numbers are in the ranges of a layout record.
 -- Assumes nothing.
-use Prim.Native.Nat.{ℕ, _+_, _^_, _≤_, _<_}
+use Prim.Native.Nat.{ℕ, _*_, _^_, _≤_, _<_}
 use mathlib.Core.Path.{_≡_, refl, sym, ap, _∙_}
 use mathlib.Core.Bool.{Bool, true, false, false≢true, cond}
 use mathlib.Core.List.{List, [], _++_}
@@ -13,13 +13,13 @@ use lib.ListN.{length, drop, getD, List·getD-eq-default}
 use borrow.Author.Tests.{eq-eqb, ne-eqb, eqb-true}
 use Rattle.cluster.proofs.Accepting.{few-partitions}
 use Rattle.sums.proofs.Sum.{lt-or-ge}
-use Rattle.cluster.specs.Terms.{layoutCells, Topology, topology, partitions, nodeAt, Layout, row, ValidAt, IsSize, IsFormer, distance, cellsOf}
-use Rattle.cluster.specs.TermsReading.{Accepted, Fits32}
+use Rattle.cluster.specs.Terms.{layoutCells, Topology, topology, partitions, nodeAt, Layout, row, ValidAt, IsSize, sent, cellsOf}
+use Rattle.cluster.specs.TermsReading.{mostSent, Accepted, Fits32}
 use Rattle.incidence.specs.ModelIncidence.{layoutOf}
 use Rattle.cluster.specs.declared.Cluster.{Cluster}
 use Rattle.cluster.proofs.Lists.{index-mem}
 use Rattle.incidence.proofs.TieRows.{known-id}
-use Rattle.incidence.proofs.TieDistance.{former-few, distance-law}
+use Rattle.incidence.proofs.TieSending.{sent-law}
 use Rattle.sizing.specs.ModelSizing.{sizeOf, dealtBits}
 use Rattle.sizing.proofs.Sizes.{size-best, size-largest, beginning-valid}
 use Rattle.planning.specs.Demand.{Demand3, Rules}
@@ -90,16 +90,13 @@ module _ (t : Topology) (acc : Accepted t) where
   pub size-below : Fits32 t → (s : ℕ) → IsSize t s → s < 2 ^ 32
   size-below low s h = omega (arith, size-largest t acc low (h .reached .0) s (h .reached .1), size-best t acc .below)
 
-  -- A valid layout is at most 4,096 from a former one.
-  pub distance-most : (L F : Layout) (s : ℕ) → ValidAt t L s → IsFormer t F → distance t L F ≤ 4096
-  distance-most L F s v f =
-      omega (
-        arith,
-        distance-law t L F (acc .ids) (v .rows) (f .ids),
-        former-few t F f,
-        few-partitions (t .bits) (acc .bits),
-        mul-le-mul (acc .replication .1) (few-partitions (t .bits) (acc .bits)),
-      )
+  -- A valid layout sends no more than all its copies.
+  pub sent-most : (L F : Layout) (s : ℕ) → ValidAt t L s → sent t L F ≤ t .replication * partitions t
+  sent-most L F s v = omega (arith, sent-law t L F (acc .ids) (v .rows))
+
+  -- They are 2,048 at most.
+  pub sent-few : (L F : Layout) (s : ℕ) → ValidAt t L s → sent t L F ≤ mostSent
+  sent-few L F s v = omega (arith, sent-most L F s v, mul-le-mul (acc .replication .1) (few-partitions (t .bits) (acc .bits)))
 
   -- The ids of a valid layout are those of nodes, and so have 32 bits where theirs have.
   pub valid-words : ((b : ℕ) → b < length (t .nodes) → nodeAt t b .id < 2 ^ 32) → (L : Layout) (s : ℕ) → ValidAt t L s

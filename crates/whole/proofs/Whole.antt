@@ -8,8 +8,8 @@ use mathlib.Core.List.{List, _++_}
 use native.Mathlib.Omega.{arith}
 use lib.ListN.{length, take, drop, length-append}
 use lib.Seq.{take-at}
-use Rattle.cluster.specs.Terms.{mostBits, mostCopies, layoutCells, scratchCells, Topology, topology, partitions, nodeAt, Layout, ValidAt, IsFormer, distance, cellsOf, rowsIn}
-use Rattle.cluster.specs.TermsReading.{mostSize, mostDistance, mostVerdict, mostImprovements, Accepted, Fits32}
+use Rattle.cluster.specs.Terms.{mostBits, mostCopies, layoutCells, scratchCells, Topology, topology, partitions, nodeAt, Layout, ValidAt, IsFormer, sent, cellsOf, rowsIn}
+use Rattle.cluster.specs.TermsReading.{mostSize, mostSent, mostVerdict, mostImprovements, Accepted, Fits32}
 use Rattle.cluster.specs.ModelRows.{FitsCells, HoldsRows}
 use Rattle.cluster.specs.declared.Cluster.{Cluster}
 use Rattle.cluster.proofs.Accepting.{accepted}
@@ -34,8 +34,8 @@ use Rattle.layout_record.specs.RecordLayoutClaims.{ReadsLayout, WritesLayout}
 use Rattle.layout_record.proofs.RecordLaws.{length-record}
 use Rattle.layout_record.proofs.Exact.{writes-layout, reads-record}
 use Rattle.whole.specs.TermsWhole.{planNumbers, Stays}
-use Rattle.whole.proofs.Alike.{distance-self, distance-none}
-use Rattle.whole.proofs.Plans.{none-refused, usable-sized, not-refused, plan-answered, plan-laid, one-size, size-below, distance-most, valid-words, plan-rules, few-improvements}
+use Rattle.whole.proofs.Alike.{sent-self, sent-none}
+use Rattle.whole.proofs.Plans.{none-refused, usable-sized, not-refused, plan-answered, plan-laid, one-size, size-below, sent-few, valid-words, plan-rules, few-improvements}
 
 -- The plan of a cluster c with a former layout and an allowance: its answer r and the cells that it leaves in the lent assignment.
 module _ (c : Cluster) (former : List ℕ) (allowance : ℕ) (assignment scratch : List ℕ) where
@@ -126,9 +126,9 @@ module _ (c : Cluster) (former : List ℕ) (allowance : ℕ) (assignment scratch
       in-range =
           let large = valid .positive in
           let below = size-below t acc low (plan .size) (rules .size allowance) in
-          let far = distance-most t acc L F (plan .size) valid fo in
+          let few = sent-few t acc L F (plan .size) valid in
           let size : r .size ≡ plan .size = ap (λ (x : Planned). x .size) answer in
-          let distance : r .distance ≤ mostDistance = omega (arith, ap (λ (x : Planned). x .distance) answer, rules .measured allowance) in
+          let sends : r .sent ≤ mostSent = omega (arith, ap (λ (x : Planned). x .sent) answer, rules .measured allowance) in
           let improvements : r .improvements ≤ mostImprovements =
           omega (arith, ap (λ (x : Planned). x .improvements) answer, few-improvements t (demand .beginning) F allowance rules) in
           simp (
@@ -138,8 +138,8 @@ module _ (c : Cluster) (former : List ℕ) (allowance : ℕ) (assignment scratch
             le-leb (n .replication) mostCopies (acc .replication .1),
             le-leb 1 (n .size) (omega arith),
             le-leb (n .size) mostSize (omega arith),
-            le-leb 0 (n .distance) (omega arith),
-            le-leb (n .distance) mostDistance distance,
+            le-leb 0 (n .sent) (omega arith),
+            le-leb (n .sent) mostSent sends,
             le-leb 0 (n .verdict) (omega arith),
             le-leb (n .verdict) mostVerdict (one-if-le (r .finished)),
             le-leb 0 (n .improvements) (omega arith),
@@ -252,21 +252,19 @@ module _ (c : Cluster) (former : List ℕ) (allowance : ℕ) (assignment scratch
             let e = rules-again .finished 2048 (rules-again .enough) .finishes in
             ap (λ (x : Answer). x .finished) (rules-again .finished m e .larger b (omega (arith, least))) ∙ e
 
-        near : planOf t G b .distance ≡ 0
-        near =
+        nothing : planOf t G b .sent ≡ 0
+        nothing =
             omega (
               arith,
               rules-again .finished b ends .nearest L (subst (ValidAt t L) (sym (same-size b)) valid),
-              ap (distance t L) own,
-              distance-self t L,
+              ap (sent t L) own,
+              sent-self t L,
             )
 
         unmoved : planOf t G b .layout ≡ L
         unmoved =
-            let v = rules-again .valid b in
-            distance-none t (planOf t G b .layout) G (v .partition-rows) (own-former .partition-rows) (λ p l. v .rows p l .ids) (own-former .ids)
-            (sym (rules-again .measured b) ∙ near)
-            ∙ own
+            sent-none t (planOf t G b .layout) L (planOf t G b .size) (plan .size) (rules-again .valid b) valid
+            (ap (sent t (planOf t G b .layout)) (sym own) ∙ (sym (rules-again .measured b) ∙ nothing))
 
         stays : Stays r cells (again b) lent (assignmentAfter c cells b lent (length spare))
         stays =
@@ -274,7 +272,7 @@ module _ (c : Cluster) (former : List ℕ) (allowance : ℕ) (assignment scratch
             record {
               refusal = ap (λ (x : Planned). x .refusal) e;
               size = ap (λ (x : Planned). x .size) e ∙ (same-size b ∙ sym (ap (λ (x : Planned). x .size) answer));
-              distance = ap (λ (x : Planned). x .distance) e ∙ near;
+              sent = ap (λ (x : Planned). x .sent) e ∙ nothing;
               finished = ap (λ (x : Planned). x .finished) e ∙ ends;
               same =
                   plan-laid c cells b lent (length spare) none-again

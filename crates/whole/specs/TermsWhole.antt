@@ -11,14 +11,14 @@ use Rattle.cluster.specs.declared.Cluster.{Cluster}
 use Rattle.planner.specs.declared.Planned.{Planned}
 use Rattle.layout_record.specs.declared.Numbers.{Numbers}
 
--- "1, 2, then 6 size, 7 distance, 8 verdict (1: 1 finished, 0 stopped), 9 improvements": bits and replication are the cluster's, the others are
+-- "1, 2, then 6 size, 7 sent, 8 verdict (1: 1 finished, 0 stopped), 9 improvements": bits and replication are the cluster's, the others are
 -- what planning answers.
 abbrev pub planNumbers : Cluster → Planned → Numbers
 planNumbers c r = record {
   bits = c .bits;
   replication = c .replication;
   size = r .size;
-  distance = r .distance;
+  sent = r .sent;
   verdict = one-if (r .finished);
   improvements = r .improvements;
 }
@@ -27,6 +27,6 @@ planNumbers c r = record {
 pub record Stays (r : Planned) (cells : List ℕ) (again : Planned) (lent held : List ℕ) : Type 0 where
   pub refusal : again .refusal ≡ 0
   pub size : again .size ≡ r .size
-  pub distance : again .distance ≡ 0
+  pub sent : again .sent ≡ 0
   pub finished : again .finished ≡ true
   pub same : held ≡ take layoutCells cells ++ drop layoutCells lent

@@ -74,7 +74,7 @@ returns-2 c =
       long _ 6 lent h (owed .2 ∙ (λ i. plannedScratch (read i) (former i) (length cells) rest)),
       long _ 6 lent h
           (c .before .before .put-after .ensures
-          ∙ (λ i. halves (read i .byte) ++ (made i .size ∷ made i .distance ∷ verdict i ∷ made i .improvements ∷ []) ++ drop 6 lent)),
+          ∙ (λ i. halves (read i .byte) ++ (made i .size ∷ made i .sent ∷ verdict i ∷ made i .improvements ∷ []) ++ drop 6 lent)),
       record-owed s (length cells) (length rest) (length lent) (k .plan-read .result .refusal) (r .read-cluster .result) _ read former (owed .3),
     )
 

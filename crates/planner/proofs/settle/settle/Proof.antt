@@ -2,7 +2,7 @@ use borrow.Author.Needs.{needs}
 use mathlib.Core.Path.{_≡_, _∙_}
 use Rattle.cluster.specs.Terms.{topology, partitions}
 use Rattle.cluster.proofs.Accepting.{partitions-in-range, accepted}
-use Rattle.planner.proofs.Settling.{measurable, answer-is, cells-are}
+use Rattle.planner.proofs.Settling.{countable, answer-is, cells-are}
 use Rattle.planner.proofs.settle.settle.Statement.{statement}
 use Rattle.planner.proofs.settle.settle.Tie as tie
 use Rattle.planner.proofs.settle.settle.Reads as reads
@@ -10,7 +10,7 @@ use Rattle.planner.proofs.settle.settle.Lts as lts
 use Rattle.masks.proofs.read_masks.Reads as read-masks-reads
 use Rattle.masks.proofs.write_cells.Reads as write-cells-reads
 use Rattle.planner.proofs.settle.improved.Reads as improved-reads
-use Rattle.planner.proofs.settle.measured.Reads as measured-reads
+use Rattle.planner.proofs.settle.sent.Reads as sent-reads
 
 partitions-requires : tie.Need-partitions-requires
 partitions-requires c κs = search needs
@@ -41,16 +41,16 @@ slice-aggregate-write-cells c = search needs
 write-cells-requires : tie.Need-write-cells-requires
 write-cells-requires c κs = search needs
 
-slice-aggregate-measured : tie.Need-slice-aggregate-measured
-slice-aggregate-measured c = search needs
+slice-aggregate-sent : tie.Need-slice-aggregate-sent
+slice-aggregate-sent c = search needs
 
-slice-aggregate-measured-2 : tie.Need-slice-aggregate-measured-2
-slice-aggregate-measured-2 c = search needs
+slice-aggregate-sent-2 : tie.Need-slice-aggregate-sent-2
+slice-aggregate-sent-2 c = search needs
 
-measured-requires : tie.Need-measured-requires
-measured-requires c κs =
+sent-requires : tie.Need-sent-requires
+sent-requires c κs =
     let s = c .before .before .before .before .before .before .before .before .before .before .before .before .before .before .before .before .before .before .before .before .before in
-    measurable (s .args .c) (s .args .former .now) (s .args .allowance) (s .args .size) _ _ _ (s .pre .0) (s .pre .2) (s .pre .3) (s .pre .4)
+    countable (s .args .c) (s .args .former .now) (s .args .allowance) (s .args .size) _ _ _ (s .pre .0) (s .pre .2) (s .pre .3) (s .pre .4)
     (rows (c .before .before .before .before .before .before .before .before .before .before .before .before .before .before .before .before .before)) (c .before .before .before .before .before .before .before .before .before .before .before .before .before .before .before .read-masks .ensures) (c .before .before .before .before .before .before .before .before .before .before .improved .ensures .0) (c .before .before .before .before .before .before .before .before .before .before .improved .ensures .3)
 
 same-length : tie.Need-same-length
@@ -65,7 +65,7 @@ returns c =
     let i = c .before .before .before .before .before .before .before .before .before .before .before .improved in (
       answer-is (s .args .c) (s .args .former .now) (s .args .allowance) (s .args .size) _ _ _ (s .pre .0) (s .pre .2) (s .pre .3) (s .pre .4)
           (rows (c .before .before .before .before .before .before .before .before .before .before .before .before .before .before .before .before .before .before)) (c .before .before .before .before .before .before .before .before .before .before .before .before .before .before .before .before .read-masks .ensures) (c .before .before .before .before .before .before .before .before .before .before .before .improved .ensures .0) (c .before .before .before .before .before .before .before .before .before .before .before .improved .ensures .3)
-          (c .measured .result) (c .measured .ensures) (i .result .finished) (i .ensures .1) (i .result .improvements) (i .ensures .2),
+          (c .sent .result) (c .sent .ensures) (i .result .finished) (i .ensures .1) (i .result .improvements) (i .ensures .2),
       c .before .before .before .before .before .write-cells .ensures
           ∙ cells-are (s .args .c) (s .args .former .now) (s .args .allowance) (s .args .size) _ _ _ (s .pre .0) (s .pre .2) (s .pre .3) (s .pre .4)
           (rows (c .before .before .before .before .before .before .before .before .before .before .before .before .before .before .before .before .before .before)) (c .before .before .before .before .before .before .before .before .before .before .before .before .before .before .before .before .read-masks .ensures) (c .before .before .before .before .before .before .before .before .before .before .before .improved .ensures .0) (c .before .before .before .before .before .before .before .before .before .before .before .improved .ensures .3) (s .args .assignment .now) (s .pre .1),
@@ -84,9 +84,9 @@ settle-spec =
     improved-requires
     slice-aggregate-write-cells
     write-cells-requires
-    slice-aggregate-measured
-    slice-aggregate-measured-2
-    measured-requires
+    slice-aggregate-sent
+    slice-aggregate-sent-2
+    sent-requires
     same-length
     same-length-2
     returns)
