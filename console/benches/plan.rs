@@ -2,12 +2,13 @@
 //! method, both in plain Rust.
 //!
 //! All plan the same clusters in turn in one run, each from the bytes of the cluster's record, and
-//! have to come to the same distance. "proved" is the planner through its C function. "plain" is the
-//! same method in `console/reference`, with all that makes it quick; it turns a cycle again as long as
-//! rows allow it, and "search" is the same program with a search for each improvement. "report's" is
-//! the report's method as document 000 has it, with 4N + 1 rounds in every search for cycles, and
-//! "stopping" ends each search at the first round that shows a cycle or lowers nothing, which the
-//! report does not. A line is the median of several clusters of its kind, each column by itself.
+//! have to send the same number of copies. "proved" is the planner through its C function. "plain" is
+//! the same method in `console/reference`, with all that makes it quick; it turns a cycle again as
+//! long as rows allow it, and "search" is the same program with a search for each improvement.
+//! "report's" is the report's method as document 000 has it, with 4N + 1 rounds in every search for
+//! cycles, and "stopping" ends each search at the first round that shows a cycle or lowers nothing,
+//! which the report does not. A line is the median of several clusters of its kind, each column by
+//! itself.
 //!
 //! A time is what a call takes of the processor, as the system counts it, so that others may use the
 //! machine meanwhile: the median of several batches of calls. Where the system does not tell it, it is
@@ -30,7 +31,7 @@ use dezghuri::ffi;
 use reference::exchanges::{plan_record, Path};
 use reference::random::Random;
 use reference::records::{cluster_record, read_cluster};
-use reference::{distance, report, Cluster, Layout, Node};
+use reference::{report, sent, Cluster, Layout, Node};
 use std::time::{Duration, Instant};
 
 /// Clusters of each kind.
@@ -165,12 +166,12 @@ fn time((c, former): &Case) -> Times {
         improvements = f64::from(steps);
         assert_eq!(timed(&mut plain, || lent.plain_plan(&record)), least);
         assert_eq!(timed(&mut search, || lent.search_plan(&record)), least);
-        let far = timed(&mut stopping, || by_flows(&record, report::plan));
-        assert_eq!(distance(&far, former), least as usize);
-        let far = timed(&mut by_report, || {
+        let layout = timed(&mut stopping, || by_flows(&record, report::plan));
+        assert_eq!(sent(&layout, former), least as usize);
+        let layout = timed(&mut by_report, || {
             by_flows(&record, report::plan_as_written)
         });
-        assert!(distance(&far, former) >= least as usize);
+        assert!(sent(&layout, former) >= least as usize);
     }
     Times {
         proved: median(proved),
@@ -220,7 +221,7 @@ impl Lent {
         }
     }
 
-    /// The distance and the improvements of the proved plan.
+    /// The copies that the proved plan sends, and its improvements.
     fn proved_plan(&mut self, record: &[u8]) -> (u32, u32) {
         let mut answer = [0; ffi::PLAN_ANSWER];
         let (cells, scratch) = (&mut self.cells, &mut self.scratch);
@@ -229,13 +230,13 @@ impl Lent {
         (answer[3], answer[5])
     }
 
-    /// The distance of the plain plan. It is not made part of its callers, so that its instructions
-    /// can be counted.
+    /// The copies that the plain plan sends. It is not made part of its callers, so that its
+    /// instructions can be counted.
     #[inline(never)]
     fn plain_plan(&mut self, record: &[u8]) -> u32 {
         let allowance = dezghuri::ENOUGH.into();
         let plan = plan_record(record, allowance, Path::Repeated, &mut self.cells);
-        plan.expect("a layout exists").distance
+        plan.expect("a layout exists").sent
     }
 
     /// The same with a search for each improvement.
@@ -243,7 +244,7 @@ impl Lent {
     fn search_plan(&mut self, record: &[u8]) -> u32 {
         let allowance = dezghuri::ENOUGH.into();
         let plan = plan_record(record, allowance, Path::Searched, &mut self.cells);
-        plan.expect("a layout exists").distance
+        plan.expect("a layout exists").sent
     }
 }
 
@@ -277,9 +278,9 @@ fn once(name: &str) {
     let (c, former) = case(&mut Random::new(1));
     let record = cluster_record(&c, &former);
     let mut lent = Lent::new();
-    let (far, improvements) = lent.proved_plan(&record);
-    assert_eq!(lent.plain_plan(&record), far);
-    assert_eq!(lent.search_plan(&record), far);
+    let (least, improvements) = lent.proved_plan(&record);
+    assert_eq!(lent.plain_plan(&record), least);
+    assert_eq!(lent.search_plan(&record), least);
     println!("{name}: {what}: {improvements} improvements");
 }
 

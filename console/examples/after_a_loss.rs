@@ -27,7 +27,6 @@ fn told() -> Result<String, Refused> {
 
     let losses = cluster.losses();
     let plan = cluster.plan(ENOUGH)?;
-    let transfers = cluster.transfers(&plan.layout);
     let diff = cluster.former.diff(&plan.layout);
     let counts = cluster.counts(u64::from(plan.size) + 1);
     Ok(format!(
@@ -36,7 +35,7 @@ fn told() -> Result<String, Refused> {
         losses.none_left,
         losses.one_left,
         plan.size,
-        transfers.all_received(),
+        plan.sent,
         diff.node(4).received.len(),
         counts.room,
         counts.wanted,

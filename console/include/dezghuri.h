@@ -95,7 +95,7 @@ uint32_t dezghuri_read_cluster(const uint8_t *record, size_t record_len,
  *
  * assignment, 2,048 cells: takes the rows; kept when refused.
  * answer, 8 cells: 0, 1 the byte at which the faulty field begins (high, low); 2 bits; 3 replication;
- * 4 size; 5 distance; 6 verdict; 7 improvements.
+ * 4 size; 5 sent, as dezghuri_plan; 6 verdict; 7 improvements.
  * Refusals: 8 (byte 0), then the first fault of 1 to 5 and 7 with its byte. */
 uint32_t dezghuri_read_layout(const uint8_t *record, size_t record_len,
                               uint32_t *assignment, size_t assignment_len,
@@ -105,8 +105,8 @@ uint32_t dezghuri_read_layout(const uint8_t *record, size_t record_len,
  *
  * assignment, 2,048 cells: takes the layout; kept when refused.
  * scratch, 16,384 cells: zeroed on success and with 9; kept with any other refusal.
- * answer, 6 cells: 0, 1 the byte of a refused reading (high, low); 2 size; 3 distance; 4 verdict;
- * 5 improvements.
+ * answer, 6 cells: 0, 1 the byte of a refused reading (high, low); 2 size; 3 sent, the copies to be sent:
+ * pairs of node and partition in the layout and not in the former one; 4 verdict; 5 improvements.
  * Refusals: 1 to 7 of the reading; then 8, assignment or scratch too short; then 9. */
 uint32_t dezghuri_plan(const uint8_t *record, size_t record_len,
                        uint16_t allowance,
@@ -150,13 +150,14 @@ uint32_t dezghuri_show_row(const uint32_t *assignment, size_t assignment_len,
 
 /* Writes a layout record of 29 + (1 << bits) * (5 + 4 * replication) bytes.
  *
+ * sent: as dezghuri_plan, at most 2,048.
  * assignment, 2,048 cells.
  * out: as many bytes as the record; kept when refused.
  * answer, 2 cells: the record's length (high, low 32 bits).
  * Refusals: 8, assignment too short; 4, a number outside its range; 10, a row that is not `replication`
  * rising ids and zeros, or a row from 1 << bits on that is not zero; 8, out too short. */
 uint32_t dezghuri_write_layout(uint32_t bits, uint32_t replication, uint32_t size,
-                               uint32_t distance, uint32_t verdict, uint32_t improvements,
+                               uint32_t sent, uint32_t verdict, uint32_t improvements,
                                const uint32_t *assignment, size_t assignment_len,
                                uint8_t *out, size_t out_len,
                                uint32_t *answer, size_t answer_len);

@@ -94,7 +94,7 @@ mod c {
             bits: u32,
             replication: u32,
             size: u32,
-            distance: u32,
+            sent: u32,
             verdict: u32,
             improvements: u32,
             assignment: *const u32,
@@ -230,8 +230,8 @@ pub struct Numbers {
     pub replication: u32,
     /// Size of a partition in megabytes.
     pub size: u32,
-    /// Distance from the former layout.
-    pub distance: u32,
+    /// Copies to be sent: those that the former layout has not there; at most 2,048.
+    pub sent: u32,
     /// 1 for finished, 0 for stopped.
     pub verdict: u32,
     /// Improvements made.
@@ -247,7 +247,7 @@ pub fn write_layout(n: Numbers, assignment: &[u32], out: &mut [u8], answer: &mut
             n.bits,
             n.replication,
             n.size,
-            n.distance,
+            n.sent,
             n.verdict,
             n.improvements,
             assignment.as_ptr(),

@@ -4,7 +4,7 @@
 //! every partition of its data kept as so many copies, on different nodes and in so many zones at
 //! least. [`Cluster::plan`] answers which nodes hold which partition: first the largest size of a
 //! partition that the disks allow, then, among all layouts of that size, one that lies nearest to
-//! the former layout.
+//! the former layout: none needs fewer copies to be sent ([`Plan::sent`]).
 //!
 //! Plans, checks, figures and records are the work of the C functions of `include/dezghuri.h`,
 //! whose contracts are proved; this library lends them their buffers and names their answers.

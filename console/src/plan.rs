@@ -42,8 +42,8 @@ pub struct Plan {
     pub replication: u8,
     /// Megabytes that each partition may grow to.
     pub size: u32,
-    /// Copies that stand in this layout and not in the former one, or the other way round.
-    pub distance: u32,
+    /// Copies to be sent: those that stand in this layout and not in the former one.
+    pub sent: u32,
     /// Whether a nearer layout can be had.
     pub verdict: Verdict,
     /// Improvements made.
@@ -76,7 +76,7 @@ impl Cluster {
             bits: self.bits,
             replication: self.replication,
             size: answer[2],
-            distance: answer[3],
+            sent: answer[3],
             verdict: Verdict::from_number(answer[4]),
             improvements: answer[5],
             layout,
@@ -99,7 +99,7 @@ impl Plan {
             bits: narrow(answer[2]),
             replication: narrow(answer[3]),
             size: answer[4],
-            distance: answer[5],
+            sent: answer[5],
             verdict: Verdict::from_number(answer[6]),
             improvements: answer[7],
             layout,
@@ -117,7 +117,7 @@ impl Plan {
             bits: self.bits.into(),
             replication: self.replication.into(),
             size: self.size,
-            distance: self.distance,
+            sent: self.sent,
             verdict: self.verdict.number(),
             improvements: self.improvements,
         };
@@ -167,7 +167,7 @@ mod tests {
     #[test]
     fn size_comes_before_nearness() {
         let plan = moving().plan(ENOUGH).unwrap();
-        assert_eq!((plan.size, plan.distance), (5, 4));
+        assert_eq!((plan.size, plan.sent), (5, 2));
         assert_eq!(plan.verdict, Verdict::Finished);
         assert_eq!(plan.layout.row(0), [1]);
         assert_eq!(plan.layout.row(1), [1]);
@@ -195,6 +195,10 @@ mod tests {
         plan.size = 0;
         assert_eq!(plan.to_record().unwrap_err().refusal, Refusal::Range);
         plan.size = 5;
+        plan.sent = 2049;
+        assert_eq!(plan.to_record().unwrap_err().refusal, Refusal::Range);
+        plan.sent = 2048;
+        assert!(plan.to_record().is_ok());
         plan.layout.set_row(1, &[]);
         let refused = plan.to_record().unwrap_err();
         assert_eq!((refused.refusal, refused.place), (Refusal::Row, None));

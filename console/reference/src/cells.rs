@@ -86,7 +86,7 @@ pub fn write_fault(n: &Numbers, cells: &[u32], out: usize) -> u32 {
     let in_range = n.bits <= 8
         && (1..=8).contains(&n.replication)
         && n.size >= 1
-        && n.distance <= 4096
+        && n.sent <= 2048
         && n.verdict <= 1
         && n.improvements <= 2048;
     if !in_range {

@@ -145,11 +145,11 @@ pub fn plan_record(
 ) -> Result<Numbers, Refused> {
     let (c, former) = read_masks(record)?;
     let partitions = c.partitions();
-    let mut run = Run::begin(&c, &former.rows[..partitions], path).ok_or((9, 0))?;
+    let mut run = Run::begin(&c, &former[..partitions], path).ok_or((9, 0))?;
     let (improvements, finished) = run.improve_all(allowance);
     let rows = &run.held.rows[..partitions];
-    let shared = rows.iter().zip(&former.rows);
-    let shared: u32 = shared.map(|(row, old)| (row & old).count_ones()).sum();
+    let pairs = rows.iter().zip(&former);
+    let sent = pairs.map(|(row, old)| (row & !old).count_ones()).sum();
     cells.fill(0);
     for (cells, row) in cells.chunks_exact_mut(8).zip(rows) {
         let ids = members(*row).map(|b| c.nodes[b].id);
@@ -159,7 +159,7 @@ pub fn plan_record(
         bits: c.bits,
         replication: c.replication as u32,
         size: run.size,
-        distance: (c.replication * partitions) as u32 + former.ids - 2 * shared,
+        sent,
         verdict: finished.into(),
         improvements,
     })

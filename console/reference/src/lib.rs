@@ -44,7 +44,16 @@ impl Cluster {
 /// A row of ids for each partition, each by rising id.
 pub type Layout = Vec<Vec<u32>>;
 
-/// The number of pairs (id, partition) that stand in one of the two layouts and not in both.
+/// The number of pairs (id, partition) that stand in the layout and not in the former one: the copies
+/// to be sent.
+pub fn sent(layout: &Layout, former: &Layout) -> usize {
+    let rows = layout.iter().zip(former);
+    rows.map(|(row, old)| row.iter().filter(|id| !old.contains(id)).count())
+        .sum()
+}
+
+/// The report's count: the number of pairs (id, partition) that stand in one of the two layouts and
+/// not in both. It does not use [`sent`], so that the two can be compared.
 pub fn distance(a: &Layout, b: &Layout) -> usize {
     a.iter()
         .zip(b)

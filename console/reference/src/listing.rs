@@ -1,11 +1,12 @@
-//! The size and the least distance of a small cluster by listing all its layouts.
+//! The size of a small cluster, and the layouts valid at it, by listing all its layouts.
 
-use crate::{distance, Cluster, Layout};
+use crate::{distance, sent, Cluster, Layout};
 
 /// What the listing finds: nothing where no layout is valid at size 1.
 #[derive(Clone, Debug, PartialEq, Eq)]
 pub struct Listed {
     pub size: u64,
+    pub least_sent: usize,
     pub least_distance: usize,
     pub layouts: usize,
 }
@@ -68,7 +69,18 @@ pub fn effort(c: &Cluster) -> u64 {
     (rows(c).len() as u64).saturating_pow(c.partitions() as u32)
 }
 
-/// The size of the cluster and the least distance of a layout valid at it.
+/// Calls `f` with every layout that is valid at the size.
+pub fn each_valid(c: &Cluster, size: u64, mut f: impl FnMut(&Layout)) {
+    let rows = rows(c);
+    each(rows.len(), c.partitions(), &mut |choice| {
+        if size_of(c, &rows, choice) >= size {
+            f(&layout_of(c, &rows, choice));
+        }
+    });
+}
+
+/// The size of the cluster, and the fewest copies sent and the least distance of a layout valid at
+/// it.
 pub fn list(c: &Cluster, former: &Layout) -> Option<Listed> {
     let rows = rows(c);
     let mut size = 0;
@@ -80,16 +92,14 @@ pub fn list(c: &Cluster, former: &Layout) -> Option<Listed> {
     }
     let mut found = Listed {
         size,
+        least_sent: usize::MAX,
         least_distance: usize::MAX,
         layouts: 0,
     };
-    each(rows.len(), c.partitions(), &mut |choice| {
-        if size_of(c, &rows, choice) >= size {
-            found.layouts += 1;
-            found.least_distance = found
-                .least_distance
-                .min(distance(&layout_of(c, &rows, choice), former));
-        }
+    each_valid(c, size, |layout| {
+        found.layouts += 1;
+        found.least_sent = found.least_sent.min(sent(layout, former));
+        found.least_distance = found.least_distance.min(distance(layout, former));
     });
     Some(found)
 }

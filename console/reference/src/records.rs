@@ -163,22 +163,11 @@ pub fn read_cluster(bytes: &[u8]) -> Result<(Cluster, Layout), Refused> {
     Ok((c, former))
 }
 
-/// A former layout: in each row the nodes that are still there, and how many ids all rows have.
-pub struct Former {
-    pub rows: [u32; 256],
-    pub ids: u32,
-}
-
-/// Reads a cluster record: the cluster and its former layout as sets of nodes.
-pub fn read_masks(bytes: &[u8]) -> Result<(Cluster, Former), Refused> {
-    let mut former = Former {
-        rows: [0; 256],
-        ids: 0,
-    };
-    let c = read(bytes, |c, p, row| {
-        former.ids += (row.len() / 4) as u32;
-        former.rows[p] = mask(&c.nodes, ids(row));
-    })?;
+/// Reads a cluster record: the cluster, and its former rows as sets of the nodes that are still
+/// there.
+pub fn read_masks(bytes: &[u8]) -> Result<(Cluster, [u32; 256]), Refused> {
+    let mut former = [0; 256];
+    let c = read(bytes, |c, p, row| former[p] = mask(&c.nodes, ids(row)))?;
     Ok((c, former))
 }
 
@@ -202,7 +191,7 @@ pub struct Numbers {
     pub bits: u32,
     pub replication: u32,
     pub size: u32,
-    pub distance: u32,
+    pub sent: u32,
     pub verdict: u32,
     pub improvements: u32,
 }
@@ -215,7 +204,7 @@ pub fn read_layout(bytes: &[u8]) -> Result<(Numbers, Layout), Refused> {
         bits: head(1, 0, 8)?,
         replication: head(2, 1, 8)?,
         size: head(6, 1, u32::MAX.into())?,
-        distance: head(7, 0, 4096)?,
+        sent: head(7, 0, 2048)?,
         verdict: head(8, 0, 1)?,
         improvements: head(9, 0, 2048)?,
     };
@@ -271,7 +260,7 @@ pub fn layout_record(n: &Numbers, layout: &Layout) -> Vec<u8> {
     field(&mut out, 1, &[n.bits as u8]);
     field(&mut out, 2, &[n.replication as u8]);
     field(&mut out, 6, &n.size.to_be_bytes());
-    field(&mut out, 7, &(n.distance as u16).to_be_bytes());
+    field(&mut out, 7, &(n.sent as u16).to_be_bytes());
     field(&mut out, 8, &[n.verdict as u8]);
     field(&mut out, 9, &(n.improvements as u16).to_be_bytes());
     for (p, row) in layout.iter().enumerate() {

@@ -6,7 +6,7 @@ use reference::exchanges::{self, Path};
 use reference::listing::{self, Listed};
 use reference::random::Random;
 use reference::records::cluster_record;
-use reference::{distance, is_valid, report, Cluster, Layout, Node};
+use reference::{distance, is_valid, report, sent, Cluster, Layout, Node};
 
 /// A small cluster and a former layout, with gone nodes, long former rows, capacities of 0 and too
 /// many zones wanted.
@@ -39,13 +39,13 @@ fn small(r: &mut Random) -> (Cluster, Layout) {
     (c, former)
 }
 
-/// The layout is valid, of the cluster's size, and one of the nearest.
+/// The layout is valid, of the cluster's size, and one of the nearest by either count.
 fn is_nearest(c: &Cluster, former: &Layout, listed: &Listed, size: u64, layout: &Layout) {
     assert_eq!(size, listed.size, "{c:?}");
     assert!(is_valid(c, layout, size), "{c:?} {layout:?}");
     assert_eq!(
-        distance(layout, former),
-        listed.least_distance,
+        (sent(layout, former), distance(layout, former)),
+        (listed.least_sent, listed.least_distance),
         "{c:?} {former:?}"
     );
 }
@@ -68,7 +68,7 @@ fn exchanges_agree(c: &Cluster, former: &Layout, listed: Option<&Listed>) {
         assert!(planned.finished);
         let numbers = by_record.expect("a layout exists");
         assert_eq!(numbers.size, planned.size);
-        assert_eq!(numbers.distance as usize, listed.least_distance);
+        assert_eq!(numbers.sent as usize, listed.least_sent);
         assert_eq!(numbers.improvements, planned.improvements);
         assert_eq!(numbers.verdict, 1);
         assert_eq!(cells, cells_of(&layout));
@@ -93,4 +93,36 @@ fn all_agree_on_small_clusters() {
             _ => panic!("one of the two finds no layout: {c:?}"),
         }
     }
+}
+
+/// From one former layout the distance is twice what is sent plus a difference that is the same for
+/// all layouts, so those that send the fewest copies are the nearest, and no others.
+#[test]
+fn the_layouts_that_send_least_are_the_nearest() {
+    let mut r = Random::new(8);
+    let (mut tried, mut different) = (0, 0);
+    while tried < 1000 {
+        let (c, former) = small(&mut r);
+        if listing::effort(&c) > 2000 {
+            continue;
+        }
+        let Some(listed) = listing::list(&c, &former) else {
+            continue;
+        };
+        tried += 1;
+        let all = c.replication * c.partitions();
+        let before: usize = former.iter().map(Vec::len).sum();
+        let mut nearest = 0;
+        listing::each_valid(&c, listed.size, |layout| {
+            let (sent, far) = (sent(layout, &former), distance(layout, &former));
+            assert_eq!(far + all, 2 * sent + before, "{c:?} {former:?} {layout:?}");
+            assert_eq!(sent == listed.least_sent, far == listed.least_distance);
+            nearest += usize::from(sent == listed.least_sent);
+        });
+        different += u64::from(nearest < listed.layouts && before != all);
+    }
+    assert!(
+        different > 100,
+        "too few of the clusters tell the counts apart"
+    );
 }

@@ -23,7 +23,7 @@ static const uint8_t CLUSTER[51] = {
     4, 0, 10, 0, 0, 0, 3, 0, 2, 0, 0, 0, 50,
 };
 
-/* Its layout record: size 25, distance 6, finished, no improvements, rows 1 2 3 twice. */
+/* Its layout record: size 25, 6 copies sent, finished, no improvements, rows 1 2 3 twice. */
 static const uint8_t LAYOUT[63] = {
     1, 0, 1, 1, 2, 0, 1, 3, 6, 0, 4, 0, 0, 0, 25, 7, 0, 2, 0, 6, 8, 0, 1, 1, 9, 0, 2, 0, 0,
     10, 0, 14, 0, 0, 0, 0, 0, 1, 0, 0, 0, 2, 0, 0, 0, 3,
@@ -83,10 +83,10 @@ static uint32_t count(uint32_t size, size_t room) {
                             answer, DEZGHURI_FIGURES_ANSWER);
 }
 
-static uint32_t write(uint32_t replication, uint32_t size, uint8_t *out, size_t room) {
+static uint32_t write(uint32_t replication, uint32_t size, uint32_t sent, uint8_t *out, size_t room) {
     memset(out, 0x5A, 64);
     fill(answer, ANSWER + 1);
-    return dezghuri_write_layout(1, replication, size, 6, DEZGHURI_FINISHED, 0, cells, CELLS,
+    return dezghuri_write_layout(1, replication, size, sent, DEZGHURI_FINISHED, 0, cells, CELLS,
                                  out, room, answer, DEZGHURI_WRITE_LAYOUT_ANSWER);
 }
 
@@ -164,13 +164,26 @@ static void a_layout_in_hand(void) {
 
 static void writing(void) {
     uint8_t out[64];
-    EXPECT(write(3, 25, out, 64) == DEZGHURI_OK);
+    EXPECT(write(3, 25, 6, out, 64) == DEZGHURI_OK);
     EXPECT(answer[0] == 0 && answer[1] == 63 && answer[2] == PATTERN);
     EXPECT(memcmp(out, LAYOUT, 63) == 0 && out[63] == 0x5A);
-    EXPECT(write(3, 25, out, 62) == DEZGHURI_SHORT && out[0] == 0x5A);
-    EXPECT(write(2, 25, out, 64) == DEZGHURI_ROW && out[0] == 0x5A);
-    EXPECT(write(3, 0, out, 64) == DEZGHURI_RANGE && out[0] == 0x5A);
+    EXPECT(write(3, 25, 6, out, 62) == DEZGHURI_SHORT && out[0] == 0x5A);
+    EXPECT(write(2, 25, 6, out, 64) == DEZGHURI_ROW && out[0] == 0x5A);
+    EXPECT(write(3, 0, 6, out, 64) == DEZGHURI_RANGE && out[0] == 0x5A);
     EXPECT(answer[0] == 0 && answer[1] == 0);
+}
+
+/* No layout has more than 2,048 copies. Field 7 begins at byte 15. */
+static void most_copies_sent(void) {
+    uint8_t out[64];
+    EXPECT(write(3, 25, 2049, out, 64) == DEZGHURI_RANGE && out[0] == 0x5A);
+    EXPECT(write(3, 25, 2048, out, 64) == DEZGHURI_OK);
+    EXPECT(out[15] == 7 && out[18] == 8 && out[19] == 0);
+    EXPECT(dezghuri_read_layout(out, 63, cells, CELLS, answer, 8) == DEZGHURI_OK);
+    EXPECT(answer[5] == 2048);
+    out[19] = 1;
+    EXPECT(dezghuri_read_layout(out, 63, cells, CELLS, answer, 8) == DEZGHURI_RANGE);
+    EXPECT(answer[0] == 0 && answer[1] == 15 && all(answer, 2, 8, 0));
 }
 
 int main(void) {
@@ -179,5 +192,6 @@ int main(void) {
     reading_a_layout();
     a_layout_in_hand();
     writing();
+    most_copies_sent();
     return faults != 0;
 }

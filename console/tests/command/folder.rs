@@ -113,7 +113,7 @@ pub fn layout_record(bits: u8, size: u32, rows: &[&[u32]]) -> Vec<u8> {
         bits,
         replication: u8::try_from(rows[0].len()).expect("at most eight"),
         size,
-        distance: 0,
+        sent: 0,
         verdict: Verdict::Finished,
         improvements: 0,
         layout,

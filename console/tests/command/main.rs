@@ -11,6 +11,7 @@ mod read_json;
 mod record_lines;
 mod replaced;
 mod report;
+mod sent;
 mod shown;
 mod told;
 mod tried;

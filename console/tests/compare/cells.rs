@@ -170,7 +170,7 @@ fn a_short_answer_is_refused_before_all_and_nothing_is_touched() {
         bits: 9,
         replication: 9,
         size: 0,
-        distance: 0,
+        sent: 0,
         verdict: 0,
         improvements: 0,
     };

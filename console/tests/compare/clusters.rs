@@ -28,6 +28,14 @@ pub const MEDIUM: Kind = Kind {
     most_capacity: 200,
 };
 
+/// Clusters of any size.
+pub const LARGE: Kind = Kind {
+    most_bits: 8,
+    most_nodes: 32,
+    most_replication: 8,
+    most_capacity: 4_000_000,
+};
+
 /// A cluster, at times with capacities of 0, with equal capacities, or with more zones wanted than
 /// there are.
 pub fn cluster(kind: Kind, r: &mut Random) -> Cluster {

@@ -4,7 +4,7 @@
 use crate::lent;
 use reference::random::Random;
 use reference::records::cluster_record;
-use reference::{distance, exchanges, is_valid, listing, report, Cluster, Layout, Node};
+use reference::{exchanges, is_valid, listing, report, sent, Cluster, Layout, Node};
 
 /// Found by a search through millions of small clusters.
 fn split_case() -> (Cluster, Layout) {
@@ -46,13 +46,10 @@ fn a_cycle_is_split_where_its_exchanges_would_spoil_a_row() {
             is_valid(&c, &planned.layout, listed.size),
             "allowance {allowance}"
         );
-        assert_eq!(
-            planned.distance as usize,
-            distance(&planned.layout, &former)
-        );
+        assert_eq!(planned.sent as usize, sent(&planned.layout, &former));
     }
     let planned = lent::plan(&record, 2048, r).expect("a layout exists");
-    assert_eq!(planned.distance as usize, listed.least_distance);
+    assert_eq!(planned.sent as usize, listed.least_sent);
 }
 
 /// A chain through 30 of 32 nodes, each step of which takes six arcs in the report's graph.
@@ -63,7 +60,7 @@ fn a_cycle_is_split_where_its_exchanges_would_spoil_a_row() {
 /// node of the other zone would stand in a zone that is covered already. Every such row had one
 /// small node of the other zone more before: the row of b0 had a0, that of a0 had b1, that of b1 had
 /// a1, and so on; and one row had b0 where it now has the large node of A. Only by moving along the
-/// whole chain, up to the last b, which has room, does that row get b0 back.
+/// whole chain, up to the last b, which has room, does that row get b0 back, and nothing is sent.
 fn chain() -> (Cluster, Layout) {
     const SIZE: u32 = 100;
     let small = |n: usize, zone: u16| std::iter::repeat_n((zone, 1), n);
@@ -102,19 +99,16 @@ fn the_chain_is_found_that_4n_plus_1_rounds_miss() {
     let r = &mut Random::new(1);
     let record = cluster_record(&c, &former);
     let first = lent::plan(&record, 0, r).expect("a layout exists");
-    assert_eq!(
-        (first.size, first.distance, first.finished),
-        (100, 30, false)
-    );
+    assert_eq!((first.size, first.sent, first.finished), (100, 1, false));
 
     let rounds = 4 * c.nodes.len() + 1;
     let cut = report::improve_cut(&c, &former, 100, &first.layout, rounds);
-    assert_eq!(distance(&cut, &former), 30, "the cut search finds nothing");
+    assert_eq!(sent(&cut, &former), 1, "the cut search finds nothing");
     let uncut = report::improve_cut(&c, &former, 100, &first.layout, 6 * c.nodes.len());
-    assert_eq!(distance(&uncut, &former), 28, "more rounds find the chain");
+    assert_eq!(sent(&uncut, &former), 0, "more rounds find the chain");
 
     let planned = lent::plan(&record, 2048, r).expect("a layout exists");
-    assert_eq!((planned.distance, planned.finished), (28, true));
+    assert_eq!((planned.sent, planned.finished), (0, true));
     assert_eq!(planned.improvements, 1);
     assert!(is_valid(&c, &planned.layout, 100));
 }

@@ -7,11 +7,12 @@ use crate::{soak_factor, soak_seed};
 use reference::cells::cells_of;
 use reference::random::Random;
 use reference::records::cluster_record;
-use reference::{distance, is_valid, listing, report, Cluster, Layout};
+use reference::{distance, is_valid, listing, report, sent, Cluster, Layout};
 
 /// What is known of a cluster and a former layout from elsewhere.
 struct Known {
     size: u64,
+    least_sent: usize,
     least_distance: usize,
 }
 
@@ -37,12 +38,7 @@ impl Case<'_> {
             );
             allowance += 1;
             let next = self.answer(allowance, r);
-            let gain = now.distance - next.distance;
-            assert!(gain >= 2, "an improvement brings two at least");
-            assert!(
-                gain as usize <= 2 * self.c.nodes.len(),
-                "and two for each node at most"
-            );
+            self.improves(&now, &next);
             now = next;
         }
         assert!(allowance <= 2048);
@@ -61,22 +57,33 @@ impl Case<'_> {
         }
         if self.former.iter().all(Vec::is_empty) {
             assert_eq!(allowance, 0);
-            assert_eq!(
-                now.distance as usize,
-                self.c.replication * self.c.partitions()
-            );
+            assert_eq!(now.sent as usize, self.c.replication * self.c.partitions());
         }
         allowance > 0
     }
 
+    /// One improvement sends fewer copies, by one at least and one for each node at most; in the words
+    /// of the demand, it is nearer by two at least and two for each node at most.
+    fn improves(&self, now: &Planned, next: &Planned) {
+        let nodes = self.c.nodes.len();
+        let fewer = now.sent as usize - next.sent as usize;
+        assert!((1..=nodes).contains(&fewer), "{fewer} fewer are sent");
+        let far = |planned: &Planned| distance(&planned.layout, self.former);
+        let nearer = far(now) - far(next);
+        assert!((2..=2 * nodes).contains(&nearer), "{nearer} nearer");
+    }
+
     /// Plans, and checks what holds at every allowance: the layout is valid at the cluster's size
-    /// and at no larger one, has the distance named, and is the nearest just when it is finished.
+    /// and at no larger one, sends as many copies as named, and is one of those that send the fewest,
+    /// which are the nearest, just when it is finished.
     fn answer(&self, allowance: u16, r: &mut Random) -> Planned {
         let planned = lent::plan(&self.record, allowance, r).expect("a layout exists");
-        let (size, far) = (u64::from(planned.size), planned.distance as usize);
+        let (size, copies) = (u64::from(planned.size), planned.sent as usize);
         assert_eq!(size, self.known.size);
         assert!(is_valid(self.c, &planned.layout, size));
-        assert_eq!(far, distance(&planned.layout, self.former));
+        assert_eq!(copies, sent(&planned.layout, self.former));
+        assert_eq!(copies == self.known.least_sent, planned.finished);
+        let far = distance(&planned.layout, self.former);
         assert_eq!(far == self.known.least_distance, planned.finished);
         let cells = cells_of(&planned.layout);
         assert_eq!(
@@ -89,11 +96,12 @@ impl Case<'_> {
         planned
     }
 
-    /// At allowance 0 the distance is that of the beginning, which another former layout has too.
+    /// At allowance 0 the layout sends as many copies as the beginning, which another former layout
+    /// has too.
     fn begins_alike(&self, other: &Layout, first: &Planned, r: &mut Random) {
         let beginning = lent::plan(&cluster_record(self.c, other), 0, r).expect("a layout exists");
-        let expected = distance(&beginning.layout, self.former);
-        assert_eq!(first.distance as usize, expected, "another beginning");
+        let expected = sent(&beginning.layout, self.former);
+        assert_eq!(first.sent as usize, expected, "another beginning");
     }
 }
 
@@ -157,6 +165,7 @@ fn try_small(seed: u64, cases: u64) {
     let listed = |c: &Cluster, former: &Layout| {
         listing::list(c, former).map(|listed| Known {
             size: listed.size,
+            least_sent: listed.least_sent,
             least_distance: listed.least_distance,
         })
     };
@@ -168,6 +177,7 @@ fn try_larger(seed: u64, cases: u64) {
     let by_report = |c: &Cluster, former: &Layout| {
         report::plan(c, former).map(|planned| Known {
             size: planned.size,
+            least_sent: sent(&planned.layout, former),
             least_distance: distance(&planned.layout, former),
         })
     };

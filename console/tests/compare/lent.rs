@@ -34,7 +34,7 @@ fn byte(answer: &[u32]) -> u64 {
 #[derive(Clone, Debug, PartialEq, Eq)]
 pub struct Planned {
     pub size: u32,
-    pub distance: u32,
+    pub sent: u32,
     pub finished: bool,
     pub improvements: u32,
     pub layout: Layout,
@@ -82,7 +82,7 @@ fn planned(partitions: usize, assignment: &[u32], answer: &[u32]) -> Planned {
         .all(|cell| *cell == 0));
     Planned {
         size: answer[2],
-        distance: answer[3],
+        sent: answer[3],
         finished: answer[4] == 1,
         improvements: answer[5],
         layout: layout_of(assignment, partitions),
@@ -137,7 +137,7 @@ pub fn read_layout(record: &[u8], r: &mut Random) -> Result<(Numbers, Vec<u32>),
         bits: answer[2],
         replication: answer[3],
         size: answer[4],
-        distance: answer[5],
+        sent: answer[5],
         verdict: answer[6],
         improvements: answer[7],
     };
@@ -193,7 +193,7 @@ pub fn write_layout(
         bits: n.bits,
         replication: n.replication,
         size: n.size,
-        distance: n.distance,
+        sent: n.sent,
         verdict: n.verdict,
         improvements: n.improvements,
     };

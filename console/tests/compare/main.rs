@@ -12,6 +12,7 @@ mod lent;
 mod paper;
 mod paths;
 mod records;
+mod sent;
 mod worst;
 
 /// How many times as many cases a soak tries.

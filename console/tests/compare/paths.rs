@@ -2,22 +2,14 @@
 //! proved planner it gives the same rows and numbers; where it searches for each improvement, it
 //! comes to another of the nearest layouts.
 
-use crate::clusters::{self, Kind, MEDIUM, SMALL};
+use crate::clusters::{self, Kind, LARGE, MEDIUM, SMALL};
 use crate::lent::{self, Planned};
 use crate::{soak_factor, soak_seed};
 use reference::cells::{layout_of, CELLS};
 use reference::exchanges::{plan_record, Path};
 use reference::random::Random;
 use reference::records::cluster_record;
-use reference::{distance, is_valid, Cluster, Layout};
-
-/// Clusters of any size.
-const LARGE: Kind = Kind {
-    most_bits: 8,
-    most_nodes: 32,
-    most_replication: 8,
-    most_capacity: 4_000_000,
-};
+use reference::{is_valid, sent, Cluster, Layout};
 
 /// The plan of the plain program.
 fn plain(record: &[u8], allowance: u16, path: Path) -> Result<Planned, (u32, u64)> {
@@ -26,7 +18,7 @@ fn plain(record: &[u8], allowance: u16, path: Path) -> Result<Planned, (u32, u64
         Err((refusal, byte)) => Err((refusal, byte as u64)),
         Ok(n) => Ok(Planned {
             size: n.size,
-            distance: n.distance,
+            sent: n.sent,
             finished: n.verdict == 1,
             improvements: n.improvements,
             layout: layout_of(&cells, 1 << n.bits),
@@ -40,13 +32,13 @@ fn ends_as_near(c: &Cluster, former: &Layout, allowance: u16, nearest: &Planned)
     let stopped = plain(&record, allowance, Path::Searched).expect("a layout exists");
     let ended = plain(&record, u16::MAX, Path::Searched).expect("a layout exists");
     assert_eq!(
-        (ended.size, ended.distance, ended.finished),
-        (nearest.size, nearest.distance, true)
+        (ended.size, ended.sent, ended.finished),
+        (nearest.size, nearest.sent, true)
     );
     for planned in [&stopped, &ended] {
         assert!(is_valid(c, &planned.layout, planned.size.into()));
-        assert_eq!(distance(&planned.layout, former), planned.distance as usize);
-        assert_eq!(planned.finished, planned.distance == nearest.distance);
+        assert_eq!(sent(&planned.layout, former), planned.sent as usize);
+        assert_eq!(planned.finished, planned.sent == nearest.sent);
     }
     assert_eq!(
         stopped.improvements,

@@ -65,7 +65,7 @@ fn any_layout(r: &mut Random) -> (Numbers, Layout) {
         bits: r.between(0, most_bits) as u32,
         replication: r.between(1, 8) as u32,
         size: edge(1, u32::MAX.into(), r) as u32,
-        distance: edge(0, 4096, r) as u32,
+        sent: edge(0, 2048, r) as u32,
         verdict: r.between(0, 1) as u32,
         improvements: edge(0, 2048, r) as u32,
     };
@@ -242,13 +242,13 @@ fn try_round_trips(seed: u64, cases: u64) {
 
 /// Gives one of the numbers a value at the edge of some range.
 fn change_a_number(n: &mut Numbers, r: &mut Random) {
-    let edges = [0, 1, 2, 8, 9, 2048, 2049, 4096, 4097, u32::MAX];
+    let edges = [0, 1, 2, 8, 9, 2048, 2049, 4096, u32::MAX];
     let edge = edges[r.below(edges.len() as u64) as usize];
     match r.below(6) {
         0 => n.bits = edge,
         1 => n.replication = edge,
         2 => n.size = edge,
-        3 => n.distance = edge,
+        3 => n.sent = edge,
         4 => n.verdict = edge,
         _ => n.improvements = edge,
     }
@@ -304,7 +304,7 @@ fn small_records() -> [Vec<u8>; 2] {
         bits: 1,
         replication: 2,
         size: 25,
-        distance: 6,
+        sent: 3,
         verdict: 1,
         improvements: 3,
     };
@@ -327,6 +327,31 @@ fn every_byte_of_a_record_may_be_any_other() {
                 layout_reading_agrees(&record, &mut r);
             }
         }
+    }
+}
+
+/// No layout has more than 2,048 copies, so no more are sent. Field 7 begins at byte 15.
+#[test]
+fn at_most_2048_copies_are_sent() {
+    let mut r = Random::new(29);
+    let [_, record] = small_records();
+    let (mut numbers, layout) = records::read_layout(&record).expect("a layout record");
+    let cells = cells_of(&layout);
+    let refusal = |sent: u32| if sent <= 2048 { 0 } else { 4 };
+    for sent in 0..=u16::MAX {
+        let mut record = record.clone();
+        record[15..20].copy_from_slice(&[7, 0, 2, (sent >> 8) as u8, sent as u8]);
+        let refusal = refusal(sent.into());
+        assert_eq!(layout_reading_agrees(&record, &mut r), refusal, "{sent}");
+        let refused = records::read_layout(&record).err();
+        assert_eq!(refused, (refusal != 0).then_some((4, 15)), "{sent}");
+    }
+    for sent in (0..5000).chain([65_535, 65_536, 65_537, u32::MAX]) {
+        numbers.sent = sent;
+        let fault = write_fault(&numbers, &cells, record.len());
+        let written = lent::write_layout(&numbers, &cells, record.len(), &mut r);
+        let refused = written.err().unwrap_or(0);
+        assert_eq!((fault, refused), (refusal(sent), refusal(sent)), "{sent}");
     }
 }
 

@@ -3,7 +3,7 @@
 use crate::lent;
 use reference::random::Random;
 use reference::records::cluster_record;
-use reference::{distance, is_valid, report, Cluster, Layout, Node};
+use reference::{is_valid, report, sent, Cluster, Layout, Node};
 use std::time::{Duration, Instant};
 
 /// A call on the largest cluster takes some milliseconds; this is far beyond.
@@ -54,8 +54,8 @@ fn ends(c: &Cluster, former: &Layout) {
     assert_eq!(u64::from(planned.size), known.size);
     assert!(is_valid(c, &planned.layout, known.size));
     assert!(planned.finished && planned.improvements <= 2048);
-    assert_eq!(planned.distance as usize, distance(&known.layout, former));
-    assert_eq!(planned.distance as usize, distance(&planned.layout, former));
+    assert_eq!(planned.sent as usize, sent(&known.layout, former));
+    assert_eq!(planned.sent as usize, sent(&planned.layout, former));
 }
 
 #[test]

@@ -21,8 +21,8 @@ fn of_plan(plan: &Plan) -> String {
         Verdict::Stopped => "stopped",
     };
     let mut text = format!(
-        "size {}\ndistance {}\nimprovements {}\n{verdict}\n",
-        plan.size, plan.distance, plan.improvements
+        "size {}\nsent {}\nimprovements {}\n{verdict}\n",
+        plan.size, plan.sent, plan.improvements
     );
     for (partition, ids) in plan.layout.rows() {
         text += &format!("{partition}:");

@@ -87,7 +87,7 @@ impl Made<'_> {
         let gone = transfers.gone.iter().map(|(id, copies)| {
             Json::Object(vec![("id", (*id).into()), ("copies", (*copies).into())])
         });
-        let sent = transfers.all_received();
+        let sent = u64::from(plan.sent);
         let mut members = vec![
             ("command", "plan".into()),
             ("file", paths.file.into()),

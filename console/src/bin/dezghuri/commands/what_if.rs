@@ -113,7 +113,7 @@ fn tried(described: &Description) -> Result<Outcome, (String, Refused)> {
     Ok(Outcome {
         size: plan.size.into(),
         data: u64::from(plan.size) << plan.bits,
-        sent: cluster.transfers(&plan.layout).all_received(),
+        sent: plan.sent.into(),
         lost: cluster.losses().none_left.len() as u64,
     })
 }

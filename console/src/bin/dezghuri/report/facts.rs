@@ -116,7 +116,7 @@ impl Laid {
         // Without a former layout each copy is drawn as one that stays.
         let before = former.map_or(&plan.layout, |former| &former.layout);
         let rows = Rows::new(cluster, before, &plan.layout);
-        let best = Best::of(cluster, plan, rows.distance())?;
+        let best = Best::of(cluster, plan, rows.all(Cell::Received))?;
         Ok(Laid {
             size: plan.size.into(),
             hope,
@@ -133,15 +133,11 @@ impl Laid {
     }
 
     pub fn sent(&self) -> u64 {
-        self.all(Cell::Received)
+        self.rows.all(Cell::Received)
     }
 
     pub fn dropped(&self) -> u64 {
-        self.all(Cell::Dropped)
-    }
-
-    fn all(&self, cell: Cell) -> u64 {
-        self.rows.here.iter().map(|row| row.count(cell)).sum()
+        self.rows.all(Cell::Dropped)
     }
 
     /// The partitions in the order of the map, those with the same cells together.
@@ -169,14 +165,13 @@ fn binding(described: &Description, plan: &Plan) -> Vec<String> {
 impl Best {
     /// The proved planner says how good the layout is from this former one; the layout's own record
     /// speaks of the former layout that it was planned from.
-    fn of(cluster: &Cluster, plan: &Plan, distance: u64) -> Result<Best, Refused> {
+    fn of(cluster: &Cluster, plan: &Plan, sent: u64) -> Result<Best, Refused> {
         let best = cluster.plan(ENOUGH)?;
         if best.size > plan.size {
             return Ok(Best::Larger(best.size.into()));
         }
-        // A copy more that is sent is one more that is dropped.
-        let more = distance.saturating_sub(best.distance.into()) / 2;
-        Ok(match more {
+        // Without a former layout no copy is drawn as sent, and the best plan sends them all.
+        Ok(match sent.saturating_sub(best.sent.into()) {
             0 => Best::Fewest,
             more => Best::FewerBy(more),
         })
@@ -205,11 +200,9 @@ impl Rows {
         }
     }
 
-    /// Copies that stand in one layout and not in the other.
-    fn distance(&self) -> u64 {
-        let moved = |row: &Row| row.count(Cell::Received) + row.count(Cell::Dropped);
-        let drawn: u64 = self.here.iter().chain(&self.gone).map(moved).sum();
-        drawn + self.more_gone.1 as u64
+    /// Such cells of all boxes that are there.
+    fn all(&self, cell: Cell) -> u64 {
+        self.here.iter().map(|row| row.count(cell)).sum()
     }
 }
 
