@@ -1,8 +1,10 @@
 //! The largest clusters: 256 partitions, eight copies, 32 nodes. Each call has to end in practice.
 
 use crate::lent;
+use dezghuri::ffi::LAYOUT_RECORD_BYTES;
+use reference::cells::cells_of;
 use reference::random::Random;
-use reference::records::cluster_record;
+use reference::records::{cluster_record, read_layout, Numbers};
 use reference::{is_valid, report, sent, Cluster, Layout, Node};
 use std::time::{Duration, Instant};
 
@@ -74,6 +76,31 @@ fn the_largest_clusters_end() {
                 &drawn(&mut r),
             );
         }
+    }
+}
+
+/// All 2,048 copies are sent where there were none before, and where all former ones went with their
+/// nodes; a layout record takes that number.
+#[test]
+fn the_most_copies_are_sent_and_written() {
+    let r = &mut Random::new(1);
+    let c = largest(8, 8, |_| 6400);
+    for former in [vec![Vec::new(); 256], vec![(33..=40).collect(); 256]] {
+        let planned = lent::plan(&cluster_record(&c, &former), 0, r).expect("a layout exists");
+        assert_eq!((planned.sent, planned.finished), (2048, true));
+        let numbers = Numbers {
+            bits: 8,
+            replication: 8,
+            size: planned.size,
+            sent: 2048,
+            verdict: 1,
+            improvements: 0,
+        };
+        let cells = cells_of(&planned.layout);
+        let record = lent::write_layout(&numbers, &cells, LAYOUT_RECORD_BYTES, r);
+        let record = record.expect("a layout");
+        assert_eq!(lent::read_layout(&record, r), Ok((numbers, cells)));
+        assert_eq!(read_layout(&record), Ok((numbers, planned.layout)));
     }
 }
 
