@@ -31,9 +31,9 @@ extern "C" {
 
 /* The version of this header and its library; the number grows from each version to the next. */
 #define DEZGHURI_VERSION_MAJOR 0
-#define DEZGHURI_VERSION_MINOR 1
+#define DEZGHURI_VERSION_MINOR 2
 #define DEZGHURI_VERSION_PATCH 0
-#define DEZGHURI_VERSION "0.1.0"
+#define DEZGHURI_VERSION "0.2.0"
 #define DEZGHURI_VERSION_NUMBER \
     (DEZGHURI_VERSION_MAJOR * 1000000 + DEZGHURI_VERSION_MINOR * 1000 + DEZGHURI_VERSION_PATCH)
 
