@@ -12,7 +12,8 @@ use Rattle.cluster.specs.Terms.{mem}
 use Rattle.fields.specs.RecordField.{numberOf, part, numberAt, nodeWidth, nodeAtByte, idsAt, headWidth, longestField, legalAs, fieldAt}
 use Rattle.fields.specs.declared.Field.the-variants.{Body}
 use Rattle.fields.proofs.Numbers.{has-true, number-there}
-use Rattle.fields.proofs.RecordField.{lawful, legal-greatest, greatest-le, field-tag, field-length, field-whole}
+use Rattle.lengths.proofs.Lengths.{lawful, legal-greatest, greatest-le}
+use Rattle.fields.proofs.RecordField.{field-tag, field-length, field-whole}
 
 -- A part that ends before the cut is the same after it.
 part-same : (s : List ℕ) (n at w : ℕ) → at + w ≤ n → part (take n s) at w ≡ part s at w

@@ -1,15 +1,17 @@
--- Numbers and fields in the bytes of a record: a number in its bytes and back, the legal lengths by tag, and the field that stands at a byte.
+-- Numbers and fields in the bytes of a record: a number in its bytes and back, and the field that stands at a byte. The legal lengths by tag are
+-- those of crates/lengths/specs/RecordLengths.antt.
 -- A byte is a number below 256.
 -- Assumes nothing.
 use Prim.Native.Nat.{ℕ, zero, suc, _+_, _-_, _*_, _/_, _%_, _^_, _≤_, _<_}
 use mathlib.Core.Path.{_≡_}
-use mathlib.Core.Bool.{Bool, true, not, _&&_, _||_, cond}
+use mathlib.Core.Bool.{Bool, true, not, cond}
 use mathlib.Core.List.{List, [], _∷_, _++_}
-use lib.Dec.{leb, eqb}
+use lib.Dec.{leb}
 use lib.ListN.{length, take, drop, getD}
 use Rattle.cluster.specs.Terms.{mostCopies, noNode, mem}
 use Rattle.cluster.specs.declared.Node.{Node}
-use Rattle.fields.specs.declared.Rule.{Rule}
+pub use Rattle.lengths.specs.RecordLengths.{nodeWidth, rowWidth}
+unfoldable pub use Rattle.lengths.specs.RecordLengths.{ruleOf, legal, legalAs}
 use Rattle.fields.specs.declared.Field.{Field}
 use Rattle.fields.specs.declared.Field.the-variants.{Body, Refused}
 
@@ -49,10 +51,6 @@ over p s = p ++ drop (length p) s
 
 -- ---- nodes, ids and rows
 
--- "id 4, zone 2, capacity 4": the bytes of a node.
-abbrev pub nodeWidth : ℕ
-nodeWidth = 10
-
 -- The bytes of a node, in this order.
 unfoldable pub nodeBytes : Node → List ℕ
 nodeBytes n = bytesOf 4 (n .id) ++ (bytesOf 2 (n .zone) ++ bytesOf 4 (n .capacity))
@@ -78,10 +76,6 @@ unfoldable pub idBytes : List ℕ → List ℕ
 idBytes [] = []
 idBytes (i ∷ l) = bytesOf 4 i ++ idBytes l
 
--- "2 + 4m: partition 2, then m .. ids": the bytes of a row with m ids.
-abbrev pub rowWidth : ℕ → ℕ
-rowWidth m = 2 + 4 * m
-
 -- ---- fields
 
 -- "a one-byte tag, a two-byte length": the bytes of a field before its body.
@@ -92,51 +86,9 @@ headWidth = 3
 unfoldable pub field : ℕ → List ℕ → List ℕ
 field tag body = tag ∷ (bytesOf 2 (length body) ++ body)
 
--- A rule for the length of a body: from the least to the greatest, in steps.
-abbrev pub rule : ℕ → ℕ → ℕ → Rule
-rule least greatest step = record { least = least; greatest = greatest; step = step }
-
--- The rule by which no length is legal.
-abbrev pub noLength : Rule
-noLength = rule 1 0 1
-
--- "The legal lengths by tag are one table": the rules of the tags 0, 1, 2 and on. There is no tag 0.
-abbrev pub rules : List Rule
-rules =
-    noLength
-    -- "1 bits (1 byte), 2 replication (1), 3 redundancy (1)"
-    ∷ rule 1 1 1
-    ∷ rule 1 1 1
-    ∷ rule 1 1 1
-    -- "4 box (10: id 4, zone 2, capacity 4)"
-    ∷ rule nodeWidth nodeWidth 1
-    -- "5 former row (2 + 4m: partition 2, then m rising ids, m from 1 to 8)"
-    ∷ rule (rowWidth 1) (rowWidth mostCopies) 4
-    -- "6 size (4 bytes, at least 1), 7 sent (2; 2026-01), 8 verdict (1: 1 finished, 0 stopped), 9 improvements (2, at most 2,048)"
-    ∷ rule 4 4 1
-    ∷ rule 2 2 1
-    ∷ rule 1 1 1
-    ∷ rule 2 2 1
-    -- "10 (2 + 4R: partition, R rising ids)", R from 1 to 8
-    ∷ rule (rowWidth 1) (rowWidth mostCopies) 4
-    ∷ []
-
 -- The bytes of the longest field: a row with the most ids.
 abbrev pub longestField : ℕ
 longestField = headWidth + rowWidth mostCopies
-
--- The rule of a tag; a tag that the table does not have has no legal length.
-unfoldable pub ruleOf : ℕ → Rule
-ruleOf tag = getD rules tag noLength
-
--- Whether a body of this length is legal for this tag.
-unfoldable pub legal : ℕ → ℕ → Bool
-legal tag len =
-    leb (ruleOf tag .least) len && (leb len (ruleOf tag .greatest) && eqb ((len - ruleOf tag .least) % ruleOf tag .step) 0)
-
--- "for field 10 only 2 + 4R with this record's R is legal": legal for the tag and, where `exact` is not 0, of that length alone.
-unfoldable pub legalAs : ℕ → ℕ → ℕ → Bool
-legalAs exact tag len = legal tag len && (eqb exact 0 || eqb len exact)
 
 -- What is said of a field with its three bytes of tag and length there: "2, a tag not allowed next; 3, a length not legal for the tag;
 -- 1, body cut short"; else it is whole, and its body begins after the three bytes.

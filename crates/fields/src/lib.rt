@@ -3,94 +3,11 @@ ghost use mathlib.Core.Path.{_≡_};
 ghost use Prim.Native.Nat.{_+_, _^_, _≤_, _<_};
 ghost use lib.ListN.{length};
 ghost use Rattle.fields.specs.ModelTags.{tagsOf};
-ghost use Rattle.fields.specs.RecordField.{has, bytesOf, numberAt, written, nodeAtByte, ruleOf, legalAs, fieldAt, Within, refusalOf, placeOf};
+ghost use Rattle.fields.specs.RecordField.{has, bytesOf, numberAt, written, nodeAtByte, fieldAt, Within, refusalOf, placeOf};
 use cluster::Node;
 
 pub mod ids;
 pub mod reader;
-
-// The bytes of a node: id 4, zone 2, capacity 4.
-const NODE: usize = 10;
-
-// The tag of a former row.
-const FORMER_ROW: usize = 5;
-
-// The legal lengths of a body: from the least to the greatest, in steps.
-pub struct Rule {
-    pub least: usize,
-    pub greatest: usize,
-    pub step: usize,
-}
-
-// The legal lengths by tag. There is no tag 0, so no length is legal for it.
-const LEGAL: [Rule; 11] = [
-    // 0: none.
-    Rule {
-        least: 1,
-        greatest: 0,
-        step: 1,
-    },
-    // 1 bits.
-    Rule {
-        least: 1,
-        greatest: 1,
-        step: 1,
-    },
-    // 2 replication.
-    Rule {
-        least: 1,
-        greatest: 1,
-        step: 1,
-    },
-    // 3 redundancy.
-    Rule {
-        least: 1,
-        greatest: 1,
-        step: 1,
-    },
-    // 4 node.
-    Rule {
-        least: NODE,
-        greatest: NODE,
-        step: 1,
-    },
-    // 5 former row: partition 2, one to eight ids.
-    Rule {
-        least: 6,
-        greatest: 34,
-        step: 4,
-    },
-    // 6 size.
-    Rule {
-        least: 4,
-        greatest: 4,
-        step: 1,
-    },
-    // 7 sent.
-    Rule {
-        least: 2,
-        greatest: 2,
-        step: 1,
-    },
-    // 8 verdict.
-    Rule {
-        least: 1,
-        greatest: 1,
-        step: 1,
-    },
-    // 9 improvements.
-    Rule {
-        least: 2,
-        greatest: 2,
-        step: 1,
-    },
-    // 10 row: partition 2, one to eight ids.
-    Rule {
-        least: 6,
-        greatest: 34,
-        step: 4,
-    },
-];
 
 // What stands at a byte of a record: a whole field, or a refusal with the byte at which the field begins.
 pub enum Field {
@@ -149,7 +66,7 @@ pub fn word_at(s: &[u8], at: usize) -> u32
 pub fn node_at(s: &[u8], at: usize) -> Node
     ensures { λ r. ⌜ r ≡ nodeAtByte (now (s .entry)) at ⌝ }
 {
-    if reaches(s.len(), at, NODE) {
+    if reaches(s.len(), at, lengths::NODE) {
         Node {
             id: word_at(s, at),
             zone: pair_at(s, at + 4) as u16,
@@ -193,38 +110,6 @@ pub fn put_word(out: &mut [u8], at: usize, value: u32)
     }
 }
 
-// The rule of a tag; a tag that the table does not have has no legal length. Most fields are rows, and only an index that is known spares the
-// machine code a copy of the table.
-fn rule_of(tag: usize) -> Rule
-    ensures { λ r. ⌜ r ≡ ruleOf tag ⌝ }
-{
-    if tag == FORMER_ROW {
-        return LEGAL[FORMER_ROW];
-    }
-    if tag < LEGAL.len() {
-        LEGAL[tag]
-    } else {
-        LEGAL[0]
-    }
-}
-
-// Whether a body of this length is legal for this tag and, where `exact` is not 0, of that length.
-fn is_legal(exact: usize, tag: usize, len: usize) -> bool
-    ensures { λ r. ⌜ r ≡ legalAs exact tag len ⌝ }
-{
-    let rule = rule_of(tag);
-    if len < rule.least {
-        return false;
-    }
-    if rule.greatest < len {
-        return false;
-    }
-    if (len - rule.least) % rule.step != 0 {
-        return false;
-    }
-    exact == 0 || len == exact
-}
-
 // The field at byte `at`, where the tags of the set `allowed` are allowed next; where `exact` is not 0, no other length is legal.
 // It looks in this order: three bytes of tag and length, the tag, the length, the body.
 pub fn field_in(s: &[u8], at: usize, allowed: u32, exact: usize) -> Field
@@ -244,7 +129,7 @@ pub fn field_in(s: &[u8], at: usize, allowed: u32, exact: usize) -> Field
         };
     }
     let len = pair_at(s, at + 1) as usize;
-    if !is_legal(exact, tag as usize, len) {
+    if !lengths::is_legal(exact, tag as usize, len) {
         return Field::Refused {
             refusal: cluster::refusal::LENGTH,
             at,

@@ -1,4 +1,4 @@
--- `fields::is_legal` meets its contract.
+-- `lengths::is_legal` meets its contract.
 -- Assumes nothing.
 use Prim.Native.Nat.{ℕ, _-_, _%_, _≤_, _<_}
 use mathlib.Core.Path.{_≡_, sym, subst}
@@ -6,11 +6,11 @@ use mathlib.Core.Bool.{true, false}
 use lib.Dec.{eqb}
 use borrow.Author.Needs.{needs}
 use borrow.Author.Tests.{le-leb, lt-leb, eq-eqb, ne-eqb}
-use Rattle.fields.specs.RecordField.{ruleOf, legal, legalAs}
-use Rattle.fields.specs.declared.Rule.{Rule}
-use Rattle.fields.proofs.RecordField.{step-pos, legal-true}
-use Rattle.fields.proofs.is_legal.Statement.{statement}
-use Rattle.fields.proofs.is_legal.Tie as tie
+use Rattle.lengths.specs.RecordLengths.{ruleOf, legal, legalAs}
+use Rattle.lengths.specs.declared.Rule.{Rule}
+use Rattle.lengths.proofs.Lengths.{step-pos, legal-true}
+use Rattle.lengths.proofs.is_legal.Statement.{statement}
+use Rattle.lengths.proofs.is_legal.Tie as tie
 
 -- What the tests show, over plain numbers and the rule r of the tag.
 module _ (exact tag len : ℕ) (r : Rule) (e : r ≡ ruleOf tag) where
