@@ -1,15 +1,15 @@
-# The walk over the fields before the rows of a layout record: `layout_record::head::read_head`.
+# The walk over the fields before the rows of a layout record: `layout_head::reading::read_head`.
 from walk import BOOL, FIELD, RECORD, RECORD_TERMS, SLICE_TYPE, U32, USES, USIZE, Callee, Walk, enum, struct, used
 
-OWN = 'layout_record'
+OWN = 'layout_head'
 NUMBERS, ENTRY, ANSWER = struct('Numbers', 'Nu'), struct('Entry', 'Et'), enum('Head', 'He')
 
 NONE = Callee('Zeros', 'zeros', OWN, 'Numbers::none', [], NUMBERS, 'r ≡ noNumbers')
 AT = Callee('Entered', 'entry-of', OWN, 'table::Entry::at', [(USIZE, 'i')], ENTRY, 'r ≡ entryAt i', 'i < length headTable')
-NEXT = Callee('Next', 'next', OWN, 'head::next_field', [(RECORD, 's'), (USIZE, 'at'), (U32, 'tag'), (USIZE, '0')], FIELD,
+NEXT = Callee('Next', 'next', OWN, 'reading::next_field', [(RECORD, 's'), (USIZE, 'at'), (U32, 'tag'), (USIZE, '0')], FIELD,
               '(r ≡ nextField bytes at tag 0) × Within n at (tag ∷ []) 0 r', 'tag < 32')
-HALTED = Callee('Halting', 'halted', OWN, 'head::halted', [(FIELD, 'f')], ANSWER, 'headSays r ≡ HeadRefused (refusalOf f) (placeOf f)')
-NUMBER = Callee('Number', 'number', OWN, 'head::number_at', [(RECORD, 's'), (USIZE, 'start'), (USIZE, 'len')], U32, 'r ≡ numberAt bytes start len',
+HALTED = Callee('Halting', 'halted', OWN, 'reading::halted', [(FIELD, 'f')], ANSWER, 'headSays r ≡ HeadRefused (refusalOf f) (placeOf f)')
+NUMBER = Callee('Number', 'number', OWN, 'reading::number_at', [(RECORD, 's'), (USIZE, 'start'), (USIZE, 'len')], U32, 'r ≡ numberAt bytes start len',
                 '(len ≡ 1) ⊎ ((len ≡ 2) ⊎ (len ≡ 4))')
 HOLDS = Callee('Holding', 'holding', OWN, 'table::Entry::holds', [(ENTRY, 'e'), (U32, 'value')], BOOL, 'r ≡ holds e value')
 WITH = Callee('With', 'with', OWN, 'table::with', [(NUMBERS, 'c'), (USIZE, 'i'), (U32, 'value')], NUMBERS, 'r ≡ numbersFrom (set (numbersIn c) i value)',
@@ -20,12 +20,12 @@ LOCALS = [
     'He′.mir', 'slice (named 0)', 'R′.mir erased', 'Nu′.mir', 'tyInt w64', 'Et′.mir', 'F′.mir', 'tyInt w64', 'tyInt w64', 'tyInt w32',
     'tyBool', 'slice erased', 'tyInt w64', 'slice erased', 'tyBool', 'tyInt w64', 'tyInt w64',
 ]
-w = Walk(OWN, 'head::read_head', LOCALS, [NONE, AT, NEXT, HALTED, NUMBER, HOLDS, WITH], ['tok', '‵ Own'])
+w = Walk(OWN, 'reading::read_head', LOCALS, [NONE, AT, NEXT, HALTED, NUMBER, HOLDS, WITH], ['tok', '‵ Own'])
 # how many statements stand before the loop, and in a turn before the `let .. else` and after the test of the range
 LOOP, MATCH, TESTED = 3, 6, 12
 
 SPECS, PROOFS = f'Rattle.{OWN}.specs', f'Rattle.{OWN}.proofs'
-HEAD = f'''-- `layout_record::head::read_head` meets its contract: a walk of its MIR, written by tools/walks. One reader is made in a local, taken apart for each field, and moved on by a store to its number, in a loop with two early returns.
+HEAD = f'''-- `layout_head::reading::read_head` meets its contract: a walk of its MIR, written by tools/walks. One reader is made in a local, taken apart for each field, and moved on by a store to its number, in a loop with two early returns.
 -- All that the proof knows of the functions that are called is that they meet their contracts; what it knows of the record is in `HeadSteps.antt`.
 --     ends         every local is freed: all three returns come here.        leaves       the turn that ends the loop, and the rest of the body
 --     going        a turn after the test of the range.        taking       a turn from the `let .. else` up to there
@@ -41,17 +41,17 @@ use lib.ListN.{{length, set}}
 {USES}use Rattle.fields.specs.RecordField.{{numberAt, Within, Whole, refusalOf, placeOf}}
 use {SPECS}.declared.Numbers.{{Numbers}}
 use {SPECS}.declared.table.Entry.{{Entry}}
-use {SPECS}.declared.head.Head.{{Head}}
-use {SPECS}.declared.head.Head.the-variants.{{Read, Halted}}
+use {SPECS}.declared.reading.Head.{{Head}}
+use {SPECS}.declared.reading.Head.the-variants.{{Read, Halted}}
 use {SPECS}.ModelReading.{{headSays}}
-use {SPECS}.RecordLayout.{{headTable, entryAt, holds, numbersIn, numbersFrom}}
-use {SPECS}.RecordLayoutFaults.{{nextField, noNumbers, HeadRefused, headFrom}}
+use {SPECS}.RecordHead.{{headTable, entryAt, holds, numbersIn, numbersFrom}}
+use {SPECS}.RecordHeadFaults.{{nextField, noNumbers, HeadRefused, headFrom}}
 use {PROOFS}.Numbers as Nu
 use {PROOFS}.Numbers.Laws as Nu′
 use {PROOFS}.table.Entry as Et
 use {PROOFS}.table.Entry.Laws as Et′
-use {PROOFS}.head.Head as He
-use {PROOFS}.head.Head.Laws as He′
+use {PROOFS}.reading.Head as He
+use {PROOFS}.reading.Head.Laws as He′
 use Rattle.fields.proofs.Tests.{{is-true, is-false}}
 use {PROOFS}.HeadSteps.{{HeadTo, head-start, head-tag, head-body, head-stops, head-outside, head-further, head-ended}}
 {w.uses()}'''

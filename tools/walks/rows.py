@@ -1,11 +1,11 @@
 # The walk over the rows of a layout record: `layout_record::rows::read_rows`.
 from walk import CELL_TERMS, FIELD, RECORD, RECORD_TERMS, TYPES, U32, UNIT, USES, USIZE, Callee, Walk, struct, used
 
-OWN = 'layout_record'
+OWN, BELOW = 'layout_record', 'layout_head'
 NUMBERS, ANSWER = struct('Numbers', 'Nu'), struct('ReadLayout', 'An')
 
 PARTS = Callee('Partitions', 'partitions', 'cluster', 'partitions', [(U32, 'bits')], USIZE, '(r ≡ 2 ^ min bits mostBits) × (r ≤ bufferRows)')
-NEXT = Callee('Next', 'next', OWN, 'head::next_field', [(RECORD, 's'), (USIZE, 'at'), (U32, '10'), (USIZE, 'exact')], FIELD,
+NEXT = Callee('Next', 'next', BELOW, 'reading::next_field', [(RECORD, 's'), (USIZE, 'at'), (U32, '10'), (USIZE, 'exact')], FIELD,
               '(r ≡ nextField bytes at 10 exact) × Within n at (10 ∷ []) exact r', '10 < 32')
 STOPPED = Callee('Stopping', 'refused-by', OWN, 'rows::refused_by', [(FIELD, 'f')], ANSWER, 'r ≡ layoutAnswer (layoutRefused (refusalOf f) (placeOf f))')
 FAULT = Callee('Fault', 'fault', OWN, 'rows::row_fault', [(RECORD, 's'), (USIZE, 'start'), (USIZE, 'parts'), (USIZE, 'next'), (USIZE, 'count')], U32,
@@ -44,12 +44,13 @@ use Rattle.fields.specs.RecordField.{{numberAt, idsAt, Within, Whole, refusalOf
 use Rattle.cluster.specs.Terms.{{mostBits, mostCopies, rowCells, bufferRows, layoutCells, Layout, cellsOf}}
 use Rattle.cluster.proofs.Accepting.{{partitions-in-range}}
 use Rattle.cluster.proofs.CellLayouts.{{length-cellsOf}}
-use {SPECS}.declared.Numbers.{{Numbers}}
+use Rattle.{BELOW}.specs.declared.Numbers.{{Numbers}}
 use {SPECS}.declared.ReadLayout.{{ReadLayout}}
-use {SPECS}.RecordLayoutFaults.{{nextField, layoutRefused, layoutRowFault, endIn}}
+use Rattle.{BELOW}.specs.RecordHeadFaults.{{nextField}}
+use {SPECS}.RecordLayoutFaults.{{layoutRefused, layoutRowFault, endIn}}
 use {SPECS}.RecordLayoutAnswer.{{layoutAnswer}}
-use {PROOFS}.Numbers as Nu
-use {PROOFS}.Numbers.Laws as Nu′
+use Rattle.{BELOW}.proofs.Numbers as Nu
+use Rattle.{BELOW}.proofs.Numbers.Laws as Nu′
 use {PROOFS}.ReadLayout as An
 use {PROOFS}.ReadLayout.Laws as An′
 use {PROOFS}.RowsTo.{{Says, RowsTo, rows-start, rows-stopped, rows-faulted, rows-further, rows-ended}}

@@ -1,11 +1,11 @@
 // Layout records, written through C.
 ghost use mathlib.Core.Path.{_≡_};
-ghost use Rattle.layout_record.specs.RecordLayout.{numbersOf};
+ghost use Rattle.layout_head.specs.RecordHead.{numbersOf};
 ghost use Rattle.layout_record.specs.RecordLayoutAnswer.{writeAnswer, outAfter};
 ghost use Rattle.answers.specs.TermsAnswers.{halves, unlessShort, answerAfter};
 ghost use Rattle.console_records.specs.TermsConsoleRecords.{writeCells};
 use cluster::refusal;
-use layout_record::Numbers;
+use layout_head::Numbers;
 
 // The cells of the answer: the record's length (two cells).
 const ANSWER: usize = 2;

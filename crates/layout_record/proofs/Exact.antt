@@ -15,16 +15,18 @@ use Rattle.cluster.specs.ModelRows.{FitsCells, HoldsRows}
 use Rattle.cluster.proofs.CellRows.{formed-rising, rising-ids}
 use Rattle.cluster.proofs.CellLayouts.{getD-rowAt, rowAt-take, length-rowsIn, row-rowsIn, length-cellsOf, rowAt-cellsOf, rowsIn-take, rowsIn-cellsOf, holds-cellsOf, id-rowsIn, cellsOf-rowsIn}
 use Rattle.fields.specs.RecordField.{Bytes, over}
-use Rattle.layout_record.specs.declared.Numbers.{Numbers}
+use Rattle.layout_head.specs.declared.Numbers.{Numbers}
 use Rattle.layout_record.specs.declared.ReadLayout.{ReadLayout}
 use Rattle.layout_record.specs.declared.Written.{Written}
-use Rattle.layout_record.specs.RecordLayout.{headTable, inRange, HasLayout, headFields, layoutRowFields, layoutRecord, recordLength, IsLayoutRecord}
-use Rattle.layout_record.specs.RecordLayoutFaults.{LayoutRead, layoutAccepted, HeadRead, HeadEnds, HeadRefused, headFrom, rowsFrom, readLayout, rowFits, rowsFit, writeFault}
+use Rattle.layout_head.specs.RecordHead.{headTable, inRange, headFields}
+use Rattle.layout_record.specs.RecordLayout.{HasLayout, layoutRowFields, layoutRecord, recordLength, IsLayoutRecord}
+use Rattle.layout_head.specs.RecordHeadFaults.{HeadRead, HeadEnds, HeadRefused, headFrom}
+use Rattle.layout_record.specs.RecordLayoutFaults.{LayoutRead, layoutAccepted, rowsFrom, readLayout, rowFits, rowsFit, writeFault}
 use Rattle.layout_record.specs.RecordLayoutAnswer.{layoutAnswer, readLayoutOf, assignmentRead, writeAnswer, outAfter}
 use Rattle.layout_record.proofs.RecordLaws.{length-record}
 use Rattle.layout_record.specs.RecordLayoutClaims.{Words, WasRecord, ReadsLayout, WasRead, CanWrite, WritesLayout, WasWritten}
-use Rattle.layout_record.proofs.NumberFields.{few-bits, few-copies}
-use Rattle.layout_record.proofs.HeadExact.{head-refused, head-back, head-found}
+use Rattle.layout_head.proofs.NumberFields.{few-bits, few-copies}
+use Rattle.layout_head.proofs.HeadExact.{head-refused, head-back, head-found}
 use Rattle.layout_record.proofs.RowsExact.{rows-back, rows-found}
 use Rattle.cluster.proofs.Accepting.{few-partitions}
 use Rattle.layout_record.proofs.RowFaults.{fits-formed, fits-zero, formed-fits, zero-fits, Writable, no-fault, write-none}

@@ -1,9 +1,5 @@
 pub mod CellsMore
 pub mod Exact
-pub mod FieldFaults
-pub mod HeadExact
-pub mod HeadSteps
-pub mod NumberFields
 pub mod PutRows
 pub mod RecordLaws
 pub mod RowFaults

@@ -16,8 +16,9 @@ use Rattle.cluster.specs.ModelRows.{rowIds, rowIsBlank}
 use Rattle.sums.proofs.Tests.{both, true-or-false}
 use Rattle.cluster.proofs.RowScans.{formed-row-ids, ill-row-ids, row-of-buffer}
 use Rattle.fields.specs.RecordField.{fieldAt, refusalOf, placeOf}
-use Rattle.layout_record.specs.declared.Numbers.{Numbers}
-use Rattle.layout_record.specs.RecordLayout.{inRange, recordLength}
+use Rattle.layout_head.specs.declared.Numbers.{Numbers}
+use Rattle.layout_head.specs.RecordHead.{inRange}
+use Rattle.layout_record.specs.RecordLayout.{recordLength}
 use Rattle.layout_record.specs.RecordLayoutFaults.{layoutAccepted, layoutRefused, layoutRowFault, endIn, rowFits, rowsFit, writeFault}
 
 -- ---- the faults of a row that is read

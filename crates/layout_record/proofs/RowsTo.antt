@@ -10,12 +10,13 @@ use Rattle.cells.specs.ModelCells.{put}
 use Rattle.cluster.specs.Terms.{rowCells, bufferRows, Layout, cellsOf}
 use Rattle.fields.specs.RecordField.{numberAt, idsAt}
 use Rattle.fields.specs.declared.Field.the-variants.{Body, Refused}
-use Rattle.layout_record.specs.declared.Numbers.{Numbers}
+use Rattle.layout_head.specs.declared.Numbers.{Numbers}
 use Rattle.layout_record.specs.declared.ReadLayout.{ReadLayout}
-use Rattle.layout_record.specs.RecordLayoutFaults.{nextField, LayoutRead, layoutRefused, layoutRowFault, endIn, rowsFrom}
+use Rattle.layout_head.specs.RecordHeadFaults.{nextField}
+use Rattle.layout_record.specs.RecordLayoutFaults.{LayoutRead, layoutRefused, layoutRowFault, endIn, rowsFrom}
 use Rattle.layout_record.specs.RecordLayoutAnswer.{layoutAnswer}
 use Rattle.layout_record.proofs.CellsMore.{length-more}
-use Rattle.layout_record.proofs.FieldFaults.{next-refused}
+use Rattle.layout_head.proofs.FieldFaults.{next-refused}
 use Rattle.layout_record.proofs.RowSteps.{rows-stop, rows-fault, rows-on, rows-done, end-layout, cells-next}
 
 -- What the reading of the rows from byte `from` on answers, and what it leaves in the cells.

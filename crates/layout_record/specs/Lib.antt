@@ -1,4 +1,3 @@
-pub mod ModelReading
 pub mod RecordLayout
 pub mod RecordLayoutAnswer
 pub mod RecordLayoutClaims

@@ -7,7 +7,7 @@ use lib.Dec.{ltb, eqb}
 use lib.ListN.{length, drop}
 use Rattle.cluster.specs.Terms.{layoutCells, cellsOf, rowsIn}
 use Rattle.fields.specs.RecordField.{over}
-use Rattle.layout_record.specs.declared.Numbers.{Numbers}
+use Rattle.layout_head.specs.declared.Numbers.{Numbers}
 use Rattle.layout_record.specs.declared.ReadLayout.{ReadLayout}
 use Rattle.layout_record.specs.declared.Written.{Written}
 use Rattle.layout_record.specs.RecordLayout.{layoutRecord, recordLength}

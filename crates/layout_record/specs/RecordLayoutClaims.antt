@@ -7,8 +7,9 @@ use mathlib.Core.Bool.{true}
 use mathlib.Core.List.{List, _++_}
 use lib.ListN.{length, take, drop, getD}
 use Rattle.cluster.specs.Terms.{layoutCells, Layout, cellsOf}
-use Rattle.layout_record.specs.declared.Numbers.{Numbers}
-use Rattle.layout_record.specs.RecordLayout.{inRange, HasLayout, layoutRecord, IsLayoutRecord}
+use Rattle.layout_head.specs.declared.Numbers.{Numbers}
+use Rattle.layout_head.specs.RecordHead.{inRange}
+use Rattle.layout_record.specs.RecordLayout.{HasLayout, layoutRecord, IsLayoutRecord}
 use Rattle.layout_record.specs.RecordLayoutFaults.{layoutAccepted, readLayout}
 use Rattle.layout_record.specs.RecordLayoutAnswer.{readLayoutOf, assignmentRead, writeAnswer, outAfter}
 

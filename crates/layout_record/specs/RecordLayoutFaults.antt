@@ -10,32 +10,12 @@ use Rattle.cluster.specs.Terms.{bufferRows, layoutCells, Layout, mem, rising, r
 use Rattle.fields.specs.RecordField.{numberAt, idsAt, fieldAt, refusalOf, placeOf}
 use Rattle.fields.specs.declared.Field.{Field}
 use Rattle.fields.specs.declared.Field.the-variants.{Body, Refused}
-use Rattle.layout_record.specs.declared.Numbers.{Numbers}
-use Rattle.layout_record.specs.declared.table.Entry.{Entry}
-use Rattle.layout_record.specs.RecordLayout.{headTable, numbersOf, numbersFrom, holds, inRange, recordLength}
+use Rattle.layout_head.specs.declared.Numbers.{Numbers}
+use Rattle.layout_head.specs.RecordHead.{headTable, inRange}
+use Rattle.layout_head.specs.RecordHeadFaults.{nextField, HeadRead, HeadEnds, HeadRefused, headFrom, noNumbers}
+use Rattle.layout_record.specs.RecordLayout.{recordLength}
 
 -- ---- reading
-
--- The field at byte `at`, which has to have this tag: "7 when a field or row is missing", with the record's length; else as fields are taken.
-unfoldable pub nextField : List ℕ → ℕ → ℕ → ℕ → Field
-nextField s at tag exact = cond (leb (length s) at) (Refused 7 (length s)) (fieldAt s at (tag ∷ []) exact)
-
--- What the fields before the rows say: the numbers with the byte after them, or a refusal with its byte.
-pub data HeadRead : Type 0 where
-  HeadEnds : Numbers → ℕ → HeadRead
-  HeadRefused : ℕ → ℕ → HeadRead
-
--- A field with the number of an entry, and what comes after it: "4, a value outside its range", with the byte at which the field begins; else
--- the reading goes on with the value, from the byte after the field.
-abbrev pub headNumber : (ℕ → ℕ → HeadRead) → List ℕ → ℕ → Entry → Field → HeadRead
-headNumber go s at e (Refused refusal byte) = HeadRefused refusal byte
-headNumber go s at e (Body tag start len) =
-    cond (holds e (numberAt s start len)) (go (start + len) (numberAt s start len)) (HeadRefused 4 at)
-
--- The numbers of the entries, one field each, from byte `at` on, after the numbers vs: "the first fault decides".
-unfoldable pub headFrom : List Entry → List ℕ → ℕ → List ℕ → HeadRead
-headFrom [] s at vs = HeadEnds (numbersFrom vs) at
-headFrom (e ∷ es) s at vs = headNumber (λ next v. headFrom es s next (vs ++ (v ∷ []))) s at e (nextField s at (e .tag) 0)
 
 -- What a reading yields: the refusal, 0 for none, with its byte; the numbers and the layout.
 pub record LayoutRead : Type 0 where
@@ -43,10 +23,6 @@ pub record LayoutRead : Type 0 where
   pub byte : ℕ
   pub numbers : Numbers
   pub layout : Layout
-
--- The numbers of a refused reading.
-abbrev pub noNumbers : Numbers
-noNumbers = numbersOf 0 0 0 0 0 0
 
 -- A refusal: "every number for which nothing is laid down here is 0"
 abbrev pub layoutRefused : ℕ → ℕ → LayoutRead

@@ -1,41 +1,14 @@
 // Layout records, read and written: the numbers of a layout and its rows.
 ghost use mathlib.Core.Path.{_≡_};
-ghost use Rattle.layout_record.specs.RecordLayoutFaults.{noNumbers, layoutRefused};
+ghost use Rattle.layout_record.specs.RecordLayoutFaults.{layoutRefused};
 ghost use Rattle.layout_record.specs.RecordLayoutAnswer.{layoutAnswer, readLayoutOf, assignmentRead, writeAnswer, outAfter};
 use cluster::Cluster;
 use cluster::refusal;
+use layout_head::Numbers;
 
-mod head;
 mod range;
 mod rows;
-mod table;
 mod write;
-
-// The numbers of a layout record.
-pub struct Numbers {
-    pub bits: u32,
-    pub replication: u32,
-    pub size: u32,
-    pub sent: u32,
-    pub verdict: u32,
-    pub improvements: u32,
-}
-
-impl Numbers {
-    // The numbers of a refused reading.
-    pub fn none() -> Numbers
-        ensures { λ r. ⌜ r ≡ noNumbers ⌝ }
-    {
-        Numbers {
-            bits: 0,
-            replication: 0,
-            size: 0,
-            sent: 0,
-            verdict: 0,
-            improvements: 0,
-        }
-    }
-}
 
 // What reading yields: the refusal, 0 for none, with its byte, and the numbers.
 pub struct ReadLayout {

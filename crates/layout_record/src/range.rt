@@ -3,17 +3,14 @@ ghost use mathlib.Core.Path.{_≡_};
 ghost use Prim.Native.Nat.{_≤_, _<_};
 ghost use lib.ListN.{length};
 ghost use Rattle.cluster.specs.Terms.{mostBits, mostCopies, bufferRows, layoutCells};
-ghost use Rattle.layout_record.specs.RecordLayout.{inRange, recordLength};
+ghost use Rattle.layout_record.specs.RecordLayout.{recordLength};
 ghost use Rattle.layout_record.specs.RecordLayoutFaults.{rowFits, rowsFit, writeFault};
-use super::Numbers;
-use super::table;
-use super::table::Entry;
 use cluster::Cluster;
 use cluster::refusal;
 use cluster::rows;
+use layout_head::Numbers;
+use layout_head::table;
 
-// The bytes of the fields before the rows.
-pub const HEAD_BYTES: usize = 29;
 // The bytes of a row's field before its ids.
 pub const ROW: usize = 5;
 
@@ -22,23 +19,7 @@ pub(crate) fn record_length(bits: u32, replication: u32) -> usize
     requires { ⌜ (bits ≤ mostBits) × (replication ≤ mostCopies) ⌝ }
     ensures { λ r. ⌜ r ≡ recordLength bits replication ⌝ }
 {
-    HEAD_BYTES + cluster::partitions(bits) * (ROW + 4 * (replication as usize))
-}
-
-// Whether each number is in its range.
-fn in_range(n: Numbers) -> bool
-    ensures { λ r. ⌜ r ≡ inRange n ⌝ }
-{
-    let values = table::numbers_in(n);
-    let mut i = 0;
-    while i < table::HEAD.len() {
-        let entry = Entry::at(i);
-        if !entry.holds(values[i]) {
-            return false;
-        }
-        i += 1;
-    }
-    true
+    table::HEAD_BYTES + cluster::partitions(bits) * (ROW + 4 * (replication as usize))
 }
 
 // Whether one row is as it must be: so many rising ids and then zeros below `partitions`, and zeros from there on.
@@ -74,7 +55,7 @@ pub fn write_fault(numbers: Numbers, cells: &[u32], room: usize) -> u32
     if cells.len() < Cluster::CELLS {
         return refusal::BUFFER;
     }
-    if !in_range(numbers) {
+    if !table::in_range(numbers) {
         return refusal::RANGE;
     }
     if !rows_fit(

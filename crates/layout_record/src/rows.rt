@@ -7,17 +7,15 @@ ghost use Rattle.cluster.specs.Terms.{mostBits, mostCopies, layoutCells, Layout
 ghost use Rattle.fields.specs.RecordField.{numberAt, idsAt, refusalOf, placeOf};
 ghost use Rattle.layout_record.specs.RecordLayoutFaults.{layoutRefused, layoutRowFault, endIn, rowsFrom, readLayout};
 ghost use Rattle.layout_record.specs.RecordLayoutAnswer.{layoutAnswer};
-use super::Numbers;
 use super::ReadLayout;
-use super::head;
-use super::head::Head;
-use super::range;
 use super::refused;
-use cluster::Cluster;
 use cluster::refusal;
 use fields::Field;
 use fields::ids;
 use fields::reader::Reader;
+use layout_head::Numbers;
+use layout_head::reading;
+use layout_head::reading::Head;
 
 // The fault of a row whose body begins at byte `start`: a value outside its range, then a row that is not the next or
 // ids that do not rise; 0 where there is none.
@@ -77,7 +75,7 @@ fn read_rows(bytes: &[u8], from: usize, numbers: Numbers, cells: &mut [u32]) -> 
     };
     let mut next = 0;
     while next < partitions {
-        let f = head::next_field(r.src, r.at, 10, 2 + 4 * count);
+        let f = reading::next_field(r.src, r.at, 10, 2 + 4 * count);
         let Field::Body { tag: _, start, len } = f else {
             return refused_by(f);
         };
@@ -98,7 +96,7 @@ pub(crate) fn read_into(bytes: &[u8], cells: &mut [u32]) -> ReadLayout
     ensures { λ r. ⌜ (r ≡ layoutAnswer (readLayout (now (bytes .entry))))
         × (r .refusal ≡ 0 → now (cells .exit) ≡ cellsOf (readLayout (now (bytes .entry)) .layout)) ⌝ }
 {
-    let h = head::read_head(bytes);
+    let h = reading::read_head(bytes);
     match h {
         Head::Read(numbers, end) => read_rows(bytes, end, numbers, cells),
         Head::Halted(refusal, byte) => refused(refusal, byte),

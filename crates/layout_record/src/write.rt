@@ -1,61 +1,17 @@
 // Writing a layout record, from front to back, where it fits.
 ghost use mathlib.Core.Path.{_≡_};
 ghost use mathlib.Core.Bool.{true};
-ghost use mathlib.Core.List.{_++_};
-ghost use mathlib.Core.Logic.{_⊎_};
 ghost use Prim.Native.Nat.{_+_, _*_, _^_, _≤_, _<_};
 ghost use lib.ListN.{length, take, drop};
 ghost use Rattle.cluster.specs.Terms.{mostCopies, bufferRows, layoutCells, rowAt, rowsIn};
-ghost use Rattle.fields.specs.RecordField.{bytesOf, written, over, field, idBytes};
-ghost use Rattle.layout_record.specs.RecordLayout.{headFields, layoutRowField, layoutRowFields, layoutRecord};
+ghost use Rattle.fields.specs.RecordField.{written, over, idBytes};
+ghost use Rattle.layout_record.specs.RecordLayout.{layoutRowField, layoutRowFields, layoutRecord};
 ghost use Rattle.layout_record.specs.RecordLayoutFaults.{rowsFit, writeFault};
-use super::Numbers;
 use super::range;
-use super::table;
-use super::table::Entry;
 use cluster::Cluster;
-
-// Puts the tag and the length of a field.
-fn put_head(out: &mut [u8], at: usize, tag: u32, len: usize)
-    requires { ⌜ (at + 3 ≤ length (now out)) × (len < 65536) ⌝ }
-    ensures { λ _. ⌜ now (out .exit) ≡ written (now (out .entry)) at (bytesOf 1 tag ++ bytesOf 2 len) ⌝ }
-{
-    fields::put_byte(out, at, tag);
-    fields::put_pair(out, at + 1, len as u32);
-}
-
-// Puts a field of one number of one, two or four bytes.
-fn put_number(out: &mut [u8], at: usize, tag: u32, width: usize, value: u32)
-    requires { ⌜ (at + 3 + width ≤ length (now out)) × (tag < 256) × ((width ≡ 1) ⊎ ((width ≡ 2) ⊎ (width ≡ 4))) ⌝ }
-    ensures { λ _. ⌜ now (out .exit) ≡ written (now (out .entry)) at (field tag (bytesOf width value)) ⌝ }
-{
-    put_head(out, at, tag, width);
-    if width == 1 {
-        fields::put_byte(out, at + 3, value);
-        return;
-    }
-    if width == 2 {
-        fields::put_pair(out, at + 3, value);
-        return;
-    }
-    fields::put_word(out, at + 3, value);
-}
-
-// Puts the fields before the rows.
-fn put_numbers(out: &mut [u8], n: Numbers)
-    requires { ⌜ 29 ≤ length (now out) ⌝ }
-    ensures { λ _. ⌜ now (out .exit) ≡ written (now (out .entry)) 0 (headFields n) ⌝ }
-{
-    let values = table::numbers_in(n);
-    let mut at = 0;
-    let mut i = 0;
-    while i < table::HEAD.len() {
-        let entry = Entry::at(i);
-        put_number(out, at, entry.tag, entry.width, values[i]);
-        at += 3 + entry.width;
-        i += 1;
-    }
-}
+use layout_head::Numbers;
+use layout_head::table;
+use layout_head::writing;
 
 // Puts the ids in the cells from `from` on, four bytes each.
 fn put_ids(out: &mut [u8], at: usize, cells: &[u32], from: usize, count: usize)
@@ -74,7 +30,7 @@ fn put_row(out: &mut [u8], at: usize, cells: &[u32], p: usize, count: usize)
     requires { ⌜ (at + 5 + 4 * count ≤ length (now out)) × (layoutCells ≤ length (now cells)) × (p < bufferRows) × (count ≤ mostCopies) ⌝ }
     ensures { λ _. ⌜ now (out .exit) ≡ written (now (out .entry)) at (layoutRowField p (take count (rowAt (now (cells .entry)) p))) ⌝ }
 {
-    put_head(out, at, 10, 2 + 4 * count);
+    writing::put_head(out, at, 10, 2 + 4 * count);
     fields::put_pair(out, at + 3, p as u32);
     put_ids(out, at + range::ROW, cells, p * Cluster::ROW, count);
 }
@@ -85,7 +41,7 @@ fn put_rows(out: &mut [u8], cells: &[u32], partitions: usize, count: usize)
         × (count ≤ mostCopies) × (rowsFit (now cells) partitions count ≡ true) ⌝ }
     ensures { λ _. ⌜ now (out .exit) ≡ written (now (out .entry)) 29 (layoutRowFields 0 (rowsIn partitions (now (cells .entry)))) ⌝ }
 {
-    let mut at = range::HEAD_BYTES;
+    let mut at = table::HEAD_BYTES;
     let mut p = 0;
     while p < partitions {
         put_row(out, at, cells, p, count);
@@ -99,7 +55,7 @@ pub(crate) fn put_record(numbers: Numbers, cells: &[u32], out: &mut [u8])
     requires { ⌜ writeFault numbers (now cells) (length (now out)) ≡ 0 ⌝ }
     ensures { λ _. ⌜ now (out .exit) ≡ over (layoutRecord numbers (rowsIn (2 ^ (numbers .bits)) (now (cells .entry)))) (now (out .entry)) ⌝ }
 {
-    put_numbers(out, numbers);
+    writing::put_numbers(out, numbers);
     put_rows(
         out,
         cells,

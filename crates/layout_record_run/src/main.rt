@@ -2,7 +2,7 @@
 ghost use Prim.Native.Nat.{_<_};
 ghost use mathlib.Core.Path.{_≡_};
 ghost use lib.ListN.{length};
-use layout_record::Numbers;
+use layout_head::Numbers;
 use libc::STDOUT_FILENO;
 
 // A record of 55 bytes: two partitions, two copies, size 25, sent 4, finished, no improvements, rows 1 2 and 2 3.

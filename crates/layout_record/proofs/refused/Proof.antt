@@ -2,7 +2,7 @@
 -- Assumes nothing.
 use borrow.Author.Needs.{needs}
 use mathlib.Core.Path.{ap}
-use Rattle.layout_record.specs.declared.Numbers.{Numbers}
+use Rattle.layout_head.specs.declared.Numbers.{Numbers}
 use Rattle.layout_record.specs.RecordLayoutAnswer.{layoutAnswer}
 use Rattle.layout_record.proofs.refused.Statement.{statement}
 use Rattle.layout_record.proofs.refused.Tie as tie

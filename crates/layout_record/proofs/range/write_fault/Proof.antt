@@ -8,10 +8,10 @@ use mathlib.Core.Bool.{true}
 use borrow.Author.Tests.{not-true, not-false}
 use Rattle.cluster.proofs.Accepting.{partitions-in-range}
 use Rattle.cluster.specs.Terms.{mostCopies}
-use Rattle.layout_record.specs.RecordLayout.{inRange}
+use Rattle.layout_head.specs.RecordHead.{inRange}
 use Rattle.layout_record.specs.RecordLayoutFaults.{rowsFit}
 use Rattle.layout_record.proofs.RowFaults.{write-cells, write-numbers, write-rows, write-room, write-none}
-use Rattle.layout_record.proofs.NumberFields.{few-bits, few-copies}
+use Rattle.layout_head.proofs.NumberFields.{few-bits, few-copies}
 use Rattle.layout_record.proofs.range.write_fault.Statement.{statement}
 use Rattle.layout_record.proofs.range.write_fault.Tie as tie
 

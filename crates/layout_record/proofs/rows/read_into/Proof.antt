@@ -8,13 +8,14 @@ use mathlib.Core.List.{[]}
 use Rattle.cluster.specs.Terms.{cellsOf}
 use Rattle.fields.specs.RecordField.{Bytes}
 use Rattle.layout_record.specs.declared.ReadLayout.{ReadLayout}
-use Rattle.layout_record.specs.RecordLayout.{headTable}
-use Rattle.layout_record.specs.RecordLayoutFaults.{HeadEnds, headFrom, LayoutRead}
-use Rattle.layout_record.specs.ModelReading.{headSays}
+use Rattle.layout_head.specs.RecordHead.{headTable}
+use Rattle.layout_head.specs.RecordHeadFaults.{HeadEnds, headFrom}
+use Rattle.layout_record.specs.RecordLayoutFaults.{LayoutRead}
+use Rattle.layout_head.specs.ModelReading.{headSays}
 use Rattle.layout_record.specs.RecordLayoutAnswer.{layoutAnswer}
 use Rattle.layout_record.proofs.CellsMore.{cells-none}
-use Rattle.layout_record.proofs.NumberFields.{few-bits, few-copies}
-use Rattle.layout_record.proofs.HeadExact.{head-refused, head-back}
+use Rattle.layout_head.proofs.NumberFields.{few-bits, few-copies}
+use Rattle.layout_head.proofs.HeadExact.{head-refused, head-back}
 use Rattle.layout_record.proofs.RowSteps.{read-halted, read-on}
 use Rattle.layout_record.proofs.rows.read_into.Statement.{statement}
 use Rattle.layout_record.proofs.rows.read_into.Tie as tie

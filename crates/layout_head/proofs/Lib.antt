@@ -1,0 +1,4 @@
+pub mod FieldFaults
+pub mod HeadExact
+pub mod HeadSteps
+pub mod NumberFields

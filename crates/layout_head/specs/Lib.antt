@@ -1,0 +1,3 @@
+pub mod ModelReading
+pub mod RecordHead
+pub mod RecordHeadFaults
