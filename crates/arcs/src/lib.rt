@@ -6,7 +6,7 @@ ghost use Prim.Native.Nat.{ℕ, _+_, _/_, _%_, _≤_, _<_, min};
 ghost use lib.ListN.{length, drop};
 ghost use Rattle.sums.specs.TermsSums.{tab};
 ghost use Rattle.cluster.specs.Terms.{mostNodes, bufferRows};
-ghost use Rattle.cycles.specs.ModelGraph.{arcCells};
+ghost use Rattle.levels.specs.ModelGraph.{arcCells};
 ghost use Rattle.sets.specs.ModelBits.{bit, differenceOf};
 ghost use Rattle.swaps.specs.ModelSwaps.{tightOf, Tight};
 ghost use Rattle.arcs.specs.ModelMoves.{joined, noted, leads, weighs, moves, movesTo};
@@ -22,7 +22,7 @@ fn clear(arcs: &mut [u32])
     ensures { λ _. ⌜ now (arcs .exit) ≡ tab (λ k. 0) arcCells ++ drop arcCells (now (arcs .entry)) ⌝ }
 {
     let mut i = 0;
-    while i < cycles::ARCS {
+    while i < levels::ARCS {
         arcs[i] = 0;
         i += 1;
     }

@@ -29,7 +29,7 @@ use Rattle.exchange.proofs.Agreeing.{SameLayout, better-cong}
 use Rattle.swaps.specs.ModelSwaps.{targetsOf}
 use Rattle.swaps.specs.ModelMates.{Mates}
 use Rattle.swaps.proofs.Fitting.{target-valid, valid-target}
-use Rattle.cycles.specs.ModelGraph.{graphOf, arcOf, weightOf}
+use Rattle.levels.specs.ModelGraph.{graphOf, arcOf, weightOf}
 use Rattle.walks.specs.ModelWalks.{okOf, suitsOf, suitsAt, witnessOf, roomAt, renewedAt, renewed, standsAt, stands}
 use Rattle.walks.proofs.Renewing.{nextFrom, renewed-row, renewed-store, stands-row, stands-store}
 use Rattle.circuits.specs.ModelCircuits.{cycleOf, freedOf, turnedOf}

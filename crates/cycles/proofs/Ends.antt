@@ -27,7 +27,8 @@ use Rattle.sums.proofs.Tests.{true-or-false}
 use Rattle.exchange.proofs.Search.{open-next, Closing, closing, way-next, way-stays, back-next, back-fell, back-node}
 use Rattle.sums.proofs.First.{first-lt, first-cong, first-is-none, first-some, first-none, first-cases}
 use Rattle.cycles.specs.ModelFound.{endLength, endWalk}
-use Rattle.cycles.specs.ModelTurns.{Settled, behind, returned, closer, trail, trailLength}
+use Rattle.levels.specs.ModelTurns.{Settled}
+use Rattle.cycles.specs.ModelTrails.{behind, returned, closer, trail, trailLength}
 use Rattle.cycles.proofs.States.{State, Next}
 
 -- One level down from level k, with all that the cells hold: the state before, the next level, and the row of the nodes that the fallen came from.

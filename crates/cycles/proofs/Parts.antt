@@ -17,8 +17,9 @@ use Rattle.sums.proofs.Sum.{eq-or-ne, is-ne}
 use Rattle.sets.specs.ModelBits.{bit, memberOf, withOf}
 use Rattle.sets.proofs.Laws.{bit-zero, bit-true, bit-false}
 use Rattle.sums.specs.ModelSums.{firstFrom}
-use Rattle.cycles.specs.ModelTurns.{Nodes, behind, returned, closer, trail, trailLength}
-use Rattle.cycles.proofs.Visits.{Visit, visit-node, visit-member, visit-below, visit-before, visit-after}
+use Rattle.levels.specs.ModelTurns.{Nodes}
+use Rattle.cycles.specs.ModelTrails.{behind, returned, closer, trail, trailLength}
+use Rattle.levels.proofs.Visits.{Visit, visit-node, visit-member, visit-below, visit-before, visit-after}
 use Rattle.sums.proofs.First.{first-is, first-is-none, first-hit, first-miss, first-end}
 
 -- ---- ways

@@ -1,4 +1,4 @@
--- The numbers of a search fit: the rows of its table, and the nodes.
+-- The numbers of a search fit: the rows of its table.
 -- Assumes nothing.
 use Prim.Native.Nat.{ℕ, _+_, _-_, _*_, _≤_, _<_}
 use mathlib.Core.Path.{_≡_}
@@ -8,7 +8,7 @@ use mir.Syntax.{w32, w64}
 use mir.Val.{Fits}
 use lib.ListN.{length, take, drop, length-take, length-drop}
 use Rattle.cluster.specs.Terms.{mostNodes}
-use Rattle.cycles.specs.ModelGraph.{arcCells, tableCells}
+use Rattle.levels.specs.ModelGraph.{tableCells}
 
 -- A level below n is below the most nodes.
 pub level-lt : (k n : ℕ) → k < n → n ≤ mostNodes → k < mostNodes
@@ -53,29 +53,8 @@ module _ (k : ℕ) (l : k < mostNodes) where
   pub row-length : (t : List ℕ) → length t ≡ tableCells → mostNodes ≤ length (take ((k + 1) * mostNodes + mostNodes - (k + 1) * mostNodes) (drop ((k + 1) * mostNodes) t))
   row-length t e = omega (arith, length-take ((k + 1) * mostNodes + mostNodes - (k + 1) * mostNodes) (drop ((k + 1) * mostNodes) t), length-drop ((k + 1) * mostNodes) t)
 
--- The sets of a node lie among the arcs, from b on.
-module _ (u : ℕ) (l : u < mostNodes) (b : ℕ) (s : b ≤ 2 * mostNodes) where
-  pub arcs-fit : Fits w64 (b + u)
-  arcs-fit = omega arith
-
-  pub arcs-bytes-fit : Fits w64 ((b + u) * 4)
-  arcs-bytes-fit = omega arith
-
-  pub arcs-inside : (t : List ℕ) → arcCells ≤ length t → b + u < length t
-  arcs-inside t e = omega arith
-
 pub row-ends : (a : ℕ) → a ≤ a + mostNodes
 row-ends a = omega arith
 
 pub length-enough : {m n : ℕ} → n ≡ m → m ≤ n
 length-enough e = omega arith
-
--- What keeps its length is as long as it was.
-pub length-kept : {a b n : ℕ} → a ≡ b → n ≤ b → n ≤ a
-length-kept e l = omega arith
-
-pub distance-fits : (d : ℕ) → d ≤ mostNodes → Fits w32 (d + 1)
-distance-fits d l = omega arith
-
-pub distance-most : (d n : ℕ) → d ≤ n → n ≤ mostNodes → d ≤ mostNodes
-distance-most d n l s = omega arith

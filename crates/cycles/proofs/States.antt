@@ -20,8 +20,8 @@ use Rattle.exchange.specs.ModelLevels as levels
 use Rattle.exchange.specs.ModelLevels.{Graph, Fall, relax, scan, level, fell}
 use Rattle.exchange.proofs.Levels.{level-skip, dist-room, dist-le, fell-lt}
 use Rattle.exchange.proofs.Search.{Open, open-zero}
-use Rattle.cycles.specs.ModelGraph.{graphOf}
-use Rattle.cycles.specs.ModelTurns.{Held, Nodes, Descended}
+use Rattle.levels.specs.ModelGraph.{graphOf}
+use Rattle.levels.specs.ModelTurns.{Held, Nodes, Descended}
 
 -- ---- tests that agree
 

@@ -1,3 +1,2 @@
-pub mod ModelGraph
 pub mod ModelFound
-pub mod ModelTurns
+pub mod ModelTrails

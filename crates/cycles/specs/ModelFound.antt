@@ -8,7 +8,11 @@ use lib.ListN.{length}
 use Rattle.cluster.specs.Terms.{mostNodes}
 use Rattle.cells.specs.ModelCells.{put}
 use Rattle.exchange.specs.ModelLevels.{Graph, Outcome, Potential, Cycle, back, outcome, cycleLength}
-use Rattle.cycles.specs.ModelGraph.{walkCells, arcCells, graphOf}
+use Rattle.levels.specs.ModelGraph.{arcCells, graphOf}
+
+-- The cells of a walk: the nodes of a cycle, and its first one again.
+abbrev pub walkCells : ℕ
+walkCells = mostNodes + 1
 
 -- Whether there is something to search, and room for the walk.
 unfoldable pub searchable : List ℕ → ℕ → List ℕ → Bool

@@ -16,7 +16,7 @@ use Rattle.sums.specs.TermsSums.{tab}
 use Rattle.cells.proofs.Cells.{length-tab, getD-tab}
 use Rattle.exchange.specs.ModelRow.{Valid, Exchange, copies}
 use Rattle.swaps.specs.ModelMates.{Mates}
-use Rattle.cycles.specs.ModelGraph.{arcCells, arcOf, weightOf}
+use Rattle.levels.specs.ModelGraph.{arcCells, arcOf, weightOf}
 use Rattle.graph.specs.ModelArcs.{cellOf, arcsOf}
 use Rattle.graph.proofs.Members.{any, setOf, exchange-set, room-set, set-witness}
 

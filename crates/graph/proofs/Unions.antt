@@ -10,7 +10,7 @@ use native.Mathlib.Omega.{arith}
 use lib.ListN.{length, getD, drop, length-drop}
 use lib.Seq.{ext-getD, getD-drop}
 use Rattle.cluster.specs.Terms.{mostNodes, bufferRows}
-use Rattle.cycles.specs.ModelGraph.{arcCells}
+use Rattle.levels.specs.ModelGraph.{arcCells}
 use Rattle.sums.specs.ModelSums.{maxTo}
 use Rattle.sums.proofs.Sum.{lt-or-ge}
 use Rattle.sums.proofs.Count.{max-le}

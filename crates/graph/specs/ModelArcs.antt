@@ -8,7 +8,7 @@ use Rattle.sums.specs.TermsSums.{sumTo, one-if, tab}
 use Rattle.sums.specs.ModelSums.{is}
 use mathlib.Core.Bool.{cond}
 use Rattle.cluster.specs.Terms.{mostNodes}
-use Rattle.cycles.specs.ModelGraph.{arcCells}
+use Rattle.levels.specs.ModelGraph.{arcCells}
 use Rattle.sets.specs.ModelBits.{maskBits, bit, maskOf}
 use Rattle.arcs.specs.ModelMoves.{movesTo}
 

@@ -6,7 +6,7 @@ use mathlib.Core.List.{List}
 use lib.ListN.{length, getD, drop}
 use Rattle.sums.specs.ModelSums.{maxTo}
 use Rattle.cluster.specs.Terms.{mostNodes, bufferRows}
-use Rattle.cycles.specs.ModelGraph.{arcCells}
+use Rattle.levels.specs.ModelGraph.{arcCells}
 use Rattle.sets.specs.ModelBits.{maskBits, bit, maskOf}
 use Rattle.swaps.specs.ModelLeaves.{leafRows}
 use Rattle.arcs.specs.ModelMoves.{movesTo}

@@ -1,5 +1,5 @@
 // The exchange graph of a layout, as three sets for each node (`arcs`); a node with room leads to all nodes at weight 0. What the rows allow is kept in
-// parts of cycles::ARCS cells, so that little is made anew after a turn: part l has the sets of the rows of leaf l, and part LEAVES + i those of branch i,
+// parts of levels::ARCS cells, so that little is made anew after a turn: part l has the sets of the rows of leaf l, and part LEAVES + i those of branch i,
 // which is PARTS leaves. Only leaves with a changed row, and their branches, are looked at again.
 ghost use mathlib.Core.Path.{_≡_};
 ghost use Prim.Native.Nat.{ℕ, _+_, _*_, _/_, _%_, _^_, _≤_, _<_, min};
@@ -9,7 +9,7 @@ ghost use Rattle.sums.specs.TermsSums.{one-if};
 ghost use Rattle.sums.specs.ModelSums.{is};
 ghost use Rattle.cells.specs.ModelCells.{put};
 ghost use Rattle.cluster.specs.Terms.{mostNodes, bufferRows};
-ghost use Rattle.cycles.specs.ModelGraph.{arcCells};
+ghost use Rattle.levels.specs.ModelGraph.{arcCells};
 ghost use Rattle.sets.specs.ModelBits.{bit, unionOf};
 ghost use Rattle.swaps.specs.ModelSwaps.{Tight};
 ghost use Rattle.arcs.specs.ModelGrowth.{Grown};
@@ -24,7 +24,7 @@ const BRANCH: u64 = 1 << PARTS;
 // The leaves of the rows of a layout.
 const LEAVES: usize = Cluster::PARTITIONS / swaps::LEAF;
 // The cells of all leaves and branches.
-pub const KEPT: usize = (LEAVES + PARTS) * cycles::ARCS;
+pub const KEPT: usize = (LEAVES + PARTS) * levels::ARCS;
 
 // Writes what the rows of a leaf allow into its cells.
 fn fill(
@@ -52,9 +52,9 @@ fn fill(
     } else {
         swaps::LEAF
     };
-    let at = leaf * cycles::ARCS;
+    let at = leaf * levels::ARCS;
     arcs::write_rows(
-        &mut kept[at..at + cycles::ARCS],
+        &mut kept[at..at + levels::ARCS],
         rows,
         tight,
         former,
@@ -89,7 +89,7 @@ fn united(kept: &[u32], k: usize, j: usize) -> [u32; Cluster::NODES]
     let mut held = [0u32; Cluster::NODES];
     let mut b = 0;
     while b < PARTS {
-        unite(&mut held, kept, (k + b) * cycles::ARCS + j);
+        unite(&mut held, kept, (k + b) * levels::ARCS + j);
         b += 1;
     }
     held
@@ -113,7 +113,7 @@ fn merge(kept: &mut [u32], i: usize)
     ensures { λ _. ⌜ Merged (parts * i) (mostLeaves + i) (now (kept .entry)) (now (kept .exit)) ⌝ }
 {
     let k = PARTS * i;
-    let at = (LEAVES + i) * cycles::ARCS;
+    let at = (LEAVES + i) * levels::ARCS;
     let low = united(kept, k, 0);
     store(kept, at, &low);
     let mid = united(kept, k, Cluster::NODES);
@@ -179,7 +179,7 @@ fn add_room(arcs: &mut [u32], room: u32, all: u32)
 }
 
 // The exchange graph of the first `partitions` rows, where `room` are the nodes with fewer copies than their caps. The leaves that are stale, and their
-// branches, are renewed. Nothing is written to `arcs` where it has fewer than cycles::ARCS cells.
+// branches, are renewed. Nothing is written to `arcs` where it has fewer than levels::ARCS cells.
 pub fn build(
     rows: &[u32],
     tight: &[u32],
@@ -218,7 +218,7 @@ pub fn build(
         );
         i += 1;
     }
-    if arcs.len() < cycles::ARCS {
+    if arcs.len() < levels::ARCS {
         return;
     }
     gather(arcs, kept);

@@ -33,8 +33,8 @@ use Rattle.swaps.specs.ModelMates.{Mates}
 use Rattle.graph.specs.ModelArcs.{arcsOf, cellOf}
 use Rattle.graph.proofs.Members.{any}
 use Rattle.graph.proofs.Exchanges.{graph-exchange, graph-room, graph-witness}
-use Rattle.cycles.specs.ModelGraph.{walkCells, arcCells, graphOf, arcOf, weightOf}
-use Rattle.cycles.specs.ModelFound.{searchable, endLength, endWalk, foundLength, foundWalk}
+use Rattle.levels.specs.ModelGraph.{arcCells, graphOf, arcOf, weightOf}
+use Rattle.cycles.specs.ModelFound.{walkCells, searchable, endLength, endWalk, foundLength, foundWalk}
 use Rattle.walks.specs.ModelWalks.{okOf, witnessOf, renewed, stands}
 use Rattle.walks.proofs.Renewing.{stands-some}
 use Rattle.circuits.specs.ModelCircuits.{cycleOf}

@@ -13,7 +13,7 @@ use lib.ListN.{getD, replicate}
 use borrow.Author.Tests.{lt-ltb, le-ltb, eq-eqb, ne-eqb}
 use Rattle.sums.proofs.Sum.{lt-or-ge}
 use Rattle.exchange.specs.ModelUncross.{Walk, Same}
-use Rattle.cycles.specs.ModelGraph.{walkCells}
+use Rattle.cycles.specs.ModelFound.{walkCells}
 use Rattle.walks.specs.ModelWalks.{walkIn}
 use Rattle.improve.specs.ModelRun.{Ran, later, after, run}
 use Rattle.steps.specs.ModelSteps.{State, improvesIn, nextIn, steppedIn}

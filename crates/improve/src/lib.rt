@@ -3,7 +3,7 @@ ghost use mathlib.Core.Path.{_≡_};
 ghost use Prim.Native.Nat.{_≤_};
 ghost use lib.ListN.{length, replicate};
 ghost use Rattle.cluster.specs.Terms.{bufferRows};
-ghost use Rattle.cycles.specs.ModelGraph.{walkCells};
+ghost use Rattle.cycles.specs.ModelFound.{walkCells};
 ghost use Rattle.swaps.specs.ModelSwaps.{Tight};
 ghost use Rattle.holders.specs.ModelHolders.{Held};
 ghost use Rattle.graph.specs.ModelKept.{keptCells};

@@ -21,8 +21,8 @@ use Rattle.exchange.specs.ModelUncross.{Walk, Same}
 use Rattle.exchange.proofs.Search.{outcome-cycle}
 use Rattle.exchange.proofs.Walk.{same-refl, same-trans}
 use Rattle.graph.specs.ModelArcs.{copiesTo, arcsOf}
-use Rattle.cycles.specs.ModelGraph.{walkCells, arcCells, graphOf}
-use Rattle.cycles.specs.ModelFound.{searchable, endLength, foundLength, foundWalk}
+use Rattle.levels.specs.ModelGraph.{arcCells, graphOf}
+use Rattle.cycles.specs.ModelFound.{walkCells, searchable, endLength, foundLength, foundWalk}
 use Rattle.walks.specs.ModelWalks.{okOf, renewed, stands}
 use Rattle.walks.proofs.Renewing.{renewed-same, stands-same}
 use Rattle.circuits.specs.ModelCircuits.{cycleOf, freedOf, turnedOf}

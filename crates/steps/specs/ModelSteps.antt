@@ -6,10 +6,10 @@ use mathlib.Core.Bool.{Bool, not, cond}
 use mathlib.Core.List.{List}
 use lib.Dec.{eqb}
 use lib.ListN.{replicate}
-use Rattle.cycles.specs.ModelGraph.{walkCells, arcCells}
+use Rattle.levels.specs.ModelGraph.{arcCells}
 use Rattle.sets.specs.ModelBits.{belowOf}
 use Rattle.graph.specs.ModelArcs.{arcsOf}
-use Rattle.cycles.specs.ModelFound.{foundLength, foundWalk}
+use Rattle.cycles.specs.ModelFound.{walkCells, foundLength, foundWalk}
 use Rattle.exchange.specs.ModelUncross.{Walk}
 use Rattle.walks.specs.ModelWalks.{renewed, stands}
 use Rattle.circuits.specs.ModelCircuits.{cycleOf, freedOf, turnedOf}

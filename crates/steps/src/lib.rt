@@ -4,7 +4,7 @@ ghost use mathlib.Core.Path.{_≡_};
 ghost use Prim.Native.Nat.{_≤_};
 ghost use lib.ListN.{length};
 ghost use Rattle.cluster.specs.Terms.{mostNodes, bufferRows};
-ghost use Rattle.cycles.specs.ModelGraph.{walkCells};
+ghost use Rattle.cycles.specs.ModelFound.{walkCells};
 ghost use Rattle.exchange.specs.ModelUncross.{Same};
 ghost use Rattle.sets.specs.ModelBits.{bit, belowOf};
 ghost use Rattle.swaps.specs.ModelSwaps.{Tight};
@@ -47,7 +47,7 @@ fn search(
 {
     let all = sets::below(nodes);
     let room = holders::room(rows, partitions, held, caps, Cluster::NODES as u32);
-    let mut arcs = [0u32; cycles::ARCS];
+    let mut arcs = [0u32; levels::ARCS];
     graph::build(
         rows,
         tight,

@@ -10,7 +10,7 @@ use lib.Dec.{eqb, ltb}
 use Rattle.sums.specs.TermsSums.{everyTo}
 use Rattle.sets.specs.ModelBits.{maskBits, bit, bitsAt, memberOf}
 use Rattle.swaps.specs.ModelSwaps.{targetsOf}
-use Rattle.cycles.specs.ModelGraph.{weightOf}
+use Rattle.levels.specs.ModelGraph.{weightOf}
 use Rattle.sums.specs.ModelSums.{firstFrom}
 use Rattle.exchange.specs.ModelRow.{copies}
 use Rattle.exchange.specs.ModelCircuit.{cost}

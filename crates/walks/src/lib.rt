@@ -10,7 +10,7 @@ ghost use Rattle.sums.specs.ModelSums.{firstFrom};
 ghost use Rattle.sets.specs.ModelBits.{maskBits, bit, bitsAt};
 ghost use Rattle.exchange.specs.ModelCircuit.{cost};
 ghost use Rattle.exchange.specs.ModelUncross.{crosses, partner, firstCrossed};
-ghost use Rattle.cycles.specs.ModelGraph.{weightOf};
+ghost use Rattle.levels.specs.ModelGraph.{weightOf};
 ghost use Rattle.swaps.specs.ModelSwaps.{Tight};
 ghost use Rattle.holders.specs.ModelHolders.{Held};
 ghost use Rattle.walks.specs.ModelWalks.{Picks, okOf, siftedOf, suitsAt, witnessOf, walkIn, innerGains, roomAt, renewedAt, standsAt};

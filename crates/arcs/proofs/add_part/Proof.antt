@@ -6,7 +6,7 @@ use lib.ListN.{length}
 use borrow.Author.Needs.{needs}
 use native.Mathlib.Omega.{arith}
 use Rattle.cluster.specs.Terms.{mostNodes}
-use Rattle.cycles.specs.ModelGraph.{arcCells}
+use Rattle.levels.specs.ModelGraph.{arcCells}
 use Rattle.sets.specs.ModelBits.{countOf}
 use Rattle.sets.proofs.Laws.{least-taken}
 use Rattle.sets.proofs.Scan.{Left, left-all, least-word, left-less}

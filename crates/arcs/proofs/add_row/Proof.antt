@@ -4,7 +4,7 @@ use Prim.Native.Nat.{ℕ, _≤_, _<_}
 use mathlib.Core.Path.{_≡_, sym, ap, _∙_, subst}
 use lib.ListN.{length}
 use Rattle.cluster.specs.Terms.{mostNodes}
-use Rattle.cycles.specs.ModelGraph.{arcCells}
+use Rattle.levels.specs.ModelGraph.{arcCells}
 use Rattle.sets.specs.ModelBits.{countOf}
 use Rattle.sets.proofs.Laws.{least-taken}
 use Rattle.sets.proofs.Scan.{Left, left-all, least-word, left-less}

@@ -6,7 +6,7 @@ use mathlib.Core.Path.{_≡_, sym, ap, _∙_, subst}
 use lib.ListN.{length, drop}
 use lib.Seq.{getD-drop}
 use Rattle.cluster.specs.Terms.{bufferRows}
-use Rattle.cycles.specs.ModelGraph.{arcCells}
+use Rattle.levels.specs.ModelGraph.{arcCells}
 use Rattle.swaps.specs.ModelSwaps.{tightOf, Tight}
 use Rattle.arcs.specs.ModelMoves.{movesTo}
 use Rattle.arcs.specs.ModelGrowth.{Grown}

@@ -9,9 +9,10 @@ use Rattle.cluster.specs.Terms.{mostNodes}
 use Rattle.sets.specs.ModelBits.{bit, countOf}
 use Rattle.sets.proofs.Laws.{bit-true}
 use Rattle.sets.proofs.Scan.{Left, left-all}
-use Rattle.cycles.specs.ModelTurns.{Settled, behind}
-use Rattle.cycles.proofs.Rows.{length-kept}
-use Rattle.cycles.proofs.Visits.{Visit, visit-node, visit-member, visit-below, visit-less, visit-rest, settled-start, settled-more, settled-end}
+use Rattle.levels.specs.ModelTurns.{Settled}
+use Rattle.cycles.specs.ModelTrails.{behind}
+use Rattle.levels.proofs.Sizes.{length-kept}
+use Rattle.levels.proofs.Visits.{Visit, visit-node, visit-member, visit-below, visit-less, visit-rest, settled-start, settled-more, settled-end}
 use Rattle.cycles.proofs.Parts.{Open, open-start, open-more, closer-hit, closer-none, behind-with}
 use Rattle.cycles.proofs.close.Statement.{statement}
 use Rattle.cycles.proofs.close.Tie as tie

@@ -4,8 +4,8 @@ use native.Mathlib.Omega.{arith}
 use borrow.Author.Needs.{needs}
 use borrow.Author.Tests.{le-leb, lt-leb}
 use Rattle.cluster.specs.Terms.{mostNodes}
-use Rattle.cycles.specs.ModelGraph.{walkCells, arcCells}
-use Rattle.cycles.specs.ModelFound.{searchable, foundLength, foundWalk}
+use Rattle.levels.specs.ModelGraph.{arcCells}
+use Rattle.cycles.specs.ModelFound.{walkCells, searchable, foundLength, foundWalk}
 use Rattle.cycles.proofs.find.Statement.{statement}
 use Rattle.cycles.proofs.find.Tie as tie
 

@@ -9,10 +9,11 @@ use lib.ListN.{length, take, drop, replicate, getD-replicate}
 use Rattle.cluster.specs.Terms.{mostNodes}
 use Rattle.sets.specs.ModelBits.{bit}
 use Rattle.exchange.specs.ModelLevels.{Cycle, outcome, search-from}
-use Rattle.cycles.specs.ModelGraph.{tableCells, walkCells, arcCells, graphOf}
-use Rattle.cycles.specs.ModelFound.{endWalk}
-use Rattle.cycles.specs.ModelTurns.{Settled, AtMost, behind, closer}
-use Rattle.cycles.proofs.Offers.{stand-start}
+use Rattle.levels.specs.ModelGraph.{tableCells, arcCells, graphOf}
+use Rattle.cycles.specs.ModelFound.{walkCells, endWalk}
+use Rattle.levels.specs.ModelTurns.{Settled, AtMost}
+use Rattle.cycles.specs.ModelTrails.{behind, closer}
+use Rattle.levels.proofs.Offers.{stand-start}
 use Rattle.cycles.proofs.States.{State, state-start, state-room, state-next}
 use Rattle.cycles.proofs.Ends.{Turning, part-row, ends-still, ends-closed, search-spent, search-start, closer-le, search-still, row-node, search-on, state-on, search-closed, trail-closes, trail-node, trail-walk, trail-length}
 use Rattle.cycles.proofs.Rows.{level-lt, level-less, level-up, level-next, level-fits, row-fits, row-fits-64, row-end-fits, row-bytes-fit, row-inside, row-length, row-ends, length-enough, none-closer}

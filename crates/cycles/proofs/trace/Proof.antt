@@ -5,10 +5,11 @@ use native.Mathlib.Omega.{arith}
 use borrow.Author.Needs.{needs}
 use lib.ListN.{length, length-set}
 use Rattle.cluster.specs.Terms.{mostNodes}
-use Rattle.cycles.specs.ModelGraph.{tableCells, walkCells}
+use Rattle.levels.specs.ModelGraph.{tableCells}
+use Rattle.cycles.specs.ModelFound.{walkCells}
 use Rattle.cells.specs.ModelCells.{put}
 use Rattle.cells.proofs.Cells.{put-none, put-next}
-use Rattle.cycles.specs.ModelTurns.{trail, trailLength}
+use Rattle.cycles.specs.ModelTrails.{trail, trailLength}
 use Rattle.cycles.proofs.Parts.{trailFrom, trail-start, trail-next, length-start, length-miss, length-end, trace-found}
 use Rattle.cycles.proofs.trace.Statement.{statement}
 use Rattle.cycles.proofs.trace.Tie as tie

@@ -6,7 +6,7 @@ use Prim.Native.Nat.{_-_, _*_, _/_, _%_, _^_, _≤_}
 use mathlib.Core.Path.{refl, sym, _∙_}
 use lib.ListN.{length}
 use Rattle.cluster.specs.Terms.{bufferRows}
-use Rattle.cycles.specs.ModelGraph.{arcCells}
+use Rattle.levels.specs.ModelGraph.{arcCells}
 use Rattle.sets.specs.ModelBits.{bit}
 use Rattle.swaps.specs.ModelSwaps.{Tight}
 use Rattle.graph.specs.ModelArcs.{arcsOf}

@@ -5,7 +5,7 @@ use Prim.Native.Nat.{_+_, _-_, _*_, _<_}
 use mathlib.Core.Logic.{⊎-elim}
 use mathlib.Core.Path.{_≡_}
 use lib.ListN.{length, take, drop, length-take, length-drop}
-use Rattle.cycles.specs.ModelGraph.{arcCells}
+use Rattle.levels.specs.ModelGraph.{arcCells}
 use Rattle.swaps.specs.ModelLeaves.{leafRows}
 use Rattle.graph.specs.ModelKept.{rowsIn}
 use Rattle.graph.proofs.Keeping.{filled}

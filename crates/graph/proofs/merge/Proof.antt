@@ -5,7 +5,7 @@ use mathlib.Core.Path.{_≡_, ap, _∙_}
 use lib.ListN.{length, getD}
 use Rattle.cells.specs.ModelCells.{put}
 use native.Mathlib.Omega.{arith}
-use Rattle.cycles.specs.ModelGraph.{arcCells}
+use Rattle.levels.specs.ModelGraph.{arcCells}
 use Rattle.graph.specs.ModelKept.{parts, mostLeaves, unionAt}
 use Rattle.graph.proofs.Unions.{stored-none, stored-more, union-kept, merged}
 use Rattle.graph.proofs.merge.Statement.{statement}

@@ -5,7 +5,7 @@ use Prim.Native.Nat.{ℕ, _+_, _-_, _≤_, _<_}
 use mathlib.Core.Path.{_≡_, ap, _∙_}
 use lib.ListN.{length, getD, getD-replicate}
 use Rattle.cluster.specs.Terms.{mostNodes}
-use Rattle.cycles.specs.ModelGraph.{arcCells}
+use Rattle.levels.specs.ModelGraph.{arcCells}
 use Rattle.graph.specs.ModelKept.{mostLeaves, parts, keptCells, unionTo}
 use Rattle.graph.proofs.Unions.{union-none, unite-turn}
 use Rattle.graph.proofs.united.Statement.{statement}

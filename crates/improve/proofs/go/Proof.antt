@@ -5,7 +5,7 @@ use mathlib.Core.List.{List}
 use mathlib.Core.Path.{_≡_, refl, sym, ap, _∙_, subst}
 use lib.ListN.{length, replicate}
 use Rattle.cluster.specs.Terms.{mostNodes}
-use Rattle.cycles.specs.ModelGraph.{walkCells}
+use Rattle.cycles.specs.ModelFound.{walkCells}
 use Rattle.exchange.specs.ModelUncross.{Same}
 use Rattle.sets.specs.ModelBits.{bit, belowOf}
 use Rattle.swaps.specs.ModelSwaps.{Tight}

@@ -2,7 +2,7 @@
 use borrow.Author.Needs.{needs}
 use native.Mathlib.Omega.{arith}
 use Prim.Native.Nat.{_+_}
-use Rattle.cycles.specs.ModelGraph.{weightOf}
+use Rattle.levels.specs.ModelGraph.{weightOf}
 use mathlib.Core.Bool.{true, false}
 use Rattle.cluster.specs.Terms.{mostNodes}
 use Rattle.walks.proofs.Steps.{member-at}

@@ -1,4 +1,4 @@
--- `cycles::descend` meets its contract. Assumes nothing.
+-- `levels::descend` meets its contract. Assumes nothing.
 use Prim.Native.Nat.{ℕ, _≤_, _-_, _+_, _*_}
 use mathlib.Core.Path.{_≡_, ap, _∙_}
 use native.Mathlib.Omega.{arith}
@@ -6,9 +6,9 @@ use borrow.Author.Needs.{needs}
 use lib.ListN.{length, take, drop, length-take, length-drop}
 use Rattle.cluster.specs.Terms.{mostNodes}
 use Rattle.sets.specs.ModelBits.{meetOf}
-use Rattle.cycles.proofs.Sweeps.{descended}
-use Rattle.cycles.proofs.descend.Statement.{statement}
-use Rattle.cycles.proofs.descend.Tie as tie
+use Rattle.levels.proofs.Sweeps.{descended}
+use Rattle.levels.proofs.descend.Statement.{statement}
+use Rattle.levels.proofs.descend.Tie as tie
 
 add-a : tie.Need-add-a
 add-a c = search needs

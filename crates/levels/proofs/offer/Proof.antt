@@ -1,8 +1,8 @@
--- `cycles::offer` meets its contract. Assumes nothing.
+-- `levels::offer` meets its contract. Assumes nothing.
 use borrow.Author.Needs.{needs}
-use Rattle.cycles.proofs.Offers.{Offering, offers-high, offers-none, offers-made, stand-made}
-use Rattle.cycles.proofs.offer.Statement.{statement}
-use Rattle.cycles.proofs.offer.Tie as tie
+use Rattle.levels.proofs.Offers.{Offering, offers-high, offers-none, offers-made, stand-made}
+use Rattle.levels.proofs.offer.Statement.{statement}
+use Rattle.levels.proofs.offer.Tie as tie
 
 returns : tie.Need-returns
 returns c =

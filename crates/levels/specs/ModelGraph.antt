@@ -13,10 +13,6 @@ use Rattle.exchange.specs.ModelLevels.{Graph}
 abbrev pub arcCells : ℕ
 arcCells = 3 * mostNodes
 
--- The cells of a walk: the nodes of a cycle, and its first one again.
-abbrev pub walkCells : ℕ
-walkCells = mostNodes + 1
-
 -- The cells of a search's table: a row of nodes for each level, from 0 on.
 abbrev pub tableCells : ℕ
 tableCells = (mostNodes + 1) * mostNodes

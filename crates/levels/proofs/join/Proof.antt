@@ -1,4 +1,4 @@
--- `cycles::join` meets its contract. The sets below e have been joined.
+-- `levels::join` meets its contract. The sets below e have been joined.
 -- Assumes nothing.
 use Prim.Native.Nat.{ℕ, _≤_, _-_}
 use mathlib.Core.Path.{_≡_, subst}
@@ -6,10 +6,10 @@ use native.Mathlib.Omega.{arith}
 use borrow.Author.Needs.{needs}
 use lib.ListN.{length, length-set}
 use Rattle.cluster.specs.Terms.{mostNodes}
-use Rattle.cycles.specs.ModelTurns.{Joined}
-use Rattle.cycles.proofs.Offers.{joined-start, joined-more}
-use Rattle.cycles.proofs.join.Statement.{statement}
-use Rattle.cycles.proofs.join.Tie as tie
+use Rattle.levels.specs.ModelTurns.{Joined}
+use Rattle.levels.proofs.Offers.{joined-start, joined-more}
+use Rattle.levels.proofs.join.Statement.{statement}
+use Rattle.levels.proofs.join.Tie as tie
 
 abbrev Inv-loop : tie.InvT-loop
 Inv-loop top s c atmost₀ e₀ atmost e =

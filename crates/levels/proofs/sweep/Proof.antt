@@ -1,4 +1,4 @@
--- `cycles::sweep` meets its contract: the members of the mask that are not left have been looked at.
+-- `levels::sweep` meets its contract: the members of the mask that are not left have been looked at.
 -- Assumes nothing.
 use Prim.Native.Nat.{_<_}
 use mathlib.Core.Path.{_≡_, refl, _∙_}
@@ -6,12 +6,12 @@ use native.Mathlib.Omega.{arith}
 use borrow.Author.Needs.{needs}
 use lib.ListN.{length}
 use Rattle.sets.specs.ModelBits.{countOf}
-use Rattle.cycles.specs.ModelTurns.{AtMost}
-use Rattle.cycles.proofs.Rows.{length-kept, distance-most}
-use Rattle.cycles.proofs.Visits.{Visit, visit-node, visit-below, visit-less, passed-left}
-use Rattle.cycles.proofs.Sweeps.{Sweeping, sweep-start, sweep-more, sweep-end}
-use Rattle.cycles.proofs.sweep.Statement.{statement}
-use Rattle.cycles.proofs.sweep.Tie as tie
+use Rattle.levels.specs.ModelTurns.{AtMost}
+use Rattle.levels.proofs.Sizes.{length-kept, distance-most}
+use Rattle.levels.proofs.Visits.{Visit, visit-node, visit-below, visit-less, passed-left}
+use Rattle.levels.proofs.Sweeps.{Sweeping, sweep-start, sweep-more, sweep-end}
+use Rattle.levels.proofs.sweep.Statement.{statement}
+use Rattle.levels.proofs.sweep.Tie as tie
 
 abbrev Inv-loop : tie.InvT-loop
 Inv-loop arcs n mask dist next₀ row₀ atmost₀ fell₀ left₀ next row atmost fell left =

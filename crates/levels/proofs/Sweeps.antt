@@ -17,10 +17,10 @@ use Rattle.sums.proofs.Sum.{lt-or-ge}
 use Rattle.sets.specs.ModelBits.{maskBits, bit, memberOf, meetOf, belowOf}
 use Rattle.sets.proofs.Laws.{bit-le, bit-zero, bit-true, bit-false, bit-meet, bit-below, bit-below-not}
 use Rattle.exchange.specs.ModelLevels.{Graph, Fall, relax, scan}
-use Rattle.cycles.specs.ModelGraph.{graphOf, arcOf, weightOf}
-use Rattle.cycles.specs.ModelTurns.{Held, Turns, Swept, Descended, offered}
-use Rattle.cycles.proofs.Visits.{Visit, visit-member, Passed, passed-start, passed-le, passed-none, passed-next, passed-end}
-use Rattle.cycles.proofs.Offers.{offered-not, offered-less, offered-more}
+use Rattle.levels.specs.ModelGraph.{graphOf, arcOf, weightOf}
+use Rattle.levels.specs.ModelTurns.{Held, Turns, Swept, Descended, offered}
+use Rattle.levels.proofs.Visits.{Visit, visit-member, Passed, passed-start, passed-le, passed-none, passed-next, passed-end}
+use Rattle.levels.proofs.Offers.{offered-not, offered-less, offered-more}
 
 -- What was offered stands no higher.
 offered-low : (c u : ℕ) (f : Fall) → offered 1 c u f .dist ≤ c

@@ -1,14 +1,14 @@
--- `cycles::look` meets its contract: three offers are a look.
+-- `levels::look` meets its contract: three offers are a look.
 -- Assumes nothing.
 use Prim.Native.Nat.{_*_}
 use mathlib.Core.Path.{_∙_}
 use native.Mathlib.Omega.{arith}
 use borrow.Author.Needs.{needs}
 use Rattle.cluster.specs.Terms.{mostNodes}
-use Rattle.cycles.proofs.Rows.{arcs-fit, arcs-bytes-fit, arcs-inside, distance-fits, length-kept}
-use Rattle.cycles.proofs.Sweeps.{look-turns}
-use Rattle.cycles.proofs.look.Statement.{statement}
-use Rattle.cycles.proofs.look.Tie as tie
+use Rattle.levels.proofs.Sizes.{arcs-fit, arcs-bytes-fit, arcs-inside, distance-fits, length-kept}
+use Rattle.levels.proofs.Sweeps.{look-turns}
+use Rattle.levels.proofs.look.Statement.{statement}
+use Rattle.levels.proofs.look.Tie as tie
 
 mul-offer : tie.Need-mul-offer
 mul-offer c = search needs

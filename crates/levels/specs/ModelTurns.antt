@@ -1,18 +1,16 @@
--- What the parts of a search do: an offer of a distance to the members of a set, a look at the arcs of a node, a sweep over the nodes, the
--- ways that grow by a level, and the trace back through the rows of all levels.
+-- What the parts of a level do: an offer of a distance to the members of a set, a look at the arcs of a node, and a sweep over the nodes.
 -- Assumes nothing.
-use Prim.Native.Nat.{ℕ, zero, suc, _+_, _-_, _*_, _≤_, _<_}
+use Prim.Native.Nat.{ℕ, _+_, _*_, _≤_, _<_}
 use mathlib.Core.Path.{_≡_}
-use mathlib.Core.Bool.{Bool, cond, _&&_}
+use mathlib.Core.Bool.{cond, _&&_}
 use mathlib.Core.List.{List}
 use lib.Dec.{ltb, leb, eqb}
 use lib.ListN.{getD}
 use Rattle.cluster.specs.Terms.{mostNodes}
 use Rattle.sums.specs.TermsSums.{one-if}
-use Rattle.sets.specs.ModelBits.{bit, memberOf, withOf, unionOf}
+use Rattle.sets.specs.ModelBits.{bit, memberOf, unionOf}
 use Rattle.exchange.specs.ModelLevels.{Fall, scan}
-use Rattle.sums.specs.ModelSums.{firstFrom}
-use Rattle.cycles.specs.ModelGraph.{graphOf}
+use Rattle.levels.specs.ModelGraph.{graphOf}
 
 -- The fall f of a node that stood at d is held in cells: its distance x, the node y it came from, where it fell, and its mark b.
 pub record Held (d : ℕ) (f : Fall) (x y b : ℕ) : Type 0 where
@@ -63,24 +61,3 @@ pub record Descended (arcs : List ℕ) (n k mask : ℕ) (d next table₀ table :
       → Held (getD d v 0) (scan (graphOf arcs n) (memberOf mask) (λ u. getD d u 0) v n) (getD next v 0) (getD table ((k + 1) * mostNodes + v) 0) (bit fell v)
   pub kept : (i : ℕ) → i < (k + 1) * mostNodes → getD table i 0 ≡ getD table₀ i 0
   pub nodes : Nodes n fell
-
--- The nodes behind v on its way, where it fell: the node that it came from, and those behind that one.
-unfoldable pub behind : List ℕ → List ℕ → ℕ → ℕ
-behind row way v = withOf (getD way (getD row v 0) 0) (getD row v 0)
-
--- Whether v fell and is behind itself.
-unfoldable pub returned : ℕ → List ℕ → List ℕ → ℕ → Bool
-returned fell row way v = memberOf fell v && memberOf (behind row way v) v
-
--- The first node that is behind itself; n where there is none.
-unfoldable pub closer : ℕ → ℕ → List ℕ → List ℕ → ℕ
-closer n fell row way = firstFrom (returned fell row way) n 0
-
--- The node t steps back from v at level k, by a table with a row of nodes for each level.
-unfoldable pub trail : List ℕ → ℕ → ℕ → ℕ → ℕ
-trail table k v zero = v
-trail table k v (suc t) = getD table ((k - t) * mostNodes + trail table k v t) 0
-
--- The first step back, from 1 on, that is at v again.
-unfoldable pub trailLength : List ℕ → ℕ → ℕ → ℕ
-trailLength table k v = firstFrom (λ t. eqb (trail table k v t) v) k 1

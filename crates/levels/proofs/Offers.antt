@@ -16,7 +16,7 @@ use Rattle.sums.proofs.Sum.{lt-or-ge}
 use Rattle.sets.specs.ModelBits.{bit, unionOf, differenceOf}
 use Rattle.sets.proofs.Laws.{bit-le, bit-zero, bit-union, bit-difference}
 use Rattle.exchange.specs.ModelLevels.{Fall}
-use Rattle.cycles.specs.ModelTurns.{Held, Settled, Joined, AtMost, Turns, offered}
+use Rattle.levels.specs.ModelTurns.{Held, Settled, Joined, AtMost, Turns, offered}
 
 -- An offer that is not made changes nothing.
 pub offered-not : (c u : ℕ) (f : Fall) → offered 0 c u f ≡ f

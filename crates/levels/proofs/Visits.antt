@@ -13,7 +13,7 @@ use Rattle.sums.proofs.Sum.{lt-or-ge, eq-or-ne, is-eq, is-ne}
 use Rattle.sets.specs.ModelBits.{maskBits, bit, withoutOf, leastOf, countOf}
 use Rattle.sets.proofs.Laws.{bit-le, bit-zero, bit-without, least-at, least-before, least-taken}
 use Rattle.sets.proofs.Scan.{Left, least-word, left-less, done-more, done-all}
-use Rattle.cycles.specs.ModelTurns.{Settled, Nodes}
+use Rattle.levels.specs.ModelTurns.{Settled, Nodes}
 
 -- The turn at the next member w, of those left, with the rest after it.
 pub record Visit (s left w rest : ℕ) : Type 0 where

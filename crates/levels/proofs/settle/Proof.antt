@@ -1,4 +1,4 @@
--- `cycles::settle` meets its contract. The cells of the members that are not left hold what they shall.
+-- `levels::settle` meets its contract. The cells of the members that are not left hold what they shall.
 -- Assumes nothing.
 use Prim.Native.Nat.{_-_}
 use mathlib.Core.Path.{_≡_, refl}
@@ -7,11 +7,11 @@ use borrow.Author.Needs.{needs}
 use lib.ListN.{length, length-set}
 use Rattle.sets.specs.ModelBits.{bit, countOf}
 use Rattle.sets.proofs.Scan.{Left, left-all}
-use Rattle.cycles.specs.ModelTurns.{Settled}
-use Rattle.cycles.proofs.Rows.{length-kept}
-use Rattle.cycles.proofs.Visits.{Visit, visit-node, visit-less, visit-rest, settled-start, settled-more, settled-end}
-use Rattle.cycles.proofs.settle.Statement.{statement}
-use Rattle.cycles.proofs.settle.Tie as tie
+use Rattle.levels.specs.ModelTurns.{Settled}
+use Rattle.levels.proofs.Sizes.{length-kept}
+use Rattle.levels.proofs.Visits.{Visit, visit-node, visit-less, visit-rest, settled-start, settled-more, settled-end}
+use Rattle.levels.proofs.settle.Statement.{statement}
+use Rattle.levels.proofs.settle.Tie as tie
 
 abbrev Inv-loop : tie.InvT-loop
 Inv-loop s c u next₀ row₀ left₀ next row left =

@@ -1,0 +1,4 @@
+pub mod Offers
+pub mod Sizes
+pub mod Sweeps
+pub mod Visits

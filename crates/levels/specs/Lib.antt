@@ -1,0 +1,2 @@
+pub mod ModelGraph
+pub mod ModelTurns
