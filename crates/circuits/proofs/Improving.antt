@@ -32,8 +32,9 @@ use Rattle.swaps.proofs.Fitting.{target-valid, valid-target}
 use Rattle.levels.specs.ModelGraph.{graphOf, arcOf, weightOf}
 use Rattle.walks.specs.ModelWalks.{okOf, suitsOf, suitsAt, witnessOf, roomAt, renewedAt, renewed, standsAt, stands}
 use Rattle.walks.proofs.Renewing.{nextFrom, renewed-row, renewed-store, stands-row, stands-store}
-use Rattle.circuits.specs.ModelCircuits.{cycleOf, freedOf, turnedOf}
-use Rattle.circuits.proofs.Exchanging.{walked-bit, walked-small}
+use Rattle.freeing.specs.ModelFreed.{freedOf}
+use Rattle.exchanging.proofs.Exchanging.{walked-bit, walked-small}
+use Rattle.circuits.specs.ModelCircuits.{cycleOf, turnedOf}
 
 -- ---- the test of a partition
 

@@ -25,8 +25,10 @@ use Rattle.levels.specs.ModelGraph.{arcCells, graphOf}
 use Rattle.cycles.specs.ModelFound.{walkCells, searchable, endLength, foundLength, foundWalk}
 use Rattle.walks.specs.ModelWalks.{okOf, renewed, stands}
 use Rattle.walks.proofs.Renewing.{renewed-same, stands-same}
-use Rattle.circuits.specs.ModelCircuits.{cycleOf, freedOf, turnedOf}
-use Rattle.circuits.proofs.Steps.{freed-same, turned-same, freed-none, turned-none, uncross-some}
+use Rattle.freeing.specs.ModelFreed.{freedOf}
+use Rattle.freeing.proofs.Freeing.{freed-same, freed-none, uncross-some}
+use Rattle.circuits.specs.ModelCircuits.{cycleOf, turnedOf}
+use Rattle.circuits.proofs.Steps.{turned-same, turned-none}
 use Rattle.steps.specs.ModelSteps.{State, arcsIn, cycleIn, foundIn, soughtIn, turnedIn, improvesIn, nextIn, steppedIn}
 
 -- ---- the walk to turn next

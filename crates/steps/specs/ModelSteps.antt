@@ -12,7 +12,8 @@ use Rattle.graph.specs.ModelArcs.{arcsOf}
 use Rattle.cycles.specs.ModelFound.{walkCells, foundLength, foundWalk}
 use Rattle.exchange.specs.ModelUncross.{Walk}
 use Rattle.walks.specs.ModelWalks.{renewed, stands}
-use Rattle.circuits.specs.ModelCircuits.{cycleOf, freedOf, turnedOf}
+use Rattle.freeing.specs.ModelFreed.{freedOf}
+use Rattle.circuits.specs.ModelCircuits.{cycleOf, turnedOf}
 
 -- What a run goes by: the rows, and what is left of the walk that was turned last.
 pub record State : Type 0 where

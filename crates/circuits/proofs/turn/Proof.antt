@@ -1,7 +1,7 @@
 -- `circuits::turn` meets its contract. Assumes nothing.
 use borrow.Author.Needs.{needs}
 use mathlib.Core.Path.{sym, _∙_}
-use Rattle.circuits.proofs.Steps.{walked-same}
+use Rattle.exchanging.proofs.Making.{walked-same}
 use Rattle.circuits.proofs.turn.Statement.{statement}
 use Rattle.circuits.proofs.turn.Tie as tie
 

@@ -1,7 +1,7 @@
--- `circuits::make` meets its contract. The loop has made the exchanges of the arcs that it passed. Assumes nothing.
+-- `exchanging::make` meets its contract. The loop has made the exchanges of the arcs that it passed. Assumes nothing.
 use native.Mathlib.Omega.{arith}
-use Rattle.circuits.proofs.Steps.{exchanged-row, exchanged-store, changed-none, changed-row}
-use Rattle.circuits.specs.ModelCircuits.{exchanged}
+use Rattle.exchanging.proofs.Making.{exchanged-row, exchanged-store, changed-none, changed-row}
+use Rattle.exchanging.specs.ModelExchanged.{exchanged}
 use Rattle.sets.specs.ModelBits.{withOf, withoutOf}
 use Rattle.swaps.specs.ModelLeaves.{ChangedIn}
 use Rattle.swaps.specs.ModelSwaps.{Tight}
@@ -12,8 +12,8 @@ use mathlib.Core.List.{List}
 use mathlib.Core.Path.{_≡_, refl, sym, ap, _∙_, subst}
 use Prim.Native.Nat.{ℕ, _+_, _-_, _≤_}
 use borrow.Author.Needs.{needs}
-use Rattle.circuits.proofs.make.Statement.{statement}
-use Rattle.circuits.proofs.make.Tie as tie
+use Rattle.exchanging.proofs.make.Statement.{statement}
+use Rattle.exchanging.proofs.make.Tie as tie
 
 abbrev Inv-loop : tie.InvT-loop
 Inv-loop rows₀ tight₀ held₀ partitions mates z y q m changed₀ i₀ rows tight held changed i = (i ≤ m) × (length rows ≡ length rows₀) × (length tight ≡ length tight₀) × (length held ≡ length held₀)

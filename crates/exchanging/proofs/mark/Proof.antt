@@ -1,9 +1,9 @@
--- `circuits::mark` meets its contract. Assumes nothing.
+-- `exchanging::mark` meets its contract. Assumes nothing.
 use borrow.Author.Needs.{needs}
 use native.Mathlib.Omega.{arith}
-use Rattle.circuits.proofs.Steps.{marked}
-use Rattle.circuits.proofs.mark.Statement.{statement}
-use Rattle.circuits.proofs.mark.Tie as tie
+use Rattle.exchanging.proofs.Making.{marked}
+use Rattle.exchanging.proofs.mark.Statement.{statement}
+use Rattle.exchanging.proofs.mark.Tie as tie
 
 shl-result : tie.Need-shl-result
 shl-result c = search needs

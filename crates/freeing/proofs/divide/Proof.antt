@@ -1,11 +1,11 @@
--- `circuits::divide` meets its contract. Assumes nothing.
+-- `freeing::divide` meets its contract. Assumes nothing.
 use borrow.Author.Needs.{needs}
 use native.Mathlib.Omega.{arith}
-use Rattle.circuits.proofs.Steps.{inner-in, outer-in, split-inner, split-outer}
+use Rattle.freeing.proofs.Freeing.{inner-in, outer-in, split-inner, split-outer}
 use Rattle.sets.specs.ModelBits.{bitsAt}
 use mathlib.Core.Path.{sym, _∙_}
-use Rattle.circuits.proofs.divide.Statement.{statement}
-use Rattle.circuits.proofs.divide.Tie as tie
+use Rattle.freeing.proofs.divide.Statement.{statement}
+use Rattle.freeing.proofs.divide.Tie as tie
 
 sub-k : tie.Need-sub-k
 sub-k c = omega arith

@@ -1,15 +1,15 @@
--- `circuits::shift` meets its contract. The loop has shifted the cells that it passed. Assumes nothing.
+-- `freeing::shift` meets its contract. The loop has shifted the cells that it passed. Assumes nothing.
 use borrow.Author.Needs.{needs}
 use native.Mathlib.Omega.{arith}
-use Rattle.circuits.proofs.Steps.{shift-more}
+use Rattle.freeing.proofs.Freeing.{shift-more}
 use Rattle.cells.proofs.Cells.{put-none}
 use Rattle.cells.specs.ModelCells.{put}
 use lib.ListN.{length, getD, set}
 use mathlib.Core.List.{List}
 use mathlib.Core.Path.{_≡_, ap, _∙_}
 use Prim.Native.Nat.{ℕ, _+_, _≤_, _-_}
-use Rattle.circuits.proofs.shift.Statement.{statement}
-use Rattle.circuits.proofs.shift.Tie as tie
+use Rattle.freeing.proofs.shift.Statement.{statement}
+use Rattle.freeing.proofs.shift.Tie as tie
 
 abbrev Inv-loop : tie.InvT-loop
 Inv-loop cells₀ start k n t₀ cells t = (t ≤ n) × (length cells ≡ length cells₀) × (cells ≡ put start (λ s. getD cells₀ (start + s + k) 0) t cells₀)

@@ -1,7 +1,7 @@
--- `circuits::free` meets its contract. What is freed of crossed pairs from here, with the splits that are left, is what is freed from the beginning. Assumes nothing.
+-- `freeing::free` meets its contract. What is freed of crossed pairs from here, with the splits that are left, is what is freed from the beginning. Assumes nothing.
 use borrow.Author.Needs.{needs}
 use native.Mathlib.Omega.{arith}
-use Rattle.circuits.proofs.Steps.{pair-in, free-stop, free-go, free-end}
+use Rattle.freeing.proofs.Freeing.{pair-in, free-stop, free-go, free-end}
 use Rattle.sets.specs.ModelBits.{bitsAt}
 use Rattle.walks.specs.ModelWalks.{okOf, walkIn}
 use Rattle.exchange.proofs.Walk.{same-refl}
@@ -9,8 +9,8 @@ use Rattle.exchange.specs.ModelUncross.{Same, uncross}
 use lib.ListN.{length}
 use mathlib.Core.Path.{_≡_, subst}
 use Prim.Native.Nat.{ℕ, _≤_, _<_}
-use Rattle.circuits.proofs.free.Statement.{statement}
-use Rattle.circuits.proofs.free.Tie as tie
+use Rattle.freeing.proofs.free.Statement.{statement}
+use Rattle.freeing.proofs.free.Tie as tie
 
 abbrev Inv-loop : tie.InvT-loop
 Inv-loop y₀ q₀ m rows tight former partitions mates all z len₀ left₀ y q len left = (len ≤ m) × (length y ≡ length y₀) × (length q ≡ length q₀)

@@ -1,4 +1,4 @@
--- `circuits::swap` meets its contract. Assumes nothing.
+-- `exchanging::swap` meets its contract. Assumes nothing.
 use Prim.Native.Nat.{ℕ}
 use mathlib.Core.Path.{_≡_, sym, ap, _∙_, subst}
 use native.Mathlib.Omega.{arith}
@@ -7,8 +7,8 @@ use Rattle.sets.specs.ModelBits.{withOf, withoutOf}
 use Rattle.swaps.proofs.Tightening.{tight-set}
 use Rattle.holders.specs.ModelHolders.{Held}
 use borrow.Author.Needs.{needs}
-use Rattle.circuits.proofs.swap.Statement.{statement}
-use Rattle.circuits.proofs.swap.Tie as tie
+use Rattle.exchanging.proofs.swap.Statement.{statement}
+use Rattle.exchanging.proofs.swap.Tie as tie
 
 tight-requires : tie.Need-tight-requires
 tight-requires c κs = search needs

@@ -20,8 +20,8 @@ use Rattle.exchange.specs.ModelCircuit.{turn}
 use Rattle.exchange.specs.ModelUncross.{Walk, Round}
 use Rattle.exchange.proofs.Picked.{picked, picked-at, out-le, in-le}
 use Rattle.exchange.proofs.Circuit.{ends, exchange, sources-differ}
-use Rattle.circuits.specs.ModelCircuits.{exchanged, walkedOf}
-use Rattle.circuits.proofs.Steps.{length-exchanged}
+use Rattle.exchanging.specs.ModelExchanged.{exchanged, walkedOf}
+use Rattle.exchanging.proofs.Making.{length-exchanged}
 
 -- ---- any walk
 
