@@ -10,9 +10,11 @@
 //! which the report does not. A line is the median of several clusters of its kind, each column by
 //! itself.
 //!
-//! A time is what a call takes of the processor, as the system counts it, so that others may use the
-//! machine meanwhile: the median of several batches of calls. Where the system does not tell it, it is
-//! the time of the clock.
+//! The quick methods are called in turn, each on another cluster than the call before: an owner plans
+//! a cluster once, and a processor that has just planned it a hundred times knows its way by heart.
+//! Such a time is the median of many calls by the clock. The report's method takes long enough to be
+//! interrupted; its time is what a call takes of the processor, as the system counts it, or by the
+//! clock where the system does not tell.
 //!
 //!     cargo bench --bench plan                     all tables (`make bench`)
 //!     cargo bench --bench plan -- proved           the proved planner's times alone
@@ -32,14 +34,14 @@ use reference::exchanges::{plan_record, Path};
 use reference::random::Random;
 use reference::records::{cluster_record, read_cluster};
 use reference::{report, sent, Cluster, Layout, Node};
-use std::time::{Duration, Instant};
+use std::time::Instant;
 
 /// Clusters of each kind.
 const CLUSTERS: u64 = 11;
-/// Batches of calls of each method for each cluster.
-const BATCHES: usize = 5;
-/// How long a batch takes; it has one call at least.
-const BATCH: Duration = Duration::from_millis(5);
+/// Calls of each quick method for each cluster.
+const ROUNDS: usize = 101;
+/// Calls of the report's method for each cluster.
+const LONG_ROUNDS: usize = 5;
 
 /// A cluster and the layout before.
 type Case = (Cluster, Layout);
@@ -80,7 +82,9 @@ fn main() {
 }
 
 fn all_tables() {
-    println!("microseconds for a plan; medians of {CLUSTERS} clusters, {BATCHES} batches of calls each\n");
+    println!(
+        "microseconds for a plan; medians of {CLUSTERS} clusters, {ROUNDS} calls in turn each\n"
+    );
     head("cluster (256 partitions)");
     for (name, what, case) in KINDS {
         line(&format!("{name}: {what}"), case);
@@ -125,7 +129,7 @@ fn head(name: &str) {
 
 /// Times a kind of cluster and prints its line.
 fn line(name: &str, case: impl Fn(&mut Random) -> Case) {
-    let times: Vec<Times> = drawn(case).iter().map(time).collect();
+    let times = times_of(&drawn(case));
     let middle = |part: fn(&Times) -> f64| median(times.iter().map(part).collect());
     println!(
         "{name:<41} {:>7.0} {:>7.0} {:>7.0} {:>8.0} {:>8.0} {:>12.2} {:>15.1} {:>15.1} {:>12} {:>7.2}",
@@ -154,47 +158,101 @@ fn median(mut values: Vec<f64>) -> f64 {
     values[values.len() / 2]
 }
 
-/// Calls the methods in turn, so that none has the machine to itself.
-fn time((c, former): &Case) -> Times {
-    let record = cluster_record(c, former);
-    let mut lent = Lent::new();
-    let (mut proved, mut plain, mut search) = (Vec::new(), Vec::new(), Vec::new());
-    let (mut by_report, mut stopping) = (Vec::new(), Vec::new());
-    let mut improvements = 0.0;
-    for _ in 0..BATCHES {
-        let (least, steps) = timed(&mut proved, || lent.proved_plan(&record));
-        improvements = f64::from(steps);
-        assert_eq!(timed(&mut plain, || lent.plain_plan(&record)), least);
-        assert_eq!(timed(&mut search, || lent.search_plan(&record)), least);
-        let layout = timed(&mut stopping, || by_flows(&record, report::plan));
-        assert_eq!(sent(&layout, former), least as usize);
-        let layout = timed(&mut by_report, || {
-            by_flows(&record, report::plan_as_written)
-        });
-        assert!(sent(&layout, former) >= least as usize);
+/// A cluster with its record, and the times of the calls on it by method.
+struct Timed<'a> {
+    former: &'a Layout,
+    record: Vec<u8>,
+    proved: Vec<f64>,
+    plain: Vec<f64>,
+    search: Vec<f64>,
+    report: Vec<f64>,
+    stopping: Vec<f64>,
+    /// The copies that the proved plan sends, and its improvements.
+    made: (u32, u32),
+}
+
+impl Timed<'_> {
+    fn new((c, former): &Case) -> Timed<'_> {
+        Timed {
+            former,
+            record: cluster_record(c, former),
+            proved: Vec::new(),
+            plain: Vec::new(),
+            search: Vec::new(),
+            report: Vec::new(),
+            stopping: Vec::new(),
+            made: (0, 0),
+        }
     }
-    Times {
-        proved: median(proved),
-        plain: median(plain),
-        search: median(search),
-        report: median(by_report),
-        stopping: median(stopping),
-        improvements,
+
+    fn call_proved(&mut self, lent: &mut Lent) {
+        self.made = by_clock(&mut self.proved, || lent.proved_plan(&self.record));
+    }
+
+    fn call_plain(&mut self, lent: &mut Lent) {
+        let sent = by_clock(&mut self.plain, || lent.plain_plan(&self.record));
+        assert_eq!(sent, self.made.0);
+    }
+
+    fn call_search(&mut self, lent: &mut Lent) {
+        let sent = by_clock(&mut self.search, || lent.search_plan(&self.record));
+        assert_eq!(sent, self.made.0);
+    }
+
+    fn call_report(&mut self) {
+        let least = self.made.0 as usize;
+        let layout = by_processor(&mut self.stopping, || by_flows(&self.record, report::plan));
+        assert_eq!(sent(&layout, self.former), least);
+        let layout = by_processor(&mut self.report, || {
+            by_flows(&self.record, report::plan_as_written)
+        });
+        assert!(sent(&layout, self.former) >= least);
+    }
+
+    fn medians(self) -> Times {
+        Times {
+            proved: median(self.proved),
+            plain: median(self.plain),
+            search: median(self.search),
+            report: median(self.report),
+            stopping: median(self.stopping),
+            improvements: f64::from(self.made.1),
+        }
     }
 }
 
-/// Makes a batch of calls and notes the time of one; what the last call made.
-fn timed<T>(times: &mut Vec<f64>, mut call: impl FnMut() -> T) -> T {
-    let begun = Instant::now();
-    let (before, mut calls) = (microseconds(begun), 0.0);
-    loop {
-        let made = call();
-        calls += 1.0;
-        if begun.elapsed() >= BATCH {
-            times.push((microseconds(begun) - before) / calls);
-            return made;
+/// Calls the methods in turn, each on one cluster after the other.
+fn times_of(cases: &[Case]) -> Vec<Times> {
+    let mut lent = Lent::new();
+    let mut clusters: Vec<Timed> = cases.iter().map(Timed::new).collect();
+    for _ in 0..ROUNDS {
+        for cluster in &mut clusters {
+            cluster.call_proved(&mut lent);
+            cluster.call_plain(&mut lent);
+            cluster.call_search(&mut lent);
         }
     }
+    for _ in 0..LONG_ROUNDS {
+        clusters.iter_mut().for_each(Timed::call_report);
+    }
+    clusters.into_iter().map(Timed::medians).collect()
+}
+
+/// Notes how long a call takes by the clock; what it made.
+fn by_clock<T>(times: &mut Vec<f64>, call: impl FnOnce() -> T) -> T {
+    let begun = Instant::now();
+    let made = call();
+    times.push(begun.elapsed().as_secs_f64() * 1e6);
+    made
+}
+
+/// Notes how long a call has a processor; what it made.
+fn by_processor<T>(times: &mut Vec<f64>, call: impl FnOnce() -> T) -> T {
+    let begun = Instant::now();
+    let before = microseconds(begun);
+    let made = call();
+    times.push(microseconds(begun) - before);
+    made
 }
 
 /// How long this thread has had a processor; where the system does not tell, the time since `begun`.
@@ -258,16 +316,15 @@ fn proved_alone() {
     let mut lent = Lent::new();
     println!("microseconds for a proved plan; medians of {CLUSTERS} clusters");
     for (name, _, case) in KINDS {
-        let mut time = |(c, former): &Case| {
-            let record = cluster_record(c, former);
-            let mut times = Vec::new();
-            for _ in 0..BATCHES {
-                timed(&mut times, || lent.proved_plan(&record));
+        let cases = drawn(case);
+        let mut clusters: Vec<Timed> = cases.iter().map(Timed::new).collect();
+        for _ in 0..ROUNDS {
+            for cluster in &mut clusters {
+                cluster.call_proved(&mut lent);
             }
-            median(times)
-        };
-        let times = drawn(case).iter().map(&mut time).collect();
-        println!("{name:<8} {:>8.1}", median(times));
+        }
+        let times = clusters.into_iter().map(|cluster| median(cluster.proved));
+        println!("{name:<8} {:>8.1}", median(times.collect()));
     }
 }
 
