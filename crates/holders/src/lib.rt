@@ -101,12 +101,13 @@ pub fn room(rows: &[u32], partitions: usize, held: &[u32], caps: &[u32], nodes: 
     ensures { λ r. ⌜ r ≡ maskOf (λ u. one-if (ltb (copies partitions (bitsAt (now (rows .entry))) u) (getD (now (caps .entry)) u 0))) nodes ⌝ }
 {
     let mut free = 0;
-    let mut u = 0;
-    while u < nodes {
+    let mut left = sets::below(nodes);
+    while left != 0 {
+        let u = sets::least(left);
+        left = sets::rest(left);
         if count(rows, partitions, held, u) < swaps::cell(caps, u as usize) {
             free = sets::with(free, u);
         }
-        u += 1;
     }
     free
 }
