@@ -18,7 +18,7 @@ use Rattle.sets.specs.ModelBits.{bit, memberOf, belowOf}
 use Rattle.sets.proofs.Laws.{bit-zero, bit-true, bit-below, bit-below-not}
 use Rattle.exchange.specs.ModelLevels as levels
 use Rattle.exchange.specs.ModelLevels.{Graph, Fall, relax, scan, level, fell}
-use Rattle.exchange.proofs.Levels.{level-skip, dist-room, dist-le, fell-lt}
+use Rattle.exchange.proofs.Levels.{level-skip, dist-high, dist-le, fell-lt}
 use Rattle.exchange.proofs.Search.{Open, open-zero}
 use Rattle.levels.specs.ModelGraph.{graphOf}
 use Rattle.levels.specs.ModelTurns.{Held, Nodes, Descended}
@@ -58,9 +58,9 @@ module _ (arcs : List ℕ) (n k mask : ℕ) (dist next way table : List ℕ) (sm
   abbrev G : Graph
   G = graphOf arcs n
 
-  -- The distances leave room for an arc's weight.
-  pub state-room : (v : ℕ) → v < n → (1 ≤ getD dist v 0) × (getD dist v 0 ≤ n) × (getD next v 0 ≡ getD dist v 0)
-  state-room v l = (omega (arith, st .dists v l, dist-room G k v below), omega (arith, st .dists v l, dist-le G k v), st .nexts v l ∙ sym (st .dists v l))
+  -- The distances lie between the first and what k levels can make of it.
+  pub state-room : (v : ℕ) → v < n → (n ≤ getD dist v 0 + k) × (getD dist v 0 ≤ n) × (getD next v 0 ≡ getD dist v 0)
+  state-room v l = (omega (arith, st .dists v l, dist-high G k v (omega arith)), omega (arith, st .dists v l, dist-le G k v), st .nexts v l ∙ sym (st .dists v l))
 
   -- One level down is the next level.
   pub state-next : (set : ℕ) (next' table' : List ℕ) → Descended arcs n k mask dist next' table table' set → Next G k set next' table'

@@ -4,7 +4,7 @@ use Prim.Native.Nat.{ℕ, _+_, _*_, _≤_, _<_}
 use mathlib.Core.Path.{_≡_}
 use native.Mathlib.Omega.{arith}
 use mathlib.Core.List.{List}
-use mir.Syntax.{w32, w64}
+use mir.Syntax.{w64}
 use mir.Val.{Fits}
 use lib.ListN.{length}
 use Rattle.cluster.specs.Terms.{mostNodes}
@@ -24,9 +24,3 @@ module _ (u : ℕ) (l : u < mostNodes) (b : ℕ) (s : b ≤ 2 * mostNodes) where
 -- What keeps its length is as long as it was.
 pub length-kept : {a b n : ℕ} → a ≡ b → n ≤ b → n ≤ a
 length-kept e l = omega arith
-
-pub distance-fits : (d : ℕ) → d ≤ mostNodes → Fits w32 (d + 1)
-distance-fits d l = omega arith
-
-pub distance-most : (d n : ℕ) → d ≤ n → n ≤ mostNodes → d ≤ mostNodes
-distance-most d n l s = omega arith

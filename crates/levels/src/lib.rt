@@ -1,13 +1,11 @@
 // A graph of at most NODES nodes with weights −1, 0 and +1, as sets of nodes, and one level of a search for a negative cycle in it.
 ghost use mathlib.Core.Path.{_≡_};
-ghost use mathlib.Core.Bool.{true};
-ghost use Prim.Native.Nat.{ℕ, _≤_, _<_};
+ghost use Prim.Native.Nat.{ℕ, _+_, _≤_, _<_};
 ghost use lib.ListN.{length, getD};
 ghost use Rattle.cluster.specs.Terms.{mostNodes};
 ghost use Rattle.sets.specs.ModelBits.{bit};
-ghost use Rattle.exchange.specs.ModelLevels.{relax};
-ghost use Rattle.levels.specs.ModelGraph.{arcCells, tableCells, graphOf};
-ghost use Rattle.levels.specs.ModelTurns.{offered, Settled, Joined, AtMost, Nodes, Turns, Swept, Descended};
+ghost use Rattle.levels.specs.ModelGraph.{arcCells, tableCells};
+ghost use Rattle.levels.specs.ModelTurns.{Settled, AtMost, Nodes, Ready, Swept, Descended, standOf, weightFrom, leadsTo, Taken};
 use cluster::Cluster;
 
 // The most nodes of a graph, as nodes are numbered.
@@ -26,95 +24,102 @@ fn settle(s: u32, c: u32, u: u32, next: &mut [u32], row: &mut [u32])
     while left != 0 {
         let v = sets::least(left);
         let i = v as usize;
-        left = sets::without(left, v);
+        left = sets::rest(left);
         next[i] = c;
         row[i] = u;
     }
 }
 
-// The members of s join the sets of the distances from c on, below top.
-fn join(top: u32, s: u32, c: u32, atmost: &mut [u32])
-    requires { ⌜ (c ≤ top) × (top ≤ mostNodes) × (mostNodes ≤ length (now atmost)) ⌝ }
-    ensures { λ _. ⌜ Joined c top s (now (atmost .entry)) (now (atmost .exit)) ⌝ }
+// The set of the nodes below n that stand at c or below, where all stand at n or below.
+fn stand(atmost: &[u32], n: u32, c: u32) -> u32
+    requires { ⌜ (n ≤ mostNodes) × (mostNodes ≤ length (now atmost)) ⌝ }
+    ensures { λ r. ⌜ r ≡ standOf (now (atmost .entry)) n c ⌝ }
 {
-    let mut e = c;
-    while e < top {
-        let i = e as usize;
-        atmost[i] = sets::union(atmost[i], s);
-        e += 1;
+    if c < n {
+        atmost[c as usize]
+    } else {
+        sets::below(n)
     }
 }
 
-// Offers distance c from node u to the members of m, where all stand at top or below. The members that take it, which are those that stand above c, are
-// set in fell, which is returned.
-fn offer(
-    top: u32,
-    m: u32,
-    c: u32,
-    u: u32,
-    fell: u32,
-    next: &mut [u32],
-    row: &mut [u32],
-    atmost: &mut [u32],
-) -> u32
-    requires { ⌜ (top ≤ mostNodes) × (mostNodes ≤ length (now next)) × (mostNodes ≤ length (now row)) × (mostNodes ≤ length (now atmost)) × AtMost top (now next) (now atmost) ⌝ }
-    ensures turns { λ r. ⌜ Turns top (λ v f. offered (bit m v) c u f) (now (next .entry)) (now (row .entry)) fell (now (next .exit)) (now (row .exit)) r ⌝ }
-    ensures stand { λ _. ⌜ AtMost top (now (next .exit)) (now (atmost .exit)) ⌝ }
+// Where the sets of the arcs begin by which node u offers one distance: u stands above it, or is a member of even and stands there, or is a member of
+// up and stands below it.
+fn weight(even: u32, up: u32, u: u32) -> usize
+    ensures { λ r. ⌜ r ≡ weightFrom even up u ⌝ }
 {
-    if top <= c {
-        return fell;
+    if sets::member(up, u) {
+        HIGHER
+    } else if sets::member(even, u) {
+        Cluster::NODES
+    } else {
+        0
     }
-    let low = atmost[c as usize];
-    let taken = sets::difference(m, low);
-    if taken == 0 {
-        return fell;
-    }
-    settle(taken, c, u, next, row);
-    join(top, taken, c, atmost);
-    sets::union(fell, taken)
 }
 
-// Looks at the arcs of node u, which stands at d. The nodes that fall are set in fell, which is returned.
-fn look(
+// Offers distance c from the members of near, one after the other, to the nodes of free: each that is offered it falls there, by the first that offers it.
+// The set of those that are still free is returned.
+fn fall(
     arcs: &[u32],
-    n: u32,
-    u: u32,
-    d: u32,
-    fell: u32,
+    c: u32,
+    near: u32,
+    even: u32,
+    up: u32,
+    free: u32,
     next: &mut [u32],
     row: &mut [u32],
-    atmost: &mut [u32],
 ) -> u32
-    requires { ⌜ (n ≤ mostNodes) × (arcCells ≤ length (now arcs)) × (u < mostNodes) × (1 ≤ d) × (d ≤ mostNodes) × (mostNodes ≤ length (now next)) × (mostNodes ≤ length (now row)) × (mostNodes ≤ length (now atmost)) × AtMost n (now next) (now atmost) ⌝ }
-    ensures turns { λ r. ⌜ Turns n (λ v f. relax (graphOf (now (arcs .entry)) n) (λ _. d) v u true f) (now (next .entry)) (now (row .entry)) fell (now (next .exit)) (now (row .exit)) r ⌝ }
-    ensures stand { λ _. ⌜ AtMost n (now (next .exit)) (now (atmost .exit)) ⌝ }
+    requires { ⌜ (arcCells ≤ length (now arcs)) × (mostNodes ≤ length (now next)) × (mostNodes ≤ length (now row)) ⌝ }
+    ensures { λ r. ⌜ Taken near (leadsTo (now (arcs .entry)) even up) mostNodes free r c (now (next .entry)) (now (row .entry)) (now (next .exit)) (now (row .exit)) ⌝ }
 {
-    let i = u as usize;
-    let a = offer(n, arcs[i], d - 1, u, fell, next, row, atmost);
-    let b = offer(n, arcs[Cluster::NODES + i], d, u, a, next, row, atmost);
-    offer(n, arcs[HIGHER + i], d + 1, u, b, next, row, atmost)
+    let mut still = free;
+    let mut left = near;
+    while left != 0 {
+        if still == 0 {
+            return still;
+        }
+        let u = sets::least(left);
+        left = sets::rest(left);
+        let taken = sets::meet(arcs[weight(even, up, u) + u as usize], still);
+        settle(taken, c, u, next, row);
+        still = sets::difference(still, taken);
+    }
+    still
 }
 
-// Looks at the arcs of the members of mask, from their distances dist, which next holds too. The set of the nodes that fall is returned.
+// Takes the distances from the least that can be offered on level k, where the members of mask offer, so that a node falls once. The set of the nodes
+// that fall is returned. The sets of the distances say where nodes stand, so that dist is not read.
 fn sweep(
     arcs: &[u32],
     n: u32,
+    k: u32,
     mask: u32,
     dist: &[u32],
     next: &mut [u32],
     row: &mut [u32],
     atmost: &mut [u32],
 ) -> u32
-    requires { ⌜ (n ≤ mostNodes) × (arcCells ≤ length (now arcs)) × (mostNodes ≤ length (now dist)) × (mostNodes ≤ length (now next)) × (mostNodes ≤ length (now row)) × (mostNodes ≤ length (now atmost)) × AtMost n (now next) (now atmost) × Nodes n mask × ((v : ℕ) → v < n → (1 ≤ getD (now dist) v 0) × (getD (now dist) v 0 ≤ n) × (getD (now next) v 0 ≡ getD (now dist) v 0)) ⌝ }
-    ensures swept { λ r. ⌜ Swept (now (arcs .entry)) n mask (now (dist .entry)) (now (next .exit)) (now (row .exit)) r ⌝ }
+    requires { ⌜ (arcCells ≤ length (now arcs)) × (mostNodes ≤ length (now next)) × (mostNodes ≤ length (now row)) × (mostNodes ≤ length (now atmost)) × Ready n k mask (now dist) (now next) (now atmost) ⌝ }
+    ensures swept { λ r. ⌜ Swept (now (arcs .entry)) n mask (now (dist .entry)) (now (next .exit)) (now (row .exit)) r × Nodes n r ⌝ }
     ensures stand { λ _. ⌜ AtMost n (now (next .exit)) (now (atmost .exit)) ⌝ }
 {
+    let all = sets::below(n);
+    let mut c = n - k - 1;
+    let mut here = stand(atmost, n, c);
+    let mut even = 0;
+    let mut up = 0;
     let mut fell = 0;
-    let mut left = mask;
-    while left != 0 {
-        let u = sets::least(left);
-        left = sets::without(left, u);
-        fell = look(arcs, n, u, dist[u as usize], fell, next, row, atmost);
+    while c < n {
+        let above = stand(atmost, n, c + 1);
+        let down = sets::difference(sets::meet(mask, above), here);
+        let near = sets::union(down, sets::union(even, up));
+        let free = sets::difference(all, sets::union(here, fell));
+        let still = fall(arcs, c, near, even, up, free, next, row);
+        fell = sets::union(fell, sets::difference(free, still));
+        atmost[c as usize] = sets::union(here, fell);
+        up = even;
+        even = down;
+        here = above;
+        c += 1;
     }
     fell
 }
@@ -131,19 +136,19 @@ pub fn descend(
     table: &mut [u32],
     atmost: &mut [u32],
 ) -> u32
-    requires { ⌜ (k < mostNodes) × (n ≤ mostNodes) × (arcCells ≤ length (now arcs)) × (mostNodes ≤ length (now dist)) × (mostNodes ≤ length (now next)) × (tableCells ≤ length (now table)) × (mostNodes ≤ length (now atmost)) × AtMost n (now next) (now atmost) × Nodes n mask × ((v : ℕ) → v < n → (1 ≤ getD (now dist) v 0) × (getD (now dist) v 0 ≤ n) × (getD (now next) v 0 ≡ getD (now dist) v 0)) ⌝ }
+    requires { ⌜ (k < n) × (n ≤ mostNodes) × (arcCells ≤ length (now arcs)) × (mostNodes ≤ length (now dist)) × (mostNodes ≤ length (now next)) × (tableCells ≤ length (now table)) × (mostNodes ≤ length (now atmost)) × AtMost n (now next) (now atmost) × Nodes n mask × ((v : ℕ) → v < n → (n ≤ getD (now dist) v 0 + k) × (getD (now dist) v 0 ≤ n) × (getD (now next) v 0 ≡ getD (now dist) v 0)) ⌝ }
     ensures level { λ r. ⌜ Descended (now (arcs .entry)) n k mask (now (dist .entry)) (now (next .exit)) (now (table .entry)) (now (table .exit)) r ⌝ }
     ensures stand { λ _. ⌜ AtMost n (now (next .exit)) (now (atmost .exit)) ⌝ }
 {
     let a = ((k + 1) * NODES) as usize;
-    let swept = sweep(
+    sweep(
         arcs,
         n,
+        k,
         mask,
         dist,
         next,
         &mut table[a..a + Cluster::NODES],
         atmost,
-    );
-    sets::meet(swept, sets::below(n))
+    )
 }

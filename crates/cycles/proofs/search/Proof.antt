@@ -82,7 +82,7 @@ descend-requires c κs =
     let i = l .loop .inv in
     let a = l .before .before .before .before .args in
     let b = inside (c .before .before .before .before) in (
-      low (c .before .before .before .before),
+      b,
       i .1,
       i .2,
       length-enough (i .5),

@@ -1,11 +1,11 @@
 -- `levels::settle` meets its contract. The cells of the members that are not left hold what they shall.
 -- Assumes nothing.
 use Prim.Native.Nat.{_-_}
-use mathlib.Core.Path.{_≡_, refl}
+use mathlib.Core.Path.{_≡_, refl, sym, ap, _∙_}
 use native.Mathlib.Omega.{arith}
 use borrow.Author.Needs.{needs}
 use lib.ListN.{length, length-set}
-use Rattle.sets.specs.ModelBits.{bit, countOf}
+use Rattle.sets.specs.ModelBits.{bit, withoutOf, countOf}
 use Rattle.sets.proofs.Scan.{Left, left-all}
 use Rattle.levels.specs.ModelTurns.{Settled}
 use Rattle.levels.proofs.Sizes.{length-kept}
@@ -32,15 +32,15 @@ least-requires c κs = search needs
 cast-i : tie.Need-cast-i Inv-loop μ-loop
 cast-i c = search needs
 
-without-requires : tie.Need-without-requires Inv-loop μ-loop
-without-requires c κs = search needs
+rest-requires : tie.Need-rest-requires Inv-loop μ-loop
+rest-requires c κs = search needs
 
-at : (c : tie.After-without Inv-loop μ-loop)
+at : (c : tie.After-rest Inv-loop μ-loop)
     → let l = c .before .before .before in
-    Visit (l .before .before .before .args .s) (l .loop .left) (c .before .least .result) (c .without .result)
+    Visit (l .before .before .before .args .s) (l .loop .left) (c .before .least .result) (c .rest .result)
 at c =
     let l = c .before .before .before in
-    record { some = c .before .before .loop-test .taken; scan = l .loop .inv .2; at-least = c .before .least .ensures; at-rest = c .without .ensures }
+    record { some = c .before .before .loop-test .taken; scan = l .loop .inv .2; at-least = c .before .least .ensures; at-rest = c .rest .ensures ∙ ap (withoutOf (l .loop .left)) (sym (c .before .least .ensures)) }
 
 mul-next : tie.Need-mul-next Inv-loop μ-loop
 mul-next c = search needs
@@ -90,7 +90,7 @@ settle-spec =
     loop-holds
     least-requires
     cast-i
-    without-requires
+    rest-requires
     mul-next
     slice-write-next
     mul-row
