@@ -42,9 +42,6 @@ module _ (k : ℕ) (l : k < mostNodes) where
   pub row-end-fits : Fits w64 ((k + 1) * mostNodes + mostNodes)
   row-end-fits = omega arith
 
-  pub row-bytes-fit : Fits w64 ((k + 1) * mostNodes * 4)
-  row-bytes-fit = omega arith
-
   -- The row lies in the table.
   pub row-inside : (t : List ℕ) → length t ≡ tableCells → (k + 1) * mostNodes + mostNodes ≤ length t
   row-inside t e = omega arith

@@ -19,7 +19,7 @@ pub const WALK: usize = Cluster::NODES + 1;
 const TABLE: usize = (Cluster::NODES + 1) * Cluster::NODES;
 
 // The first node, of those that fell, that is behind itself on its way; n where there is none, and then grown has the nodes behind each that fell.
-fn close(n: u32, fell: u32, row: &[u32], way: &[u32], grown: &mut [u32]) -> u32
+fn close(n: u32, fell: u32, row: &[u8], way: &[u32], grown: &mut [u32]) -> u32
     requires { ⌜ (n ≤ mostNodes) × (mostNodes ≤ length (now row)) × (mostNodes ≤ length (now way)) × (mostNodes ≤ length (now grown)) × Nodes n fell × ((v : ℕ) → v < n → memberOf fell v ≡ true → getD (now row) v 0 < mostNodes) ⌝ }
     ensures first { λ r. ⌜ r ≡ closer n fell (now (row .entry)) (now (way .entry)) ⌝ }
     ensures grows { λ r. ⌜ (r ≡ n → Settled (bit fell) (behind (now (row .entry)) (now (way .entry))) (now (grown .entry)) (now (grown .exit))) ⌝ }
@@ -29,7 +29,7 @@ fn close(n: u32, fell: u32, row: &[u32], way: &[u32], grown: &mut [u32]) -> u32
         let v = sets::least(left);
         let i = v as usize;
         left = sets::without(left, v);
-        let from = row[i];
+        let from = row[i] as u32;
         let w = sets::with(way[from as usize], from);
         if sets::member(w, v) {
             return v;
@@ -40,7 +40,7 @@ fn close(n: u32, fell: u32, row: &[u32], way: &[u32], grown: &mut [u32]) -> u32
 }
 
 // Writes the walk back from v at level k, through the rows of the table, until it is at v again. Its length is returned.
-fn trace(table: &[u32], k: u32, v: u32, walk: &mut [u32]) -> u32
+fn trace(table: &[u8], k: u32, v: u32, walk: &mut [u32]) -> u32
     requires { ⌜ (k ≤ mostNodes) × (tableCells ≤ length (now table)) × (walkCells ≤ length (now walk)) × (trailLength (now table) k v ≤ k) × ((t : ℕ) → t < k → trail (now table) k v t < mostNodes) ⌝ }
     ensures { λ r. ⌜ (r ≡ trailLength (now (table .entry)) k v) × (now (walk .exit) ≡ put 0 (trail (now (table .entry)) k v) (trailLength (now (table .entry)) k v + 1) (now (walk .entry))) ⌝ }
 {
@@ -48,7 +48,7 @@ fn trace(table: &[u32], k: u32, v: u32, walk: &mut [u32]) -> u32
     let mut t = 0;
     while t < k {
         walk[t as usize] = x;
-        x = table[((k - t) * levels::NODES + x) as usize];
+        x = table[((k - t) * levels::NODES + x) as usize] as u32;
         t += 1;
         if x == v {
             walk[t as usize] = x;
@@ -70,7 +70,7 @@ fn search(arcs: &[u32], n: u32, walk: &mut [u32]) -> u32
     // For each node the set of the nodes behind it on its way: at first there are none.
     let mut way = [0u32; Cluster::NODES];
     let mut grown = [0u32; Cluster::NODES];
-    let mut table = [0u32; TABLE];
+    let mut table = [0u8; TABLE];
     let mut mask = sets::below(n);
     let mut k = 0;
     while k < n {

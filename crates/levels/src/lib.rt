@@ -16,17 +16,18 @@ pub const ARCS: usize = 3 * Cluster::NODES;
 const HIGHER: usize = 2 * Cluster::NODES;
 
 // Writes c into the cells of next, and u into those of row, of the members of s.
-fn settle(s: u32, c: u32, u: u32, next: &mut [u32], row: &mut [u32])
-    requires { ⌜ (mostNodes ≤ length (now next)) × (mostNodes ≤ length (now row)) ⌝ }
+fn settle(s: u32, c: u32, u: u32, next: &mut [u32], row: &mut [u8])
+    requires { ⌜ (mostNodes ≤ length (now next)) × (mostNodes ≤ length (now row)) × (u < mostNodes) ⌝ }
     ensures { λ _. ⌜ Settled (bit s) (λ _. c) (now (next .entry)) (now (next .exit)) × Settled (bit s) (λ _. u) (now (row .entry)) (now (row .exit)) ⌝ }
 {
+    let from = u as u8;
     let mut left = s;
     while left != 0 {
         let v = sets::least(left);
         let i = v as usize;
         left = sets::rest(left);
         next[i] = c;
-        row[i] = u;
+        row[i] = from;
     }
 }
 
@@ -66,7 +67,7 @@ fn fall(
     up: u32,
     free: u32,
     next: &mut [u32],
-    row: &mut [u32],
+    row: &mut [u8],
 ) -> u32
     requires { ⌜ (arcCells ≤ length (now arcs)) × (mostNodes ≤ length (now next)) × (mostNodes ≤ length (now row)) ⌝ }
     ensures { λ r. ⌜ Taken near (leadsTo (now (arcs .entry)) even up) mostNodes free r c (now (next .entry)) (now (row .entry)) (now (next .exit)) (now (row .exit)) ⌝ }
@@ -95,7 +96,7 @@ fn sweep(
     mask: u32,
     dist: &[u32],
     next: &mut [u32],
-    row: &mut [u32],
+    row: &mut [u8],
     atmost: &mut [u32],
 ) -> u32
     requires { ⌜ (arcCells ≤ length (now arcs)) × (mostNodes ≤ length (now next)) × (mostNodes ≤ length (now row)) × (mostNodes ≤ length (now atmost)) × Ready n k mask (now dist) (now next) (now atmost) ⌝ }
@@ -133,7 +134,7 @@ pub fn descend(
     mask: u32,
     dist: &[u32],
     next: &mut [u32],
-    table: &mut [u32],
+    table: &mut [u8],
     atmost: &mut [u32],
 ) -> u32
     requires { ⌜ (k < n) × (n ≤ mostNodes) × (arcCells ≤ length (now arcs)) × (mostNodes ≤ length (now dist)) × (mostNodes ≤ length (now next)) × (tableCells ≤ length (now table)) × (mostNodes ≤ length (now atmost)) × AtMost n (now next) (now atmost) × Nodes n mask × ((v : ℕ) → v < n → (n ≤ getD (now dist) v 0 + k) × (getD (now dist) v 0 ≤ n) × (getD (now next) v 0 ≡ getD (now dist) v 0)) ⌝ }

@@ -45,9 +45,6 @@ at c =
     let l = c .before .before .before in
     record { some = c .before .before .loop-test .taken; scan = l .loop .inv .1; at-least = c .before .least .ensures; at-rest = c .without .ensures }
 
-mul-from : tie.Need-mul-from Inv-loop μ-loop
-mul-from c = search needs
-
 shared-slice-read-from : tie.Need-shared-slice-read-from Inv-loop μ-loop
 shared-slice-read-from c = omega (arith, visit-node (at (c .before)))
 
@@ -57,6 +54,9 @@ from : (c : tie.After-without Inv-loop μ-loop)
 from c =
     let t = c .before .before .before .before .before .before .before in
     t .pre .5 (c .before .least .result) (visit-below (at c) (t .args .n) (t .pre .4)) (bit-true (t .args .fell) (c .before .least .result) (visit-member (at c)))
+
+cast-from : tie.Need-cast-from Inv-loop μ-loop
+cast-from c = omega (arith, from (c .before))
 
 cast-with : tie.Need-cast-with Inv-loop μ-loop
 cast-with c = omega (arith, from (c .before))
@@ -135,8 +135,8 @@ close-spec =
     least-requires
     cast-i
     without-requires
-    mul-from
     shared-slice-read-from
+    cast-from
     cast-with
     mul-with
     shared-slice-read-with

@@ -16,7 +16,7 @@ use Rattle.cycles.specs.ModelTrails.{behind, closer}
 use Rattle.levels.proofs.Offers.{stand-start}
 use Rattle.cycles.proofs.States.{State, state-start, state-room, state-next}
 use Rattle.cycles.proofs.Ends.{Turning, part-row, ends-still, ends-closed, search-spent, search-start, closer-le, search-still, row-node, search-on, state-on, search-closed, trail-closes, trail-node, trail-walk, trail-length}
-use Rattle.cycles.proofs.Rows.{level-lt, level-less, level-up, level-next, level-fits, row-fits, row-fits-64, row-end-fits, row-bytes-fit, row-inside, row-length, row-ends, length-enough, none-closer}
+use Rattle.cycles.proofs.Rows.{level-lt, level-less, level-up, level-next, level-fits, row-fits, row-fits-64, row-end-fits, row-inside, row-length, row-ends, length-enough, none-closer}
 use Rattle.cycles.proofs.search.Statement.{statement}
 use Rattle.cycles.proofs.search.Tie as tie
 
@@ -136,9 +136,6 @@ cast-a c = row-fits-64 (c .before .before .before .before .before .before .befor
 
 add-close : tie.Need-add-close Inv-loop μ-loop
 add-close c = row-end-fits (c .before .before .before .before .before .before .before .before .before .before .loop .k) (low (c .before .before .before .before .before .before .before .before .before))
-
-mul-close : tie.Need-mul-close Inv-loop μ-loop
-mul-close c = row-bytes-fit (c .before .before .before .before .before .before .before .before .before .before .loop .k) (low (c .before .before .before .before .before .before .before .before .before))
 
 sub-close : tie.Need-sub-close Inv-loop μ-loop
 sub-close c = row-ends ((c .before .before .before .before .before .before .before .before .before .before .loop .k + 1) * mostNodes)
@@ -270,7 +267,6 @@ search-spec =
     mul-a
     cast-a
     add-close
-    mul-close
     sub-close
     part-close-start
     part-close-end

@@ -1,5 +1,5 @@
 -- `cycles::trace` meets its contract. Assumes nothing.
-use Prim.Native.Nat.{_≤_, _<_, _-_}
+use Prim.Native.Nat.{_+_, _*_, _≤_, _<_, _-_}
 use mathlib.Core.Path.{_≡_, _∙_}
 use native.Mathlib.Omega.{arith}
 use borrow.Author.Needs.{needs}
@@ -51,11 +51,11 @@ add-x c = omega (arith, low c)
 cast-x : tie.Need-cast-x Inv-loop μ-loop
 cast-x c = omega (arith, low c)
 
-mul-x-2 : tie.Need-mul-x-2 Inv-loop μ-loop
-mul-x-2 c = omega (arith, low c)
-
 shared-slice-read-x : tie.Need-shared-slice-read-x Inv-loop μ-loop
 shared-slice-read-x c = omega (arith, low (c .before))
+
+cast-x-2 : tie.Need-cast-x-2 Inv-loop μ-loop
+cast-x-2 c = let l = c .before .before in omega (arith, c .shared-slice-known .given ((l .before .args .k - l .loop .t) * mostNodes + l .loop .x))
 
 add-t : tie.Need-add-t Inv-loop μ-loop
 add-t c = search needs
@@ -120,8 +120,8 @@ trace-spec =
     mul-x
     add-x
     cast-x
-    mul-x-2
     shared-slice-read-x
+    cast-x-2
     add-t
     cast-walk-2
     mul-walk-2

@@ -21,9 +21,6 @@ cast-a c = search needs
 add-sweep : tie.Need-add-sweep
 add-sweep c = search needs
 
-mul-sweep : tie.Need-mul-sweep
-mul-sweep c = search needs
-
 sub-sweep : tie.Need-sub-sweep
 sub-sweep c = search needs
 
@@ -82,7 +79,6 @@ descend-spec =
     mul-a
     cast-a
     add-sweep
-    mul-sweep
     sub-sweep
     part-sweep-start
     part-sweep-end

@@ -14,12 +14,15 @@ use Rattle.levels.proofs.settle.Statement.{statement}
 use Rattle.levels.proofs.settle.Tie as tie
 
 abbrev Inv-loop : tie.InvT-loop
-Inv-loop s c u next₀ row₀ left₀ next row left =
+Inv-loop s c u next₀ row₀ from left₀ next row left =
     (length next ≡ length next₀) × (length row ≡ length row₀) × Left s left
     × Settled (λ v. bit s v - bit left v) (λ _. c) next₀ next × Settled (λ v. bit s v - bit left v) (λ _. u) row₀ row
 
 abbrev μ-loop : tie.MeasureT-loop
-μ-loop s c u next₀ row₀ left₀ next row left = countOf left
+μ-loop s c u next₀ row₀ from left₀ next row left = countOf left
+
+cast-from : tie.Need-cast-from Inv-loop μ-loop
+cast-from c = search needs
 
 loop-holds : tie.Need-loop-holds Inv-loop μ-loop
 loop-holds c =
@@ -47,9 +50,6 @@ mul-next c = search needs
 
 slice-write-next : tie.Need-slice-write-next Inv-loop μ-loop
 slice-write-next c = omega (arith, visit-node (at c))
-
-mul-row : tie.Need-mul-row Inv-loop μ-loop
-mul-row c = search needs
 
 slice-write-row : tie.Need-slice-write-row Inv-loop μ-loop
 slice-write-row c = omega (arith, visit-node (at c))
@@ -87,13 +87,13 @@ settle-spec =
     (tie.spec
     Inv-loop
     μ-loop
+    cast-from
     loop-holds
     least-requires
     cast-i
     rest-requires
     mul-next
     slice-write-next
-    mul-row
     slice-write-row
     loop-less
     loop-again
