@@ -28,7 +28,7 @@ fn close(n: u32, fell: u32, row: &[u8], way: &[u32], grown: &mut [u32]) -> u32
     while left != 0 {
         let v = sets::least(left);
         let i = v as usize;
-        left = sets::without(left, v);
+        left = sets::rest(left);
         let from = row[i] as u32;
         let w = sets::with(way[from as usize], from);
         if sets::member(w, v) {

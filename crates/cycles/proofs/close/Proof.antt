@@ -1,12 +1,12 @@
 -- `cycles::close` meets its contract. The nodes that are not left close no cycle, and the nodes behind them are written.
 -- Assumes nothing.
 use Prim.Native.Nat.{_<_, _-_}
-use mathlib.Core.Path.{_≡_, refl, sym, _∙_}
+use mathlib.Core.Path.{_≡_, refl, sym, ap, _∙_}
 use native.Mathlib.Omega.{arith}
 use borrow.Author.Needs.{needs}
 use lib.ListN.{length, getD, length-set}
 use Rattle.cluster.specs.Terms.{mostNodes}
-use Rattle.sets.specs.ModelBits.{bit, countOf}
+use Rattle.sets.specs.ModelBits.{bit, withoutOf, countOf}
 use Rattle.sets.proofs.Laws.{bit-true}
 use Rattle.sets.proofs.Scan.{Left, left-all}
 use Rattle.levels.specs.ModelTurns.{Settled}
@@ -35,21 +35,21 @@ least-requires c κs = search needs
 cast-i : tie.Need-cast-i Inv-loop μ-loop
 cast-i c = search needs
 
-without-requires : tie.Need-without-requires Inv-loop μ-loop
-without-requires c κs = search needs
+rest-requires : tie.Need-rest-requires Inv-loop μ-loop
+rest-requires c κs = search needs
 
-at : (c : tie.After-without Inv-loop μ-loop)
+at : (c : tie.After-rest Inv-loop μ-loop)
     → let l = c .before .before .before in
-    Visit (l .before .before .before .before .args .fell) (l .loop .left) (c .before .least .result) (c .without .result)
+    Visit (l .before .before .before .before .args .fell) (l .loop .left) (c .before .least .result) (c .rest .result)
 at c =
     let l = c .before .before .before in
-    record { some = c .before .before .loop-test .taken; scan = l .loop .inv .1; at-least = c .before .least .ensures; at-rest = c .without .ensures }
+    record { some = c .before .before .loop-test .taken; scan = l .loop .inv .1; at-least = c .before .least .ensures; at-rest = c .rest .ensures ∙ ap (withoutOf (l .loop .left)) (sym (c .before .least .ensures)) }
 
 shared-slice-read-from : tie.Need-shared-slice-read-from Inv-loop μ-loop
 shared-slice-read-from c = omega (arith, visit-node (at (c .before)))
 
 -- Where the next one came from is a node.
-from : (c : tie.After-without Inv-loop μ-loop)
+from : (c : tie.After-rest Inv-loop μ-loop)
     → getD (c .before .before .before .before .before .before .before .args .row .now) (c .before .least .result) 0 < mostNodes
 from c =
     let t = c .before .before .before .before .before .before .before in
@@ -134,7 +134,7 @@ close-spec =
     loop-holds
     least-requires
     cast-i
-    without-requires
+    rest-requires
     shared-slice-read-from
     cast-from
     cast-with
