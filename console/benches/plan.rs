@@ -221,15 +221,16 @@ impl Timed<'_> {
     }
 }
 
-/// Calls the methods in turn, each on one cluster after the other.
+/// Calls the methods in turn, each on one cluster after the other, so that none finds a record at hand
+/// that another has just read.
 fn times_of(cases: &[Case]) -> Vec<Times> {
     let mut lent = Lent::new();
     let mut clusters: Vec<Timed> = cases.iter().map(Timed::new).collect();
     for _ in 0..ROUNDS {
-        for cluster in &mut clusters {
-            cluster.call_proved(&mut lent);
-            cluster.call_plain(&mut lent);
-            cluster.call_search(&mut lent);
+        for call in [Timed::call_proved, Timed::call_plain, Timed::call_search] {
+            clusters
+                .iter_mut()
+                .for_each(|cluster| call(cluster, &mut lent));
         }
     }
     for _ in 0..LONG_ROUNDS {
