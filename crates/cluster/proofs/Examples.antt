@@ -3,14 +3,17 @@
 use Prim.Native.Nat.{ℕ}
 use mathlib.Core.Path.{_≡_, refl}
 use mathlib.Core.Bool.{true, false}
-use mathlib.Core.List.{List, [], _∷_}
+use mathlib.Core.List.{List, [], _∷_, map}
 use native.Mathlib.Omega.{arith}
 use Rattle.sums.specs.TermsSums.{sumTo, one-if}
-use Rattle.cluster.specs.Terms.{Topology, mem, risingFrom, rising, different, zonesNamed, zonesOf, copiesIn, ValidAt, onlyIn, sent, distance}
+use Rattle.cluster.specs.Terms.{Topology, mem, risingFrom, rising, different, zonesNamed, zonesOf, copiesIn, usable, ValidAt, onlyIn, sent, distance}
 use Rattle.cluster.specs.declared.Node.{Node}
 
 abbrev pub node : ℕ → ℕ → ℕ → Node
 node i z c = record { id = i; zone = z; capacity = c }
+
+abbrev pub A : Topology
+A = record { bits = 1; replication = 3; redundancy = 2; nodes = node 1 1 100 ∷ node 2 1 70 ∷ node 3 2 50 ∷ [] }
 
 abbrev pub E : Topology
 E = record { bits = 1; replication = 1; redundancy = 1; nodes = node 1 1 10 ∷ node 2 1 4 ∷ [] }
@@ -95,6 +98,16 @@ sent-K = refl
 sent-none : sent E ((1 ∷ []) ∷ (1 ∷ []) ∷ []) ([] ∷ [] ∷ []) ≡ 2
 unfolding sent sumTo onlyIn mem one-if
 sent-none = refl
+
+-- 2026-02: what of the disks of A may be filled.
+usable-A : map usable (A .nodes) ≡ 94 ∷ 66 ∷ 47 ∷ []
+unfolding usable
+usable-A = refl
+
+-- About the first two sixteenths, and of the largest disk: 15/16 of it rounded down would be 14, 15, 15, 29, 30 and one less.
+usable-ends : map usable (map (node 1 1) (15 ∷ 16 ∷ 17 ∷ 31 ∷ 32 ∷ 4294967295 ∷ [])) ≡ 15 ∷ 15 ∷ 16 ∷ 30 ∷ 30 ∷ 4026531840 ∷ []
+unfolding usable
+usable-ends = refl
 
 -- Node 1 of E holds two copies.
 copies-E : copiesIn ((1 ∷ []) ∷ (1 ∷ []) ∷ []) 1 ≡ 2

@@ -1,6 +1,6 @@
 -- The terms of document 01, on which all claims rest: they have to be right by reading. "Box" in the papers is a node here.
 -- Assumes nothing.
-use Prim.Native.Nat.{ℕ, _+_, _*_, _^_, _/_, _%_, _≤_, _<_}
+use Prim.Native.Nat.{ℕ, _+_, _-_, _*_, _^_, _/_, _%_, _≤_, _<_}
 use mathlib.Core.Path.{_≡_}
 use mathlib.Core.List.{List, [], _∷_, map}
 use mathlib.Core.Bool.{Bool, true, false, not, cond, _&&_, _||_}
@@ -117,17 +117,21 @@ pub record ValidRow (t : Topology) (r : List ℕ) : Type 0 where
   pub known : (i : ℕ) → mem i r ≡ true → mem i (idsOf (t .nodes)) ≡ true
   pub zones : t .redundancy ≤ zonesOf (t .nodes) r
 
+-- 2026-02: "usable is capacity less one sixteenth of it, rounded down": what of a node's disk may be filled.
+unfoldable pub usable : Node → ℕ
+usable n = n .capacity - n .capacity / 16
+
 -- "valid at size s, s at least 1, when each row names R different boxes of the cluster, these lie in at least Z zones, and for each box,
--- copies held times s is at most its capacity". A node with no copies puts no limit on s.
+-- copies held times s is at most its capacity", by 2026-02 its usable capacity. A node with no copies puts no limit on s.
 pub record ValidAt (t : Topology) (L : Layout) (s : ℕ) : Type 0 where
   pub positive : 1 ≤ s
   pub partition-rows : length L ≡ partitions t
   pub rows : (p : ℕ) → p < partitions t → ValidRow t (row L p)
-  pub capacities : (b : ℕ) → b < length (t .nodes) → copiesIn L (nodeAt t b .id) * s ≤ nodeAt t b .capacity
+  pub capacities : (b : ℕ) → b < length (t .nodes) → copiesIn L (nodeAt t b .id) * s ≤ usable (nodeAt t b)
 
--- Whether a node takes so many copies at size s: "copies held times s is at most its capacity", as a test.
+-- Whether a node takes so many copies at size s: "copies held times s is at most its" usable capacity, as a test.
 unfoldable pub takes : Node → ℕ → ℕ → Bool
-takes n copies s = leb (copies * s) (n .capacity)
+takes n copies s = leb (copies * s) (usable n)
 
 -- "The size of a cluster is the largest whole s with a layout valid at s."
 pub record IsSize (t : Topology) (s : ℕ) : Type 0 where

@@ -1,8 +1,8 @@
 // A cluster in hand: its limits, its nodes, and what makes it acceptable.
 ghost use mathlib.Core.Path.{_≡_};
-ghost use Prim.Native.Nat.{_^_, _≤_, min};
+ghost use Prim.Native.Nat.{_^_, _≤_, _<_, min};
 ghost use Rattle.cluster.specs.TermsReading.{noNodes};
-ghost use Rattle.cluster.specs.Terms.{mostBits, bufferRows, takes, faultOf};
+ghost use Rattle.cluster.specs.Terms.{mostBits, bufferRows, usable, takes, faultOf};
 
 mod faults;
 pub mod refusal;
@@ -16,11 +16,20 @@ pub struct Node {
 }
 
 impl Node {
+    // What of the node's disk may be filled: a sixteenth of it stays free. That the capacity is a number of 32 bits is known here, and told
+    // with it.
+    pub fn usable(self) -> u32
+        ensures { λ r. ⌜ (r ≡ usable self) × (self .capacity < 2 ^ 32) ⌝ }
+    {
+        self.capacity - self.capacity / 16
+    }
+
     // Whether the node takes so many copies at a size.
     pub fn takes(self, copies: u32, size: u32) -> bool
         ensures { λ r. ⌜ r ≡ takes self copies size ⌝ }
     {
-        (copies as u64) * (size as u64) <= self.capacity as u64
+        let usable = self.usable();
+        (copies as u64) * (size as u64) <= usable as u64
     }
 }
 

@@ -22,5 +22,5 @@ pub const NO_LAYOUT: u32 = 9;
 pub const ROW: u32 = 10;
 // A row in too few zones.
 pub const ZONES: u32 = 11;
-// A node with more copies than its capacity takes.
+// A node with more copies than its usable capacity takes.
 pub const CAPACITY: u32 = 12;

@@ -10,7 +10,7 @@ use lib.Dec.{leb, eqb}
 use borrow.Author.Tests.{leb-true, eqb-true, eq-eqb, not-true}
 use Rattle.sums.specs.TermsSums.{sumTo, one-if}
 use Rattle.sums.proofs.Sum.{lt-or-ge}
-use Rattle.cluster.specs.Terms.{takes, Topology, idsOf, mem, risingFrom, rising, different, zonesNamed, Layout, copiesIn, ValidAt, onlyIn, sent}
+use Rattle.cluster.specs.Terms.{usable, takes, Topology, idsOf, mem, risingFrom, rising, different, zonesNamed, Layout, copiesIn, ValidAt, onlyIn, sent}
 use Rattle.sums.proofs.Tests.{both}
 use Rattle.examples.specs.TermsExamples.{Rows, HasRows, Expected, no-layout, planned, Comes, Example, Holds, table, EveryHolds, Table}
 use Rattle.examples.specs.ModelExamples.{every, some, implies, choices, before, layoutsOf, candidates, rowTest, nodeTest, validTest, acceptedTest, formerRowTest, formerTest, sameRow, sameLayout, rowsTest, nearest, agrees, outcomeTest, passes}
@@ -129,7 +129,7 @@ all-hold (e ∷ es) h = let a = both (passes e) (every passes es) h in (passes-h
 pub table-passes : every passes table ≡ true
 unfolding
     every some implies choices before layoutsOf candidates rowTest nodeTest validTest acceptedTest formerRowTest formerTest sameRow sameLayout
-    rowsTest nearest agrees outcomeTest passes sumTo one-if idsOf mem risingFrom different zonesNamed copiesIn takes onlyIn sent
+    rowsTest nearest agrees outcomeTest passes sumTo one-if idsOf mem risingFrom different zonesNamed copiesIn usable takes onlyIn sent
 table-passes = refl
 
 -- The paper's table: every starred example holds, of the terms.

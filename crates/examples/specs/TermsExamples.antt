@@ -77,9 +77,9 @@ line t F o = record { topology = t; former = F; outcome = o }
 abbrev pub nodesA : List Node
 nodesA = node 1 1 100 ∷ node 2 1 70 ∷ node 3 2 50 ∷ []
 
--- A: 1, 3, 2; 1/1/100 2/1/70 3/2/50; none; size 25, sent 6.
+-- A: 1, 3, 2; 1/1/100 2/1/70 3/2/50; none; size 25, by 2026-02 "size 23", sent 6.
 abbrev pub A : Example
-A = line (cluster 1 3 2 nodesA) (noCopies 2) (planned 25 6 unnamed)
+A = line (cluster 1 3 2 nodesA) (noCopies 2) (planned 23 6 unnamed)
 
 -- B: 1, 3, 3; as A; none; 9.
 abbrev pub B : Example

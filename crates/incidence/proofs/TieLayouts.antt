@@ -13,7 +13,7 @@ use Rattle.sums.proofs.Sum.{sum-cong, sum-le, sum-const}
 use Rattle.cells.proofs.Cells.{length-tab, getD-tab, tab-cong, tab-getD}
 use Rattle.exchange.specs.ModelRow.{Valid, copies, weigh, Within}
 use Rattle.exchange.proofs.Agreeing.{cover-cong, copies-cong, weigh-cong}
-use Rattle.cluster.specs.Terms.{Topology, partitions, noNode, nodeAt, idsOf, mem, rising, Layout, row, copiesIn, ValidRow, ValidAt, sent}
+use Rattle.cluster.specs.Terms.{Topology, partitions, noNode, nodeAt, idsOf, mem, rising, Layout, row, copiesIn, ValidRow, usable, ValidAt, sent}
 use Rattle.incidence.specs.ModelIncidence.{zoneIndex, capAt, bitsOf, incidence, idsWhere, layoutOf}
 use Rattle.sums.proofs.Tests.{one-if-le}
 use Rattle.incidence.proofs.TieRows.{row-length, copies-sum, where-known, where-rising, where-bits, where-row}
@@ -99,8 +99,8 @@ module _ (t : Topology) (ids : rising (idsOf (t .nodes)) ≡ true) where
           omega
           (arith, sum-le (partitions t) (λ p. incidence t L p b) (λ p. 1) (λ p h. incidence-le t L p b), sum-const (partitions t) 1)
 
-      held : (b : ℕ) → b < length (t .nodes) → copies (partitions t) (incidence t L) b * s ≤ nodeAt t b .capacity
-      held b h = subst (λ (n : ℕ). n * s ≤ nodeAt t b .capacity) (copies-bits t L b (v .partition-rows)) (v .capacities b h)
+      held : (b : ℕ) → b < length (t .nodes) → copies (partitions t) (incidence t L) b * s ≤ usable (nodeAt t b)
+      held b h = subst (λ (n : ℕ). n * s ≤ usable (nodeAt t b)) (copies-bits t L b (v .partition-rows)) (v .capacities b h)
 
   -- 0/1 rows within the caps of a size are, as ids, a layout valid at that size.
   pub valid-of-within : (S : ℕ → ℕ → ℕ) (s : ℕ) → 1 ≤ s
@@ -110,7 +110,7 @@ module _ (t : Topology) (ids : rising (idsOf (t .nodes)) ≡ true) where
         positive = l;
         partition-rows = length-layout t S;
         rows = λ p h. subst (ValidRow t) (sym (row-layout t S p h)) (valid-ids (S p) (w .rows p h));
-        capacities = λ b h. subst (λ (n : ℕ). n * s ≤ nodeAt t b .capacity) (sym (copies-bits t (layoutOf t S) b (length-layout t S) ∙ same b h)) (held b h);
+        capacities = λ b h. subst (λ (n : ℕ). n * s ≤ usable (nodeAt t b)) (sym (copies-bits t (layoutOf t S) b (length-layout t S) ∙ same b h)) (held b h);
       }
     where
       same : (b : ℕ) → b < length (t .nodes) → copies (partitions t) (incidence t (layoutOf t S)) b ≡ copies (partitions t) S b
@@ -118,7 +118,7 @@ module _ (t : Topology) (ids : rising (idsOf (t .nodes)) ≡ true) where
           copies-cong (partitions t) (length (t .nodes)) (incidence t (layoutOf t S)) S
           (λ p k b h. incidence-layout S p b k h (w .rows p k .bits b h))
 
-      held : (b : ℕ) → b < length (t .nodes) → copies (partitions t) S b * s ≤ nodeAt t b .capacity
+      held : (b : ℕ) → b < length (t .nodes) → copies (partitions t) S b * s ≤ usable (nodeAt t b)
       held b h = takes-held (nodeAt t b) _ s .0 (takes-few (nodeAt t b) (copies (partitions t) S b) s l .1 (unfold capAt in omega (arith, w .caps b h)))
 
   -- The copies that a layout made of valid 0/1 rows sends, and the agreement of its rows with the former layout, are all its copies.

@@ -8,7 +8,7 @@ use lib.Dec.{eqb}
 use lib.ListN.{length, getD, replicate}
 use Rattle.sums.specs.TermsSums.{one-if, tab}
 use Rattle.cells.specs.ModelCells.{put}
-use Rattle.cluster.specs.Terms.{mostNodes, Topology, partitions, noNode, nodeAt, Layout, row, mem}
+use Rattle.cluster.specs.Terms.{mostNodes, Topology, partitions, noNode, nodeAt, Layout, row, mem, usable}
 use Rattle.cluster.specs.declared.Node.{Node}
 
 -- The first index below n of which a test holds; n where there is none.
@@ -22,7 +22,7 @@ zoneIndex t b = firstIndex (length (t .nodes)) (λ c. eqb (nodeAt t c .zone) (no
 
 -- The most copies that node b may hold at size s. The one place that knows of capacities.
 unfoldable pub capAt : Topology → ℕ → ℕ → ℕ
-capAt t s b = min (partitions t) (nodeAt t b .capacity / s)
+capAt t s b = min (partitions t) (usable (nodeAt t b) / s)
 
 -- A row of ids over node indices: 1 where it names node b, else 0.
 abbrev pub bitsOf : List Node → List ℕ → ℕ → ℕ

@@ -10,7 +10,7 @@ use lib.ListN.{length}
 use borrow.Author.Tests.{lt-ltb, le-ltb, ltb-false, eq-eqb, eqb-true}
 use Rattle.cluster.proofs.Taking.{takes-held}
 use Rattle.cluster.proofs.Accepting.{few-partitions}
-use Rattle.cluster.specs.Terms.{takes, bufferRows, Topology, partitions, nodeAt, idsOf, zonesOf, Layout, copiesIn, ValidRow, onlyIn, rowAt, idsIn, blank, formed}
+use Rattle.cluster.specs.Terms.{usable, takes, bufferRows, Topology, partitions, nodeAt, idsOf, zonesOf, Layout, copiesIn, ValidRow, onlyIn, rowAt, idsIn, blank, formed}
 use Rattle.cluster.specs.TermsReading.{Accepted}
 use Rattle.sums.proofs.Tests.{both}
 use Rattle.cluster.proofs.CellRows.{formed-rising}
@@ -79,8 +79,8 @@ pub row-other : (t : Topology) (cells : List ℕ) (p : ℕ) → partitions t ≤
 unfolding rowFault
 row-other t cells p h f = simp (le-ltb p (partitions t) h, f)
 
--- A node without fault holds no more than its capacity takes,
-pub node-held : (t : Topology) (L : Layout) (size b : ℕ) → nodeFault t L size b ≡ 0 → copiesIn L (nodeAt t b .id) * size ≤ nodeAt t b .capacity
+-- A node without fault holds no more than its usable capacity takes,
+pub node-held : (t : Topology) (L : Layout) (size b : ℕ) → nodeFault t L size b ≡ 0 → copiesIn L (nodeAt t b .id) * size ≤ usable (nodeAt t b)
 unfolding nodeFault
 node-held t L size b e = takes-held (nodeAt t b) (copiesIn L (nodeAt t b .id)) size .0 (go (takes (nodeAt t b) (copiesIn L (nodeAt t b .id)) size) e)
   where
@@ -89,7 +89,7 @@ node-held t L size b e = takes-held (nodeAt t b) (copiesIn L (nodeAt t b .id)) s
     go false h = absurd (omega arith)
 
 -- and the other way round.
-pub held-node : (t : Topology) (L : Layout) (size b : ℕ) → copiesIn L (nodeAt t b .id) * size ≤ nodeAt t b .capacity → nodeFault t L size b ≡ 0
+pub held-node : (t : Topology) (L : Layout) (size b : ℕ) → copiesIn L (nodeAt t b .id) * size ≤ usable (nodeAt t b) → nodeFault t L size b ≡ 0
 unfolding nodeFault
 held-node t L size b h = simp (takes-held (nodeAt t b) (copiesIn L (nodeAt t b .id)) size .1 h)
 

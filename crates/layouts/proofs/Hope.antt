@@ -9,7 +9,7 @@ use lib.Pow.{pow-pos}
 use Rattle.sums.specs.TermsSums.{sumTo}
 use Rattle.sums.proofs.Sum.{sum-cong, sum-le, sum-scale, sum-swap, sum-const}
 use Rattle.exchange.specs.ModelRow.{copies}
-use Rattle.cluster.specs.Terms.{Topology, partitions, nodeAt, Layout, row, copiesIn, ValidAt}
+use Rattle.cluster.specs.Terms.{Topology, partitions, nodeAt, Layout, row, copiesIn, usable, ValidAt}
 use Rattle.cluster.specs.TermsReading.{Accepted}
 use Rattle.incidence.specs.ModelIncidence.{incidence}
 use Rattle.incidence.proofs.TieLayouts.{copies-bits, valid-bits}
@@ -32,9 +32,9 @@ pub hope-bound : (t : Topology) (L : Layout) (s : ℕ) → Accepted t → ValidA
 unfolding hopeOf
 hope-bound t L s a v =
     le-div-iff-mul-le some .1
-    (subst (λ (k : ℕ). s * k ≤ sumTo n (λ b. nodeAt t b .capacity)) (all-copies t L s a v)
-    (subst (λ (k : ℕ). k ≤ sumTo n (λ b. nodeAt t b .capacity)) (sum-scale n s held)
-    (sum-le n (λ b. s * held b) (λ b. nodeAt t b .capacity) (λ b l. subst (λ (k : ℕ). k ≤ nodeAt t b .capacity) (mul-comm (held b) s) (v .capacities b l)))))
+    (subst (λ (k : ℕ). s * k ≤ sumTo n (λ b. usable (nodeAt t b))) (all-copies t L s a v)
+    (subst (λ (k : ℕ). k ≤ sumTo n (λ b. usable (nodeAt t b))) (sum-scale n s held)
+    (sum-le n (λ b. s * held b) (λ b. usable (nodeAt t b)) (λ b l. subst (λ (k : ℕ). k ≤ usable (nodeAt t b)) (mul-comm (held b) s) (v .capacities b l)))))
   where
     n : ℕ
     n = length (t .nodes)

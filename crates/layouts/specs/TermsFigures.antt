@@ -6,7 +6,7 @@ use lib.Dec.{ltb, eqb}
 use lib.ListN.{length, drop}
 use Rattle.sums.specs.TermsSums.{sumTo, one-if, tab}
 use mathlib.Core.Bool.{cond}
-use Rattle.cluster.specs.Terms.{mostNodes, Topology, topology, partitions, nodeAt, Layout, copiesIn, rowsIn}
+use Rattle.cluster.specs.Terms.{mostNodes, Topology, topology, partitions, nodeAt, Layout, copiesIn, usable, rowsIn}
 use Rattle.cluster.specs.TermsReading.{figureCells}
 use Rattle.cluster.specs.declared.Cluster.{Cluster}
 use Rattle.layouts.specs.declared.check.Checked.{Checked}
@@ -23,9 +23,9 @@ zoneCopies t L b =
     cond (ltb b (length (t .nodes)))
     (sumTo (length (t .nodes)) (λ x. one-if (eqb (nodeAt t x .zone) (nodeAt t b .zone)) * copiesIn L (nodeAt t x .id))) 0
 
--- "the size to hope for, total capacity over R times P, rounded down"
+-- "the size to hope for, total capacity over R times P, rounded down", by 2026-02 the total of the usable capacities
 unfoldable pub hopeOf : Topology → ℕ
-hopeOf t = sumTo (length (t .nodes)) (λ b. nodeAt t b .capacity) / (t .replication * partitions t)
+hopeOf t = sumTo (length (t .nodes)) (λ b. usable (nodeAt t b)) / (t .replication * partitions t)
 
 -- "Cells 0 to 31: copies held per box in id order; 32 to 63: copies in that box's zone; unused cells 0". Cells after the 64 are kept.
 abbrev pub figuresMade : Topology → Layout → List ℕ → List ℕ

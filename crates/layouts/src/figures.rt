@@ -4,7 +4,7 @@ ghost use Prim.Native.Nat.{ℕ, _≤_, _<_};
 ghost use lib.ListN.{length, getD};
 ghost use Rattle.sums.specs.TermsSums.{sumTo};
 ghost use Rattle.cells.specs.ModelCells.{put};
-ghost use Rattle.cluster.specs.Terms.{mostNodes, bufferRows, layoutCells, topology, partitions, nodeAt, rowsIn, faultOf};
+ghost use Rattle.cluster.specs.Terms.{mostNodes, bufferRows, layoutCells, topology, partitions, nodeAt, usable, rowsIn, faultOf};
 ghost use Rattle.cluster.specs.TermsReading.{figureCells};
 ghost use Rattle.layouts.specs.TermsCheck.{rowsFault};
 ghost use Rattle.layouts.specs.ModelScans.{zoneSum};
@@ -21,17 +21,18 @@ pub struct Figured {
     pub hope: u64,
 }
 
-// The capacity of all nodes in use.
-fn total_capacity(c: Cluster) -> u64
+// What of the disks of all nodes in use may be filled.
+fn total_usable(c: Cluster) -> u64
     requires { ⌜ faultOf c ≡ 0 ⌝ }
-    ensures { λ r. ⌜ r ≡ sumTo (length (topology c .nodes)) (λ b. nodeAt (topology c) b .capacity) ⌝ }
+    ensures { λ r. ⌜ r ≡ sumTo (length (topology c .nodes)) (λ b. usable (nodeAt (topology c) b)) ⌝ }
 {
     let n = c.count;
     let mut total = 0;
     let mut b = 0;
     while b < n {
         let node = c.nodes[b];
-        total += node.capacity as u64;
+        let usable = node.usable();
+        total += usable as u64;
         b += 1;
     }
     total
@@ -43,7 +44,7 @@ fn hope(c: Cluster) -> u64
     ensures { λ r. ⌜ r ≡ hopeOf (topology c) ⌝ }
 {
     let copies = (c.replication as u64) * (cluster::partitions(c.bits) as u64);
-    total_capacity(c) / copies
+    total_usable(c) / copies
 }
 
 // The copies in the zone of node b; 0 where slot b is not in use.

@@ -115,17 +115,37 @@ fn before_rows() {
     check_row(b"redundancy 4, ids of nodes fall", wide, 1, 2, 3, 1);
 }
 
-// Capacities: none at all, the largest, and a product of 2 to the 32.
-fn capacities() {
+// Check of one copy on the one node of a capacity, at a size and at the next.
+fn check_brim(name: &[u8], capacity: u32, size: u32) {
     let mut c = Cluster::none();
     c.count = 1;
-    let none = with_node(c, 0, 7, 0, 0);
-    check_row(b"capacity 0", none, 7, 0, 0, 1);
-    let full = with_node(c, 0, 7, 65535, 4294967295);
-    check_row(b"capacity 4294967295", full, 7, 0, 0, 4294967295);
-    let mut two = full;
-    two.bits = 1;
-    check_twice(b"twice 2147483647", two, 7, 2147483647);
+    let one = with_node(c, 0, 7, 65535, capacity);
+    check_row(name, one, 7, 0, 0, size);
+    if size < 4294967295 {
+        check_row(b"  and one more", one, 7, 0, 0, size + 1);
+    }
+}
+
+// Capacities about the first sixteenths, none at all, and the largest.
+fn capacities() {
+    check_brim(b"capacity 0 at 0", 0, 0);
+    check_brim(b"capacity 1 at 1", 1, 1);
+    check_brim(b"capacity 15 at 15", 15, 15);
+    check_brim(b"capacity 16 at 15", 16, 15);
+    check_brim(b"capacity 17 at 16", 17, 16);
+    check_brim(b"capacity 31 at 30", 31, 30);
+    check_brim(b"capacity 32 at 30", 32, 30);
+    check_brim(b"capacity 4294967295 at 4026531840", 4294967295, 4026531840);
+}
+
+// Two copies on the node of the largest capacity: at the brim, above it, and at a product of 2 to the 32.
+fn products() {
+    let mut c = Cluster::none();
+    c.count = 1;
+    c.bits = 1;
+    let two = with_node(c, 0, 7, 65535, 4294967295);
+    check_twice(b"twice 2013265920", two, 7, 2013265920);
+    check_twice(b"twice 2013265921", two, 7, 2013265921);
     check_twice(b"twice 2147483648", two, 7, 2147483648);
 }
 
@@ -161,7 +181,7 @@ fn figure(name: &[u8], c: Cluster, a: u32, b: u32, d: u32, again: usize, size: u
     some_figures(&cells);
 }
 
-// Example A, at its size and above it: bits 1, replication 3, redundancy 2, nodes 1/1/100 2/1/70 3/2/50.
+// Example A, at its size, above it, and at the size that its whole disks would take: bits 1, replication 3, redundancy 2, nodes 1/1/100 2/1/70 3/2/50.
 fn example_a() {
     let mut c = Cluster::none();
     c.bits = 1;
@@ -171,8 +191,9 @@ fn example_a() {
     let c1 = with_node(c, 0, 1, 1, 100);
     let c2 = with_node(c1, 1, 2, 1, 70);
     let a = with_node(c2, 2, 3, 2, 50);
+    figure(b"A at 23", a, 1, 2, 3, 8, 23);
+    figure(b"A at 24", a, 1, 2, 3, 8, 24);
     figure(b"A at 25", a, 1, 2, 3, 8, 25);
-    figure(b"A at 26", a, 1, 2, 3, 8, 26);
     let assignment = [0u32; Cluster::CELLS];
     let mut cells = [77u32; 63];
     let mut many = a;
@@ -181,8 +202,8 @@ fn example_a() {
     print::answer(b"short figures, count 33", r.refusal, r.place);
 }
 
-// 32 nodes of the largest capacity.
-fn large() {
+// Figures of 32 nodes of one capacity.
+fn alike(name: &[u8], capacity: u32) {
     let mut c = Cluster::none();
     c.count = Cluster::NODES;
     let mut b = 0;
@@ -190,11 +211,11 @@ fn large() {
         c.nodes[b] = Node {
             id: b as u32 + 1,
             zone: b as u16,
-            capacity: 4294967295,
+            capacity,
         };
         b += 1;
     }
-    figure(b"32 nodes of 4294967295", c, 3, 0, 0, 0, 1);
+    figure(name, c, 3, 0, 0, 0, 1);
 }
 
 // One row: its refusal, the number of its cells, and its third cell.
@@ -224,7 +245,9 @@ fn main() {
     order();
     before_rows();
     capacities();
+    products();
     example_a();
-    large();
+    alike(b"32 nodes of 15", 15);
+    alike(b"32 nodes of 4294967295", 4294967295);
     shown();
 }

@@ -13,7 +13,7 @@ use lib.Pow.{pow-pos}
 use Rattle.sums.specs.TermsSums.{sumTo}
 use Rattle.sums.proofs.Sum.{sum-zero}
 use Rattle.cluster.proofs.Accepting.{partitions-in-range}
-use Rattle.cluster.specs.Terms.{mostNodes, mostBits, Topology, partitions, nodeAt}
+use Rattle.cluster.specs.Terms.{mostNodes, mostBits, Topology, partitions, nodeAt, usable}
 use Rattle.cluster.specs.TermsReading.{Accepted}
 use Rattle.incidence.specs.ModelIncidence.{zoneIndex, capAt, cell, column, zoneCells}
 use Rattle.incidence.proofs.TieZones.{zone-below}
@@ -68,8 +68,8 @@ module _ (t : Topology) (few : nodesOf t ≤ mostNodes) where
         ∙ fits-agree (nodesOf t) (cell zones) (zoneIndex t) (zones-hold zones z) (partitions t) (t .replication) (t .redundancy) (cell caps)
         (capAt t s) (caps-hold caps k))
 
--- No layout has a size above all capacities.
-pub none-above : (t : Topology) (most s : ℕ) → Accepted t → ((b : ℕ) → b < nodesOf t → nodeAt t b .capacity ≤ most) → most < s
+-- No layout has a size above all usable capacities.
+pub none-above : (t : Topology) (most s : ℕ) → Accepted t → ((b : ℕ) → b < nodesOf t → usable (nodeAt t b) ≤ most) → most < s
     → false ≡ hasRoom (partitions t) (nodesOf t) (t .replication) (t .redundancy) (zoneIndex t) (capAt t s)
 unfolding hasRoom capAt
 none-above t most s a h l =
@@ -77,7 +77,7 @@ none-above t most s a h l =
     (lt-leb (t .replication * partitions t) (sumTo (nodesOf t) (capAt t s)) (omega (arith, none, some))))
   where
     none : sumTo (nodesOf t) (capAt t s) ≡ 0
-    none = sum-zero (nodesOf t) (capAt t s) (λ b k. omega (arith, div-eq-of-lt {n = nodeAt t b .capacity} {m = s} (omega (arith, h b k))))
+    none = sum-zero (nodesOf t) (capAt t s) (λ b k. omega (arith, div-eq-of-lt {n = usable (nodeAt t b)} {m = s} (omega (arith, h b k))))
 
     some : 1 ≤ t .replication * partitions t
     some = mul-pos (a .replication .0) (pow-pos (t .bits))

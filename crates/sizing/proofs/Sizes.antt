@@ -6,8 +6,9 @@ use native.Mathlib.Nat.{le-div-iff-mul-le, div-mul-le-self, mul-le-mul-left, div
 use native.Mathlib.Omega.{arith}
 use lib.Pow.{pow-pos}
 use Rattle.exchange.specs.ModelRow.{Within}
-use Rattle.cluster.specs.Terms.{Topology, partitions, nodeAt, Layout, ValidAt, IsSize}
+use Rattle.cluster.specs.Terms.{Topology, partitions, nodeAt, Layout, usable, ValidAt, IsSize}
 use Rattle.cluster.specs.TermsReading.{Accepted, Fits32}
+use Rattle.cluster.proofs.Taking.{usable-le}
 use Rattle.incidence.specs.ModelIncidence.{zoneIndex, capAt, incidence, layoutOf}
 use Rattle.incidence.proofs.TieZones.{zone-below}
 use Rattle.incidence.proofs.TieLayouts.{within-of-valid, valid-of-within}
@@ -27,11 +28,11 @@ pub caps-law : (t : Topology) → Caps (partitions t) (nodesOf t) (capAt t)
 caps-law t =
     record {
       most = λ s b a h. unfold capAt in omega arith;
-      fall = λ s s′ b a l h. unfold capAt in omega (arith, copies-fall (nodeAt t b .capacity) s s′ a l);
+      fall = λ s s′ b a l h. unfold capAt in omega (arith, copies-fall (usable (nodeAt t b)) s s′ a l);
     }
 
--- At a size above its capacity a node holds no copy.
-pub caps-none : (t : Topology) (s b : ℕ) → nodeAt t b .capacity < s → capAt t s b ≡ 0
+-- At a size above its usable capacity a node holds no copy.
+pub caps-none : (t : Topology) (s b : ℕ) → usable (nodeAt t b) < s → capAt t s b ≡ 0
 unfolding capAt
 caps-none t s b h = omega (arith, div-eq-of-lt h)
 
@@ -61,7 +62,7 @@ module _ (t : Topology) (a : Accepted t) where
   -- No layout is valid at a larger size.
   pub size-largest : Fits32 t → (L : Layout) (s : ℕ) → ValidAt t L s → s ≤ sizeOf t
   size-largest low L s v =
-      size-best .ofAll (a .replication .0) (λ b h. caps-none t (2 ^ sizeBits) b (low b h)) s (incidence t L) (v .positive)
+      size-best .ofAll (a .replication .0) (λ b h. caps-none t (2 ^ sizeBits) b (omega (arith, low b h, usable-le (nodeAt t b)))) s (incidence t L) (v .positive)
       (within-of-valid t (a .ids) L s v)
 
   -- Where it is not 0, it is the size of the cluster.

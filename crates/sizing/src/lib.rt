@@ -3,7 +3,7 @@
 ghost use mathlib.Core.Path.{_≡_};
 ghost use Prim.Native.Nat.{ℕ, _≤_, _<_};
 ghost use lib.ListN.{length};
-ghost use Rattle.cluster.specs.Terms.{topology, partitions, nodeAt, faultOf};
+ghost use Rattle.cluster.specs.Terms.{topology, partitions, nodeAt, usable, faultOf};
 ghost use Rattle.incidence.specs.ModelIncidence.{zoneIndex, capAt, zoneCells};
 ghost use Rattle.dealing.specs.ModelDeal.{hasRoom};
 ghost use Rattle.sizing.specs.ModelSizing.{mateCells, capsIn, sizeOf, sizeIn, dealtRows, dealtIn};
@@ -14,7 +14,7 @@ use shares::line;
 use tallies::nodes;
 use tallies::totals;
 
-// The bits of a size: it is at most a capacity, which is a u32.
+// The bits of a size: it is at most what may be filled of a disk, which is a u32.
 const SIZE_BITS: u32 = 32;
 
 // For each of the first n nodes, at most as many as a cluster has, the set of the nodes of its zone, then zeros.
@@ -43,31 +43,32 @@ pub fn caps(c: Cluster, size: u32) -> [u32; Cluster::NODES]
     let mut b = 0;
     while b < n {
         let node = c.nodes[b];
-        caps[b] = nodes::cap(node.capacity, most, size);
+        let usable = node.usable();
+        caps[b] = nodes::cap(usable, most, size);
         b += 1;
     }
     caps
 }
 
-// The largest capacity of the nodes in use.
+// The largest usable capacity of the nodes in use.
 fn greatest(c: Cluster) -> u32
-    ensures { λ r. ⌜ ((b : ℕ) → b < length (topology c .nodes) → nodeAt (topology c) b .capacity ≤ r) ⌝ }
+    ensures { λ r. ⌜ ((b : ℕ) → b < length (topology c .nodes) → usable (nodeAt (topology c) b) ≤ r) ⌝ }
 {
     let n = zones::used(c);
     let mut most = 0;
     let mut b = 0;
     while b < n {
         let node = c.nodes[b];
-        let capacity = node.capacity;
-        most = if most < capacity { capacity } else { most };
+        let usable = node.usable();
+        most = if most < usable { usable } else { most };
         b += 1;
     }
     most
 }
 
-// Whether the caps of a size have room for a layout; a size above `most`, the largest capacity, needs no caps.
+// Whether the caps of a size have room for a layout; a size above `most`, the largest usable capacity, needs no caps.
 fn passes(c: Cluster, zones: &[u32], most: u32, size: u32) -> bool
-    requires { ⌜ (faultOf c ≡ 0) × (now zones ≡ zoneCells (topology c)) × ((b : ℕ) → b < length (topology c .nodes) → nodeAt (topology c) b .capacity ≤ most) ⌝ }
+    requires { ⌜ (faultOf c ≡ 0) × (now zones ≡ zoneCells (topology c)) × ((b : ℕ) → b < length (topology c .nodes) → usable (nodeAt (topology c) b) ≤ most) ⌝ }
     ensures { λ r. ⌜ r ≡ hasRoom (partitions (topology c)) (length (topology c .nodes)) (c .replication) (c .redundancy) (zoneIndex (topology c))
         (capAt (topology c) size) ⌝ }
 {

@@ -1,8 +1,7 @@
 // What is read of the nodes in use.
 ghost use mathlib.Core.Path.{_≡_};
-ghost use Prim.Native.Nat.{_<_, _^_, _≤_, _/_, min};
+ghost use Prim.Native.Nat.{_≤_, _/_, min};
 ghost use lib.ListN.{length};
-ghost use Rattle.tallies.specs.ModelTallies.{sizeBits};
 ghost use Rattle.sums.specs.ModelSums.{is};
 ghost use Rattle.sets.specs.ModelBits.{maskOf};
 ghost use Rattle.cluster.specs.Terms.{mostNodes};
@@ -21,15 +20,14 @@ pub fn cut(n: usize) -> usize
     }
 }
 
-// The most copies that a node may hold at a size, none at the size 0; at most `most`. That the capacity is a number of 32 bits is known
-// here, and told with it.
-pub fn cap(capacity: u32, most: u32, size: u32) -> u32
-    ensures { λ r. ⌜ (r ≡ min most (capacity / size)) × (capacity < 2 ^ sizeBits) ⌝ }
+// The most copies that a node may hold at a size, none at the size 0; at most `most`.
+pub fn cap(usable: u32, most: u32, size: u32) -> u32
+    ensures { λ r. ⌜ r ≡ min most (usable / size) ⌝ }
 {
     if size == 0 {
         return 0;
     }
-    least(most, capacity / size)
+    least(most, usable / size)
 }
 
 // The set of the first n nodes whose zone is z.

@@ -5,7 +5,7 @@ use borrow.Author.Count.{below-more}
 use native.Mathlib.Omega.{arith}
 use Prim.Native.Nat.{ℕ, _/_, _-_, _^_, _≤_, _<_, min}
 use mathlib.Core.Path.{_≡_, sym, ap, ap₂, _∙_}
-use Rattle.cluster.specs.Terms.{mostNodes, topology, nodeAt}
+use Rattle.cluster.specs.Terms.{mostNodes, topology, nodeAt, usable}
 use Rattle.cluster.specs.declared.Node.{Node}
 use Rattle.cluster.proofs.Slots.{node-slot}
 use Rattle.incidence.specs.ModelIncidence.{capAt, column}
@@ -40,6 +40,9 @@ mul-node c = search needs
 element-copy-out-node : tie.Need-element-copy-out-node Inv-loop μ-loop
 element-copy-out-node c = search needs
 
+usable-requires : tie.Need-usable-requires Inv-loop μ-loop
+usable-requires c κs = search needs
+
 cap-requires : tie.Need-cap-requires Inv-loop μ-loop
 cap-requires c κs = search needs
 
@@ -58,7 +61,7 @@ loop-less c = search needs
 loop-again : tie.Need-loop-again Inv-loop μ-loop
 unfolding capAt
 loop-again c =
-    let k = c .before .before .before in
+    let k = c .before .before .before .before in
     let q = k .before in
     let a = q .before .before .args in
     let e = node-slot (a .t1) (k .loop .b) (omega arith) in (
@@ -66,8 +69,8 @@ loop-again c =
       search needs,
       search needs,
       column-next (capAt (cutBits (topology (a .t1))) (a .size)) (k .loop .caps) (k .loop .b) _ (k .loop .inv .3)
-          (c .cap .ensures .0 ∙ ap₂ (λ (m : ℕ) (n : Node). min m (n .capacity / a .size)) (q .partitions .ensures .0) (sym e)),
-      below-more _ _ (k .loop .inv .4) (omega (arith, c .cap .ensures .1, ap (λ (n : Node). n .capacity) e)),
+          (c .cap .ensures ∙ ap₂ (λ (m n : ℕ). min m (n / a .size)) (q .partitions .ensures .0) (c .before .usable .ensures .0 ∙ ap usable (sym e))),
+      below-more _ _ (k .loop .inv .4) (omega (arith, c .before .usable .ensures .1, ap (λ (n : Node). n .capacity) e)),
     )
 
 returns : tie.Need-returns Inv-loop μ-loop
@@ -89,6 +92,7 @@ caps-spec =
     loop-holds
     mul-node
     element-copy-out-node
+    usable-requires
     cap-requires
     mul-caps
     array-write-caps

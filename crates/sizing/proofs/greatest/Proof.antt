@@ -1,18 +1,17 @@
--- `sizing::greatest` meets its contract. The capacities passed are no larger. Assumes nothing.
+-- `sizing::greatest` meets its contract. The usable capacities passed are no larger. Assumes nothing.
 use borrow.Author.Needs.{needs}
 use borrow.Author.Count.{below-more}
 use native.Mathlib.Omega.{arith}
 use Prim.Native.Nat.{ℕ, _-_, _≤_, _<_}
-use mathlib.Core.Path.{ap}
+use mathlib.Core.Path.{sym, ap, _∙_}
 use mathlib.Core.Logic.{⊎-elim}
-use Rattle.cluster.specs.Terms.{mostNodes, topology, nodeAt}
-use Rattle.cluster.specs.declared.Node.{Node}
+use Rattle.cluster.specs.Terms.{mostNodes, topology, nodeAt, usable}
 use Rattle.cluster.proofs.Slots.{node-slot}
 use Rattle.sizing.proofs.greatest.Statement.{statement}
 use Rattle.sizing.proofs.greatest.Tie as tie
 
 abbrev Inv-loop : tie.InvT-loop
-Inv-loop c n most₀ b₀ most b = (b ≤ n) × (n ≤ mostNodes) × (n ≤ c .count) × ((i : ℕ) → i < b → nodeAt (topology c) i .capacity ≤ most)
+Inv-loop c n most₀ b₀ most b = (b ≤ n) × (n ≤ mostNodes) × (n ≤ c .count) × ((i : ℕ) → i < b → usable (nodeAt (topology c) i) ≤ most)
 
 abbrev μ-loop : tie.MeasureT-loop
 μ-loop c n most₀ b₀ most b = n - b
@@ -29,6 +28,9 @@ mul-node c = search needs
 element-copy-out-node : tie.Need-element-copy-out-node Inv-loop μ-loop
 element-copy-out-node c = search needs
 
+usable-requires : tie.Need-usable-requires Inv-loop μ-loop
+usable-requires c κs = search needs
+
 add-b : tie.Need-add-b Inv-loop μ-loop
 add-b c = search needs
 
@@ -37,10 +39,10 @@ loop-less c = search needs
 
 loop-again : tie.Need-loop-again Inv-loop μ-loop
 loop-again c =
-    let k = c .before .before .before in
+    let k = c .before .before .before .before in
     let a = k .before .before .args in
-    let e = ap (λ (n : Node). n .capacity) (node-slot (a .t1) (k .loop .b) (omega arith)) in
-    let grows : (k .loop .most ≤ c .if1 .most) × (nodeAt (topology (a .t1)) (k .loop .b) .capacity ≤ c .if1 .most) =
+    let e = ap usable (node-slot (a .t1) (k .loop .b) (omega arith)) ∙ sym (c .before .usable .ensures .0) in
+    let grows : (k .loop .most ≤ c .if1 .most) × (usable (nodeAt (topology (a .t1)) (k .loop .b)) ≤ c .if1 .most) =
     ⊎-elim (λ w. omega (arith, e, w .0 .taken, w .1)) (λ w. omega (arith, e, w .0 .left, w .1)) (c .if1 .came) in (
       search needs,
       search needs,
@@ -61,6 +63,7 @@ greatest-spec =
     loop-holds
     mul-node
     element-copy-out-node
+    usable-requires
     add-b
     loop-less
     loop-again

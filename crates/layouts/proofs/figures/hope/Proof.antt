@@ -27,8 +27,8 @@ mul-copies : tie.Need-mul-copies
 mul-copies c = let a = accepted (c .before .before .args .c) (c .before .before .pre) in
     omega (arith, mul-le-mul-right (c .partitions .result) (a .replication .1))
 
-total-capacity-requires : tie.Need-total-capacity-requires
-total-capacity-requires c κs = search needs
+total-usable-requires : tie.Need-total-usable-requires
+total-usable-requires c κs = search needs
 
 div-result : tie.Need-div-result
 div-result c = let s = c .before .before .before in
@@ -38,7 +38,7 @@ div-result c = let s = c .before .before .before in
 returns : tie.Need-returns
 unfolding hopeOf
 returns c = let a = c .before .before .before .args .c in
-    ap₂ (λ (n m : ℕ). n / (a .replication * m)) (c .total-capacity .ensures) (rows (c .before))
+    ap₂ (λ (n m : ℕ). n / (a .replication * m)) (c .total-usable .ensures) (rows (c .before))
 
 pub hope-spec : {M : Type 1} → statement M
 hope-spec =
@@ -47,6 +47,6 @@ hope-spec =
     cast-copies
     partitions-requires
     mul-copies
-    total-capacity-requires
+    total-usable-requires
     div-result
     returns)

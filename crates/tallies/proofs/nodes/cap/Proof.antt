@@ -11,7 +11,7 @@ use Rattle.tallies.proofs.nodes.cap.Tie as tie
 returns : tie.Need-returns
 returns c =
     let a = c .before .args in
-    (omega (arith, ap (λ (s : ℕ). a .capacity / s) (c .if1 .taken), div-zero (a .capacity)), search needs)
+    omega (arith, ap (λ (s : ℕ). a .usable / s) (c .if1 .taken), div-zero (a .usable))
 
 div-least : tie.Need-div-least
 div-least c = search needs

@@ -1,22 +1,21 @@
--- `layouts::figures::total_capacity` meets its contract. The loop's invariant: the capacities of the first b nodes are added up.
+-- `layouts::figures::total_usable` meets its contract. The loop's invariant: the usable capacities of the first b nodes are added up.
 -- Assumes nothing.
 use borrow.Author.Needs.{needs}
 use native.Mathlib.Omega.{arith}
 use Prim.Native.Nat.{_^_, ℕ, _≤_, _-_, _*_}
 use mathlib.Core.Path.{_≡_, refl, sym, ap, _∙_}
-use lib.ListN.{length, getD}
+use lib.ListN.{length}
 use Rattle.sums.proofs.Sum.{sum-next}
 use Rattle.sums.specs.TermsSums.{sumTo}
 use Rattle.cells.proofs.Cells.{length-of-map}
-use Rattle.cluster.specs.Terms.{mostNodes, topology, noNode, nodeAt}
-use Rattle.cluster.specs.declared.Node.{Node}
+use Rattle.cluster.specs.Terms.{mostNodes, topology, nodeAt, usable}
 use Rattle.cluster.proofs.Slots.{node-slot}
 use Rattle.cluster.proofs.Accepting.{few-nodes, nodes-count}
-use Rattle.layouts.proofs.figures.total_capacity.Statement.{statement}
-use Rattle.layouts.proofs.figures.total_capacity.Tie as tie
+use Rattle.layouts.proofs.figures.total_usable.Statement.{statement}
+use Rattle.layouts.proofs.figures.total_usable.Tie as tie
 
 abbrev Inv-loop : tie.InvT-loop
-Inv-loop c n total₀ b₀ total b = (b ≤ n) × (n ≤ mostNodes) × (total ≤ 2 ^ 32 * b) × (total ≡ sumTo b (λ i. nodeAt (topology c) i .capacity))
+Inv-loop c n total₀ b₀ total b = (b ≤ n) × (n ≤ mostNodes) × (total ≤ 2 ^ 32 * b) × (total ≡ sumTo b (λ i. usable (nodeAt (topology c) i)))
 
 abbrev μ-loop : tie.MeasureT-loop
 μ-loop c n total₀ b₀ total b = n - b
@@ -33,6 +32,9 @@ mul-node c = search needs
 
 element-copy-out-node : tie.Need-element-copy-out-node Inv-loop μ-loop
 element-copy-out-node c = search needs
+
+usable-requires : tie.Need-usable-requires Inv-loop μ-loop
+usable-requires c κs = search needs
 
 cast-total : tie.Need-cast-total Inv-loop μ-loop
 cast-total c = search needs
@@ -52,18 +54,18 @@ loop-again c = let k = c .before .before .before in
       search needs,
       search needs,
       search needs,
-      sum-next (λ i. nodeAt (topology a) i .capacity) (k .loop .b) (k .loop .total) (getD (a .nodes) (k .loop .b) noNode .capacity) (k .loop .inv .3)
-          (sym (ap (λ (n : Node). n .capacity) (node-slot a (k .loop .b) (search needs)))),
+      sum-next (λ i. usable (nodeAt (topology a) i)) (k .loop .b) (k .loop .total) (c .usable .result) (k .loop .inv .3)
+          (c .usable .ensures .0 ∙ sym (ap usable (node-slot a (k .loop .b) (search needs)))),
     )
 
 returns : tie.Need-returns Inv-loop μ-loop
 returns c = let k = c .before in
     let a = k .before .args .t1 in
     let e : k .loop .b ≡ length (topology a .nodes) = omega (arith, nodes-count a (long (k .before)) (omega arith)) in
-    k .loop .inv .3 ∙ ap (λ (n : ℕ). sumTo n (λ i. nodeAt (topology a) i .capacity)) e
+    k .loop .inv .3 ∙ ap (λ (n : ℕ). sumTo n (λ i. usable (nodeAt (topology a) i))) e
 
-pub total-capacity-spec : {M : Type 1} → statement M
-total-capacity-spec =
+pub total-usable-spec : {M : Type 1} → statement M
+total-usable-spec =
     tie.close
     (tie.spec
     Inv-loop
@@ -71,6 +73,7 @@ total-capacity-spec =
     loop-holds
     mul-node
     element-copy-out-node
+    usable-requires
     cast-total
     add-total
     add-b
