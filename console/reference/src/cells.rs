@@ -2,7 +2,7 @@
 //! writing.
 
 use crate::records::Numbers;
-use crate::{Cluster, Layout};
+use crate::{Cluster, Layout, Node};
 
 /// Eight cells to a partition, 256 partitions.
 pub const CELLS: usize = 2048;
@@ -53,8 +53,8 @@ pub fn check(c: &Cluster, cells: &[u32], size: u32) -> (u32, u32) {
             _ => return (10, p as u32),
         }
     }
-    let over = |id: u32, capacity: u32| copies(cells, id) * size as u64 > capacity as u64;
-    match c.nodes.iter().find(|n| over(n.id, n.capacity)) {
+    let is_over = |n: &&Node| copies(cells, n.id) * size as u64 > n.usable() as u64;
+    match c.nodes.iter().find(is_over) {
         Some(node) => (12, node.id),
         None => (0, 0),
     }
@@ -75,9 +75,9 @@ pub fn figures(c: &Cluster, cells: &[u32]) -> Vec<u32> {
     figures
 }
 
-/// The size to hope for: total capacity over replication times partitions, rounded down.
+/// The size to hope for: usable capacities together over replication times partitions, rounded down.
 pub fn hope(c: &Cluster) -> u64 {
-    let total: u64 = c.nodes.iter().map(|n| n.capacity as u64).sum();
+    let total: u64 = c.nodes.iter().map(|n| n.usable() as u64).sum();
     total / (c.replication * c.partitions()) as u64
 }
 

@@ -8,7 +8,7 @@ use crate::Cluster;
 pub fn caps_at(c: &Cluster, size: u32) -> [u32; NODES] {
     let mut caps = [0; NODES];
     for (cap, node) in caps.iter_mut().zip(&c.nodes) {
-        *cap = (node.capacity / size).min(c.partitions() as u32);
+        *cap = (node.usable() / size).min(c.partitions() as u32);
     }
     caps
 }
@@ -39,7 +39,7 @@ fn fits(c: &Cluster, zone: &[usize; NODES], size: u32) -> bool {
 /// The largest size that fits, bit by bit; 0 where none does. None fits above what all disks
 /// together would allow.
 pub fn size(c: &Cluster, zone: &[usize; NODES]) -> u32 {
-    let total: u64 = c.nodes.iter().map(|n| u64::from(n.capacity)).sum();
+    let total: u64 = c.nodes.iter().map(|n| u64::from(n.usable())).sum();
     let hope = total / (c.replication * c.partitions()) as u64;
     (0..32).rev().fold(0u32, |s, i| {
         let larger = s | 1 << i;

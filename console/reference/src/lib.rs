@@ -18,6 +18,19 @@ pub struct Node {
     pub capacity: u32,
 }
 
+impl Node {
+    /// The megabytes that copies may take: the capacity less a sixteenth of it, rounded down.
+    pub fn usable(&self) -> u32 {
+        self.capacity - self.capacity / 16
+    }
+}
+
+/// The least capacity of which so many megabytes are usable: beside each fifteen of them one stays
+/// free, as soon as there is one more.
+pub fn capacity_for(usable: u32) -> u32 {
+    usable + usable.saturating_sub(1) / 15
+}
+
 /// A cluster as the papers define it; the nodes stand by rising id.
 #[derive(Clone, Debug, PartialEq, Eq)]
 pub struct Cluster {
@@ -85,6 +98,49 @@ pub fn is_valid(c: &Cluster, layout: &Layout, size: u64) -> bool {
         }
     }
     c.nodes.iter().all(|n| {
-        layout.iter().filter(|r| r.contains(&n.id)).count() as u64 * size <= n.capacity as u64
+        layout.iter().filter(|r| r.contains(&n.id)).count() as u64 * size <= n.usable() as u64
     })
+}
+
+#[cfg(test)]
+mod tests {
+    use super::*;
+
+    fn usable(capacity: u32) -> u32 {
+        Node {
+            id: 1,
+            zone: 0,
+            capacity,
+        }
+        .usable()
+    }
+
+    /// Worked out by hand: below 16 nothing stays free, and from each multiple of 16 on one more.
+    #[test]
+    fn a_sixteenth_stays_free() {
+        let known = [
+            (0, 0),
+            (1, 1),
+            (15, 15),
+            (16, 15),
+            (17, 16),
+            (31, 30),
+            (32, 30),
+            (100, 94),
+            (u32::MAX, 4_026_531_840),
+        ];
+        for (capacity, expected) in known {
+            assert_eq!(usable(capacity), expected, "{capacity}");
+        }
+    }
+
+    #[test]
+    fn no_smaller_capacity_has_as_much_that_is_usable() {
+        let most = usable(u32::MAX);
+        for wanted in (0..100_000).chain(most - 100_000..=most) {
+            let capacity = capacity_for(wanted);
+            assert_eq!(usable(capacity), wanted);
+            assert!(capacity == 0 || usable(capacity - 1) < wanted, "{wanted}");
+        }
+    }
 }

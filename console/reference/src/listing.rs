@@ -41,8 +41,8 @@ fn each(rows: usize, partitions: usize, f: &mut impl FnMut(&[usize])) {
     }
 }
 
-/// The largest size of one layout: the least of capacity over copies, rounded down, over nodes with
-/// copies.
+/// The largest size of one layout: the least of usable capacity over copies, rounded down, over nodes
+/// with copies.
 fn size_of(c: &Cluster, rows: &[Vec<usize>], choice: &[usize]) -> u64 {
     let mut copies = vec![0u64; c.nodes.len()];
     for &r in choice {
@@ -52,7 +52,7 @@ fn size_of(c: &Cluster, rows: &[Vec<usize>], choice: &[usize]) -> u64 {
     }
     (0..c.nodes.len())
         .filter(|&b| copies[b] > 0)
-        .map(|b| c.nodes[b].capacity as u64 / copies[b])
+        .map(|b| c.nodes[b].usable() as u64 / copies[b])
         .min()
         .unwrap_or(0)
 }

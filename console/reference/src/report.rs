@@ -1,7 +1,7 @@
-//! The report's own method (document 000): the size by dichotomy over maximal flows, a candidate
-//! that starts from the former associations, then negative cycles by Bellman and Ford until there
-//! is none. Unverified. The rounds of the search are cut at 4N + 1 only where a caller asks for it,
-//! to show that the answer is then wrong.
+//! The report's own method (document 000), read with usable in place of capacity: the size by
+//! dichotomy over maximal flows, a candidate that starts from the former associations, then negative
+//! cycles by Bellman and Ford until there is none. Unverified. The rounds of the search are cut at
+//! 4N + 1 only where a caller asks for it, to show that the answer is then wrong.
 
 use crate::{Cluster, Layout};
 
@@ -238,7 +238,7 @@ impl Assigning<'_> {
             }
         }
         for (b, box_) in c.nodes.iter().enumerate() {
-            let most = (box_.capacity as u64 / size).min(p as u64);
+            let most = (box_.usable() as u64 / size).min(p as u64);
             net.arc(node + b, SINK, most as u32);
         }
         Assigning {
@@ -304,7 +304,7 @@ fn size(c: &Cluster) -> Option<u64> {
     if !fits(1) {
         return None;
     }
-    let total: u64 = c.nodes.iter().map(|b| b.capacity as u64).sum();
+    let total: u64 = c.nodes.iter().map(|b| b.usable() as u64).sum();
     let (mut low, mut high) = (1, 1 + total / c.replication as u64);
     while low + 1 < high {
         let middle = (low + high) / 2;

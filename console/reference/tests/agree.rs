@@ -6,7 +6,15 @@ use reference::exchanges::{self, Path};
 use reference::listing::{self, Listed};
 use reference::random::Random;
 use reference::records::cluster_record;
-use reference::{distance, is_valid, report, sent, Cluster, Layout, Node};
+use reference::{capacity_for, distance, is_valid, report, sent, Cluster, Layout, Node};
+
+/// A disk: a small one, or one at whose capacity what stays free changes.
+fn capacity(r: &mut Random) -> u32 {
+    match r.chance(50) {
+        true => r.between(0, 12) as u32,
+        false => (16 * r.between(1, 3) + r.below(3) - 1) as u32,
+    }
+}
 
 /// A small cluster and a former layout, with gone nodes, long former rows, capacities of 0 and too
 /// many zones wanted.
@@ -19,7 +27,7 @@ fn small(r: &mut Random) -> (Cluster, Layout) {
         .map(|b| Node {
             id: 3 * b as u32 + 1,
             zone: r.between(0, 3) as u16,
-            capacity: r.between(0, 12) as u32,
+            capacity: capacity(r),
         })
         .collect();
     let c = Cluster {
@@ -75,10 +83,20 @@ fn exchanges_agree(c: &Cluster, former: &Layout, listed: Option<&Listed>) {
     }
 }
 
+/// Whether the size would be another if disks were filled to the brim.
+fn loses_by_what_stays_free(c: &Cluster, size: u64) -> bool {
+    let mut c = c.clone();
+    for node in &mut c.nodes {
+        node.capacity = capacity_for(node.capacity);
+    }
+    let none = vec![Vec::new(); c.partitions()];
+    listing::list(&c, &none).is_some_and(|listed| listed.size > size)
+}
+
 #[test]
 fn all_agree_on_small_clusters() {
     let mut r = Random::new(7);
-    let mut tried = 0;
+    let (mut tried, mut losing) = (0, 0);
     while tried < 3000 {
         let (c, former) = small(&mut r);
         if listing::effort(&c) > 2000 {
@@ -88,11 +106,15 @@ fn all_agree_on_small_clusters() {
         let listed = listing::list(&c, &former);
         exchanges_agree(&c, &former, listed.as_ref());
         match (listed, report::plan(&c, &former)) {
-            (Some(listed), Some(flow)) => is_nearest(&c, &former, &listed, flow.size, &flow.layout),
+            (Some(listed), Some(flow)) => {
+                is_nearest(&c, &former, &listed, flow.size, &flow.layout);
+                losing += u64::from(loses_by_what_stays_free(&c, listed.size));
+            }
             (None, None) => {}
             _ => panic!("one of the two finds no layout: {c:?}"),
         }
     }
+    assert!(losing > 300, "too few of the sizes hang on what stays free");
 }
 
 /// From one former layout the distance is twice what is sent plus a difference that is the same for
