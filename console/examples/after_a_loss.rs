@@ -42,12 +42,12 @@ fn told() -> Result<String, Refused> {
     ))
 }
 
-/// Three disks of 100 MB take eight copies of 33 MB, three each, and six of 34 MB. Node 4 can take
-/// partitions 1 and 2, which need a copy, and nothing else has to move.
+/// Three disks of 100 MB, of which 94 may be filled, take three copies of 31 MB each, enough for eight,
+/// and two of 32 MB. Node 4 can take partitions 1 and 2, which need a copy, and nothing else has to move.
 #[test]
 fn it_runs() {
     let expected = "lost: [], one copy left: [1, 2]\n\
-                    size 33 MB, 2 copies to be sent, to node 4: 2\n\
+                    size 31 MB, 2 copies to be sent, to node 4: 2\n\
                     at one megabyte more there would be room for 6 of 8 copies\n";
     assert_eq!(told().unwrap(), expected);
 }

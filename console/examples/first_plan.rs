@@ -31,7 +31,7 @@ fn told() -> Result<String, Refused> {
 
 #[test]
 fn it_runs() {
-    let expected = "each partition may grow to 25 MB\n\
+    let expected = "each partition may grow to 23 MB\n\
                     partition 0 lies on nodes [1, 2, 3]\n\
                     partition 1 lies on nodes [1, 2, 3]\n";
     assert_eq!(told().unwrap(), expected);

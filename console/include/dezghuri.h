@@ -17,6 +17,9 @@
  *   - The functions keep no state, allocate nothing and take less than 64 KiB of stack; several threads may
  *     call them at once.
  *
+ * A sixteenth of each disk stays free: a node's usable capacity is its capacity less a sixteenth of it,
+ * rounded down (capacity - capacity / 16). Records and answers hold the capacity itself.
+ *
  * docs/FORMATS.md lays down the records and the meaning of each refusal.
  */
 #ifndef DEZGHURI_H
@@ -31,9 +34,9 @@ extern "C" {
 
 /* The version of this header and its library; the number grows from each version to the next. */
 #define DEZGHURI_VERSION_MAJOR 0
-#define DEZGHURI_VERSION_MINOR 2
+#define DEZGHURI_VERSION_MINOR 3
 #define DEZGHURI_VERSION_PATCH 0
-#define DEZGHURI_VERSION "0.2.0"
+#define DEZGHURI_VERSION "0.3.0"
 #define DEZGHURI_VERSION_NUMBER \
     (DEZGHURI_VERSION_MAJOR * 1000000 + DEZGHURI_VERSION_MINOR * 1000 + DEZGHURI_VERSION_PATCH)
 
@@ -77,7 +80,7 @@ extern "C" {
 #define DEZGHURI_NO_LAYOUT 9    /* no layout is valid at size 1 */
 #define DEZGHURI_ROW 10         /* a row that is not R rising ids of the cluster and zeros, or a non-zero row from P on */
 #define DEZGHURI_ZONES 11       /* a row in fewer than Z zones */
-#define DEZGHURI_CAPACITY 12    /* a node with more copies than its capacity takes at the size */
+#define DEZGHURI_CAPACITY 12    /* a node with more copies than its usable capacity takes at the size */
 
 /* Reads a cluster record.
  *
@@ -105,8 +108,9 @@ uint32_t dezghuri_read_layout(const uint8_t *record, size_t record_len,
  *
  * assignment, 2,048 cells: takes the layout; kept when refused.
  * scratch, 16,384 cells: zeroed on success and with 9; kept with any other refusal.
- * answer, 6 cells: 0, 1 the byte of a refused reading (high, low); 2 size; 3 sent, the copies to be sent:
- * pairs of node and partition in the layout and not in the former one; 4 verdict; 5 improvements.
+ * answer, 6 cells: 0, 1 the byte of a refused reading (high, low); 2 size, the most megabytes of a partition
+ * for which a layout fits the usable capacities; 3 sent, the copies to be sent: pairs of node and partition
+ * in the layout and not in the former one; 4 verdict; 5 improvements.
  * Refusals: 1 to 7 of the reading; then 8, assignment or scratch too short; then 9. */
 uint32_t dezghuri_plan(const uint8_t *record, size_t record_len,
                        uint16_t allowance,
@@ -114,7 +118,8 @@ uint32_t dezghuri_plan(const uint8_t *record, size_t record_len,
                        uint32_t *scratch, size_t scratch_len,
                        uint32_t *answer, size_t answer_len);
 
-/* Checks that the assignment is a layout of the record's cluster, valid at the size.
+/* Checks that the assignment is a layout of the record's cluster, valid at the size: so that the copies of a
+ * node, each of that size, fit its usable capacity.
  *
  * assignment, 2,048 cells.
  * answer, 3 cells: 0, 1 the byte of a refused reading (high, low); 2 the partition with 10 and 11, the node
@@ -131,7 +136,8 @@ uint32_t dezghuri_check(const uint8_t *record, size_t record_len,
  * figures, 64 cells: 0 to 31 copies held by each node in id order, 32 to 63 copies in that node's zone;
  * kept when refused.
  * answer, 5 cells: 0, 1 the byte of a refused reading (high, low); 2 the place, as dezghuri_check; 3, 4 the
- * size to hope for, total capacity over replication times partitions, rounded down (high, low).
+ * size to hope for, the sum of the usable capacities over replication times partitions, rounded down (high,
+ * low).
  * Refusals: as dezghuri_check, with 8 also for short figures. */
 uint32_t dezghuri_figures(const uint8_t *record, size_t record_len,
                           const uint32_t *assignment, size_t assignment_len,

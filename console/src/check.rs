@@ -12,7 +12,8 @@ pub struct Figures {
     pub copies: Vec<u32>,
     /// Copies held in the zone of each node, in the order of the nodes.
     pub zone_copies: Vec<u32>,
-    /// Total capacity over all copies, rounded down: the size to hope for.
+    /// The sum of the usable capacities ([`Node::usable`](crate::Node::usable)) over all copies,
+    /// rounded down: the size to hope for.
     pub hope: u64,
 }
 

@@ -11,7 +11,7 @@ pub struct Node {
     pub id: u32,
     /// Nodes of one zone, as a house, are lost together.
     pub zone: u16,
-    /// Disk space in megabytes.
+    /// Disk space in megabytes, of which copies may fill [`Node::usable`].
     pub capacity: u32,
 }
 
@@ -141,6 +141,19 @@ impl TryFrom<&[u8]> for Cluster {
 }
 
 impl Node {
+    /// The megabytes that copies may fill: the capacity less a sixteenth of it, rounded down, since
+    /// boxes filled to the brim slow down when they tidy up.
+    ///
+    /// ```
+    /// use dezghuri::Node;
+    ///
+    /// let usable = |capacity| Node { id: 1, zone: 1, capacity }.usable();
+    /// assert_eq!([15, 16, 100].map(usable), [15, 15, 94]);
+    /// ```
+    pub fn usable(&self) -> u32 {
+        self.capacity - self.capacity / 16
+    }
+
     fn field(&self) -> Vec<u8> {
         let id = self.id.to_be_bytes();
         let zone = self.zone.to_be_bytes();

@@ -5,7 +5,8 @@ use crate::cluster::{Cluster, Node};
 use crate::layout::Layout;
 use std::collections::BTreeMap;
 
-/// What the disks of a cluster can take at a size, counted in the two ways that matter.
+/// What the disks of a cluster can take at a size, a sixteenth of each kept free, counted in the
+/// two ways that matter.
 ///
 /// A layout valid at the size exists just when both counts are enough: that is a theorem, and the
 /// proved planner finds the size by it. The counting here is plain Rust.
@@ -46,7 +47,7 @@ impl Counts {
 #[derive(Clone, Copy, Debug, PartialEq, Eq, Hash)]
 #[non_exhaustive]
 pub enum Unused {
-    /// It has no room for one partition of the size.
+    /// What may be filled of its disk is smaller than one partition of the size.
     Small,
     /// Its zone holds every partition already, and none may lie there twice, since as many zones
     /// are wanted as copies.
@@ -62,7 +63,7 @@ impl Cluster {
     /// use dezghuri::{Cluster, Node};
     ///
     /// let node = |id, zone, capacity| Node { id, zone, capacity };
-    /// let nodes = vec![node(1, 1, 90), node(2, 2, 30), node(3, 2, 10)];
+    /// let nodes = vec![node(1, 1, 90), node(2, 2, 32), node(3, 2, 10)];
     /// let cluster = Cluster { replication: 2, redundancy: 2, nodes, ..Cluster::default() };
     /// let size = cluster.plan(dezghuri::ENOUGH)?.size;
     /// assert_eq!(size, 30);
@@ -127,9 +128,9 @@ impl Cluster {
     }
 }
 
-/// The most copies that a node can hold at a size: the one place that knows how disks are filled.
+/// The most copies that a node can hold at a size.
 fn most_copies(node: &Node, partitions: u64, size: u64) -> u64 {
-    let whole = u64::from(node.capacity).checked_div(size);
+    let whole = u64::from(node.usable()).checked_div(size);
     whole.map_or(partitions, |copies| copies.min(partitions))
 }
 
@@ -149,16 +150,16 @@ mod tests {
         }
     }
 
-    /// Example A of the paper, whose size is 25: at 26 MB its disks take 2 + 2 + 1 copies, and both
-    /// zones are touched in 2 + 1 ways.
+    /// Example A of the paper, whose size is 23: of 100, 70 and 50 MB 94, 66 and 47 may be filled.
+    /// At 24 MB the disks take 2 + 2 + 1 copies, and both zones are touched in 2 + 1 ways.
     #[test]
     fn copies_and_zones_are_counted() {
         let a = cluster([1, 3, 2], &[(1, 1, 100), (2, 1, 70), (3, 2, 50)]);
-        let fit = a.counts(25);
+        let fit = a.counts(23);
         assert_eq!((fit.room, fit.wanted), (6, 6));
         assert_eq!((fit.zone_room, fit.zone_wanted), (4, 4));
         assert!(!fit.lack_room() && !fit.lack_zones());
-        let more = a.counts(26);
+        let more = a.counts(24);
         assert_eq!((more.room, more.zone_room), (5, 3));
         assert!(more.lack_room() && more.lack_zones());
         assert_eq!(more.whole_nodes, [1, 2]);
@@ -170,23 +171,27 @@ mod tests {
         let full = cluster([8, 1, 1], &[(1, 1, u32::MAX)]);
         assert_eq!(full.counts(0).room, 256);
         assert_eq!(full.counts(1 << 32).room, 0);
+        // 15 / 16 of 2^32 is the most that may be filled.
+        assert_eq!(full.counts(15 << 28).room, 1);
+        assert_eq!(full.counts((15 << 28) + 1).room, 0);
         assert_eq!(Cluster::default().counts(1).room, 0);
     }
 
-    /// Box 2 is too small; box 4 stands in a zone that holds both partitions; box 5 is not needed.
+    /// Box 2 has 16 MB, of which 15 may be filled; box 4 stands in a zone that holds both partitions;
+    /// box 5 is not needed.
     #[test]
     fn unused_nodes_have_their_reason() {
-        let nodes = [(1, 1, 90), (2, 1, 9), (3, 2, 20), (4, 2, 10), (5, 3, 10)];
+        let nodes = [(1, 1, 90), (2, 1, 16), (3, 2, 34), (4, 2, 17), (5, 3, 17)];
         let layout: Layout = [(0, [1, 3]), (1, [1, 3])].into_iter().collect();
         let two_zones = cluster([1, 2, 2], &nodes);
         let reasons = |unused: [Unused; 3]| [2, 4, 5].into_iter().zip(unused).collect::<Vec<_>>();
         assert_eq!(
-            two_zones.unused(&layout, 10),
+            two_zones.unused(&layout, 16),
             reasons([Unused::Small, Unused::ZoneWhole, Unused::Spare])
         );
         let one_zone = cluster([1, 2, 1], &nodes);
         assert_eq!(
-            one_zone.unused(&layout, 10),
+            one_zone.unused(&layout, 16),
             reasons([Unused::Small, Unused::Spare, Unused::Spare])
         );
     }

@@ -3,8 +3,9 @@
 //! A [`Cluster`] has nodes (the boxes), each in a zone and with a capacity in megabytes; it wants
 //! every partition of its data kept as so many copies, on different nodes and in so many zones at
 //! least. [`Cluster::plan`] answers which nodes hold which partition: first the largest size of a
-//! partition that the disks allow, then, among all layouts of that size, one that lies nearest to
-//! the former layout: none needs fewer copies to be sent ([`Plan::sent`]).
+//! partition that the disks allow, a sixteenth of each kept free ([`Node::usable`]), then, among
+//! all layouts of that size, one that lies nearest to the former layout: none needs fewer copies to
+//! be sent ([`Plan::sent`]).
 //!
 //! Plans, checks, figures and records are the work of the C functions of `include/dezghuri.h`,
 //! whose contracts are proved; this library lends them their buffers and names their answers.
@@ -30,7 +31,7 @@
 //!     former: Layout::default(),
 //! };
 //! let plan = cluster.plan(dezghuri::ENOUGH)?;
-//! assert_eq!(plan.size, 25);
+//! assert_eq!(plan.size, 23); // two copies each in 94, 66 and 47 MB
 //! assert_eq!(plan.verdict, Verdict::Finished);
 //! assert_eq!(plan.layout.row(0), [1, 2, 3]);
 //! cluster.check(&plan.layout, plan.size)?;

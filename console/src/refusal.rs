@@ -30,7 +30,8 @@ pub enum Refusal {
     Row = 10,
     /// 11: a row lies in too few zones.
     Zones = 11,
-    /// 12: a node holds more copies than its capacity takes.
+    /// 12: a node holds more copies than its usable capacity takes
+    /// ([`Node::usable`](crate::Node::usable)).
     Capacity = 12,
 }
 
@@ -61,7 +62,7 @@ const MEANINGS: [(Refusal, &str); 12] = [
     (Refusal::Zones, "a row in fewer zones than wanted"),
     (
         Refusal::Capacity,
-        "a node with more copies than its capacity takes at the size",
+        "a node with more copies than its usable capacity takes at the size",
     ),
 ];
 

@@ -15,7 +15,8 @@ static int faults = 0;
         }                                                          \
     } while (0)
 
-/* Example A: k 1, R 3, Z 2; nodes 1/1/100, 2/1/70, 3/2/50; no former layout. */
+/* Example A: k 1, R 3, Z 2; nodes 1/1/100, 2/1/70, 3/2/50, of which 94, 66 and 47 may be filled; no former
+ * layout. */
 static const uint8_t CLUSTER[51] = {
     1, 0, 1, 1, 2, 0, 1, 3, 3, 0, 1, 2,
     4, 0, 10, 0, 0, 0, 1, 0, 1, 0, 0, 0, 100,
@@ -23,9 +24,9 @@ static const uint8_t CLUSTER[51] = {
     4, 0, 10, 0, 0, 0, 3, 0, 2, 0, 0, 0, 50,
 };
 
-/* Its layout record: size 25, 6 copies sent, finished, no improvements, rows 1 2 3 twice. */
+/* Its layout record: size 23, 6 copies sent, finished, no improvements, rows 1 2 3 twice. */
 static const uint8_t LAYOUT[63] = {
-    1, 0, 1, 1, 2, 0, 1, 3, 6, 0, 4, 0, 0, 0, 25, 7, 0, 2, 0, 6, 8, 0, 1, 1, 9, 0, 2, 0, 0,
+    1, 0, 1, 1, 2, 0, 1, 3, 6, 0, 4, 0, 0, 0, 23, 7, 0, 2, 0, 6, 8, 0, 1, 1, 9, 0, 2, 0, 0,
     10, 0, 14, 0, 0, 0, 0, 0, 1, 0, 0, 0, 2, 0, 0, 0, 3,
     10, 0, 14, 0, 1, 0, 0, 0, 1, 0, 0, 0, 2, 0, 0, 0, 3,
 };
@@ -106,7 +107,7 @@ static void reading_a_cluster(void) {
 }
 
 static void planning(void) {
-    static const uint32_t numbers[6] = {0, 0, 25, 6, DEZGHURI_FINISHED, 0};
+    static const uint32_t numbers[6] = {0, 0, 23, 6, DEZGHURI_FINISHED, 0};
     static const uint32_t rows[16] = {1, 2, 3, 0, 0, 0, 0, 0, 1, 2, 3, 0, 0, 0, 0, 0};
     EXPECT(plan(CLUSTER, DEZGHURI_ENOUGH_ALLOWANCE) == DEZGHURI_OK);
     EXPECT(holds(answer, numbers, 6) && answer[6] == PATTERN);
@@ -128,7 +129,7 @@ static void planning(void) {
 
 /* Leaves the rows of example A in `cells`. */
 static void reading_a_layout(void) {
-    static const uint32_t numbers[8] = {0, 0, 1, 3, 25, 6, DEZGHURI_FINISHED, 0};
+    static const uint32_t numbers[8] = {0, 0, 1, 3, 23, 6, DEZGHURI_FINISHED, 0};
     static const uint32_t rows[16] = {1, 2, 3, 0, 0, 0, 0, 0, 1, 2, 3, 0, 0, 0, 0, 0};
     fill(cells, CELLS + 1);
     EXPECT(dezghuri_read_layout(LAYOUT, 46, cells, CELLS, answer, 8) == DEZGHURI_MISSING);
@@ -142,16 +143,17 @@ static void reading_a_layout(void) {
 static void a_layout_in_hand(void) {
     static const uint32_t copies[3] = {2, 2, 2}, in_zones[3] = {4, 4, 2};
     static const uint32_t shown[DEZGHURI_ROW_CELLS] = {1, 2, 3, 0, 0, 0, 0, 0};
-    EXPECT(check(25) == DEZGHURI_OK && all(answer, 0, 3, 0));
-    EXPECT(check(26) == DEZGHURI_CAPACITY && answer[2] == 3);
+    EXPECT(check(23) == DEZGHURI_OK && all(answer, 0, 3, 0));
+    EXPECT(check(24) == DEZGHURI_CAPACITY && answer[2] == 3);
+    EXPECT(check(25) == DEZGHURI_CAPACITY && answer[2] == 3); /* it fills the disk to the brim */
     EXPECT(check(0) == DEZGHURI_RANGE && all(answer, 0, 3, 0));
 
-    EXPECT(count(25, FIGURES + 1) == DEZGHURI_OK);
+    EXPECT(count(23, FIGURES + 1) == DEZGHURI_OK);
     EXPECT(holds(figures, copies, 3) && all(figures, 3, 32, 0));
     EXPECT(holds(figures + 32, in_zones, 3) && all(figures, 35, 64, 0));
     EXPECT(figures[FIGURES] == PATTERN);
-    EXPECT(answer[3] == 0 && answer[4] == 220 / 6);
-    EXPECT(count(25, FIGURES - 1) == DEZGHURI_SHORT && all(figures, 0, FIGURES + 1, PATTERN));
+    EXPECT(answer[3] == 0 && answer[4] == (94 + 66 + 47) / 6);
+    EXPECT(count(23, FIGURES - 1) == DEZGHURI_SHORT && all(figures, 0, FIGURES + 1, PATTERN));
 
     uint32_t row[DEZGHURI_ROW_CELLS];
     fill(row, DEZGHURI_ROW_CELLS);
@@ -164,11 +166,11 @@ static void a_layout_in_hand(void) {
 
 static void writing(void) {
     uint8_t out[64];
-    EXPECT(write(3, 25, 6, out, 64) == DEZGHURI_OK);
+    EXPECT(write(3, 23, 6, out, 64) == DEZGHURI_OK);
     EXPECT(answer[0] == 0 && answer[1] == 63 && answer[2] == PATTERN);
     EXPECT(memcmp(out, LAYOUT, 63) == 0 && out[63] == 0x5A);
-    EXPECT(write(3, 25, 6, out, 62) == DEZGHURI_SHORT && out[0] == 0x5A);
-    EXPECT(write(2, 25, 6, out, 64) == DEZGHURI_ROW && out[0] == 0x5A);
+    EXPECT(write(3, 23, 6, out, 62) == DEZGHURI_SHORT && out[0] == 0x5A);
+    EXPECT(write(2, 23, 6, out, 64) == DEZGHURI_ROW && out[0] == 0x5A);
     EXPECT(write(3, 0, 6, out, 64) == DEZGHURI_RANGE && out[0] == 0x5A);
     EXPECT(answer[0] == 0 && answer[1] == 0);
 }
@@ -176,8 +178,8 @@ static void writing(void) {
 /* No layout has more than 2,048 copies. Field 7 begins at byte 15. */
 static void most_copies_sent(void) {
     uint8_t out[64];
-    EXPECT(write(3, 25, 2049, out, 64) == DEZGHURI_RANGE && out[0] == 0x5A);
-    EXPECT(write(3, 25, 2048, out, 64) == DEZGHURI_OK);
+    EXPECT(write(3, 23, 2049, out, 64) == DEZGHURI_RANGE && out[0] == 0x5A);
+    EXPECT(write(3, 23, 2048, out, 64) == DEZGHURI_OK);
     EXPECT(out[15] == 7 && out[18] == 8 && out[19] == 0);
     EXPECT(dezghuri_read_layout(out, 63, cells, CELLS, answer, 8) == DEZGHURI_OK);
     EXPECT(answer[5] == 2048);

@@ -34,7 +34,7 @@ fn a_layout_is_compared_with_itself() {
 }
 
 /// The copies of each box before and after are those of the two plans, and a nearest plan sends no
-/// more than box 6 must get; 192 * 20,833 MB are 3,999 GB, 154 * 19,480 MB are 2,999 GB.
+/// more than box 6 must get; 192 * 19,531 MB are 3,749 GB, 154 * 18,262 MB are 2,812 GB.
 #[test]
 fn the_sample_is_compared_with_its_next_layout() {
     let folder = planned_home("compared-home");

@@ -17,7 +17,7 @@ mod told;
 mod tried;
 mod why;
 
-use folder::Folder;
+use folder::{layout_record, Folder};
 
 /// The sample of the README, and the same cluster after box 5 was replaced.
 const HOME: &str = include_str!("../../../samples/home.txt");
@@ -37,8 +37,9 @@ fn planned_home(name: &str) -> Folder {
     folder
 }
 
-/// At 19,480 MB the disks take 205 + 102 + 205 + 102 + 154 = 768 copies, all that there are; at
-/// 19,481 MB box 5 takes one less. So size and copies can be no others.
+/// Of 4, 2 and 3 TB 3,750, 1,875 and 2,812.5 GB may be filled. At 18,262 MB they take 205 + 102 + 205 +
+/// 102 + 154 = 768 copies, all that there are; at 18,263 MB box 5 takes one less. So size and copies
+/// can be no others.
 #[test]
 fn the_first_plan_of_the_sample() {
     let folder = Folder::new("first");
@@ -50,8 +51,9 @@ fn the_first_plan_of_the_sample() {
     assert_eq!(folder.read("last").len(), 29 + 256 * (5 + 4 * 3));
 }
 
-/// At 20,833 MB the disks take 192 + 96 + 192 + 96 + 192 = 768 copies. All 192 of box 6 are new to
-/// it, and the others hold more than they may, so no plan sends fewer than 192.
+/// At 19,531 MB the disks take 192 + 96 + 192 + 96 + 192 = 768 copies, 3,749,952 of 3,750,000 MB at
+/// boxes 1, 3 and 6. All 192 of box 6 are new to it, and the others hold more than they may, so no plan
+/// sends fewer than 192.
 #[test]
 fn a_plan_after_a_box_was_replaced() {
     let folder = planned_home("next");
@@ -120,15 +122,15 @@ fn a_layout_is_checked() {
         checked("same.txt", HOME),
         (
             0,
-            "last is valid for same.txt, each partition up to 19,480 MB.\n".into()
+            "last is valid for same.txt, each partition up to 18,262 MB.\n".into()
         )
     );
     assert_eq!(
         checked("smaller.txt", &edited("archive   3T", "archive   2T")),
         (
             1,
-            "not valid: box 5 is to hold 154 copies of 19,480 MB, 2,999,920 MB together, and has \
-             2,000,000 MB (refused 12)\n"
+            "not valid: box 5 is to hold 154 copies of 18,262 MB, 2,812,348 MB together, and may hold \
+             1,875,000 MB of its 2,000,000 MB, since a sixteenth stays free (refused 12)\n"
                 .into()
         )
     );
@@ -153,6 +155,37 @@ fn a_layout_is_checked() {
         told.ends_with(" lies on box 5, which is not there (refused 10)\n"),
         "{told}"
     );
+}
+
+/// At 25 MB, the size of example A when disks were filled to the brim, box 3 takes all of its 50 MB.
+/// What refuses it says what to do, and that leads to a valid layout without a transfer.
+#[test]
+fn a_layout_from_before_a_sixteenth_was_free_is_planned_again() {
+    let folder = Folder::new("brim");
+    folder.write("home.txt", THREE);
+    folder.write("last", layout_record(1, 25, &[&[1, 2, 3], &[1, 2, 3]]));
+    let why =
+        "box 3 is to hold 2 copies of 25 MB, 50 MB together, and may hold 47 MB of its 50 MB, \
+               since a sixteenth stays free: plan again, with this layout as --former (refused 12)";
+    let done = folder.call("check home.txt last");
+    assert_eq!((done.status, done.err), (1, format!("not valid: {why}\n")));
+    let shown = folder.call("show home.txt last");
+    let heading = format!("Not valid for home.txt as it is now: {why}.\n");
+    assert!(shown.out.contains(&heading), "{}", shown.out);
+    let page = folder.call("report home.txt last --out page.html");
+    let told = format!("last is not valid for home.txt as it is now: {why}.\n");
+    assert_eq!(page.status, 1);
+    assert!(page.out.starts_with(&told), "{}", page.out);
+
+    let done = folder.call("plan home.txt --former last --out last");
+    assert_eq!((done.status, done.err.as_str()), (0, ""));
+    for told in [
+        "Size: each partition may grow to 23 MB",
+        "Transfers: 0 copies are to be sent, 0 copies are to be dropped.\n",
+    ] {
+        assert!(done.out.contains(told), "{}", done.out);
+    }
+    assert_eq!(folder.call("check home.txt last").status, 0);
 }
 
 #[test]
@@ -231,10 +264,12 @@ fn no_layout_is_told_with_its_reason_and_nothing_is_written() {
         "3 copies need 3 boxes with disk space, and 2 have any",
     );
     let small = THREE.replace("box 3 home 50", "box 3 home 1");
-    refused(
-        &small,
-        "the disks are too small for 2 partitions of a megabyte each",
-    );
+    let why = "the disks, a sixteenth of each kept free, are too small for 2 partitions of a \
+               megabyte each";
+    refused(&small, why);
+    let none_free = "copies 1\nzones 1\nbits 4\nbox 1 home 15\n";
+    let why = "the disks are too small for 16 partitions of a megabyte each";
+    refused(none_free, why);
 }
 
 #[test]
@@ -391,6 +426,6 @@ fn help_and_version_are_printed() {
     for line in ["--version", "-V", "version"] {
         let version = folder.call(line);
         assert_eq!((version.status, version.err.as_str()), (0, ""), "{line}");
-        assert_eq!(version.out, "dezghuri 0.2.0\n", "{line}");
+        assert_eq!(version.out, "dezghuri 0.3.0\n", "{line}");
     }
 }

@@ -17,17 +17,17 @@ pub const CHANGES: [&str; 8] = [
     "--add",
     "attic 8",
     "--add",
-    "home 16 big",
+    "home 17 big",
     "--remove",
     "2",
     "--resize",
-    "1=16",
+    "1=17",
 ];
 
 /// With a third box of 8 MB the disks take three copies of 5 MB, and four are wanted: nothing is
-/// gained. One of 16 MB takes two copies of 8 MB and leaves one to each of the others: two are sent.
-/// Without box 2 box 1 takes all four, two of which were on box 2 alone. With 16 MB box 1 takes three
-/// of 5 MB. All together the disks take 1 + 2 + 2 copies of 8 MB, and at 9 MB only 0 + 1 + 1; box 1
+/// gained. One of 17 MB, of which 16 may be filled, takes two copies of 8 MB and leaves one to each of
+/// the others: two are sent. Without box 2 box 1 takes all four, two of which were on box 2 alone. With
+/// 17 MB box 1 takes three of 5 MB. All together the disks take 1 + 2 + 2 copies of 8 MB, and at 9 MB only 0 + 1 + 1; box 1
 /// keeps its two, and the two of box 2 are sent.
 #[test]
 fn each_change_is_tried_alone_and_all_together() {
@@ -42,7 +42,7 @@ fn each_change_is_tried_alone_and_all_together() {
 /// Without a former layout there is nothing to send.
 #[test]
 fn one_change_is_tried_without_a_layout() {
-    let done = two_boxes("tried-first").call("what-if home.txt --resize 1=16");
+    let done = two_boxes("tried-first").call("what-if home.txt --resize 1=17");
     assert_eq!((done.status, done.err.as_str()), (0, ""));
     assert_eq!(done.out, include_str!("what-if-first.txt"));
 }

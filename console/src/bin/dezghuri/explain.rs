@@ -1,7 +1,7 @@
 //! Refusals in the words of the owner.
 
 use crate::units::{count, thousands};
-use dezghuri::{Description, Place, Plan, Refusal, Refused};
+use dezghuri::{Description, Node, Place, Plan, Refusal, Refused};
 use std::collections::BTreeSet;
 
 /// Why the cluster has no plan.
@@ -10,17 +10,17 @@ pub fn no_plan(described: &Description, refused: Refused) -> String {
         return refused.to_string();
     }
     let cluster = &described.cluster;
-    let usable: Vec<_> = cluster.nodes.iter().filter(|n| n.capacity > 0).collect();
-    let zones: BTreeSet<u16> = usable.iter().map(|node| node.zone).collect();
+    let with_space: Vec<_> = cluster.nodes.iter().filter(|n| n.capacity > 0).collect();
+    let zones: BTreeSet<u16> = with_space.iter().map(|node| node.zone).collect();
     let (copies, wanted) = (cluster.replication.into(), cluster.redundancy.into());
-    let why = if usable.len() < copies {
+    let why = if with_space.len() < copies {
         format!(
             "{} with disk space, and {}",
             match copies {
                 1 => "1 copy needs 1 box".into(),
                 _ => format!("{copies} copies need {copies} boxes"),
             },
-            count(usable.len() as u64, "has any", "have any")
+            count(with_space.len() as u64, "has any", "have any")
         )
     } else if zones.len() < wanted {
         format!(
@@ -28,12 +28,21 @@ pub fn no_plan(described: &Description, refused: Refused) -> String {
             zones.len()
         )
     } else {
+        let free = match cluster.nodes.iter().any(keeps_free) {
+            true => ", a sixteenth of each kept free,",
+            false => "",
+        };
         format!(
-            "the disks are too small for {} of a megabyte each",
+            "the disks{free} are too small for {} of a megabyte each",
             count(1 << cluster.bits, "partition", "partitions")
         )
     };
     format!("there is no layout: {why} (refused 9)")
+}
+
+/// Whether a part of its disk stays free: none does of one under 16 MB.
+fn keeps_free(node: &Node) -> bool {
+    node.usable() < node.capacity
 }
 
 /// Why the plan's layout is not valid for the cluster.
@@ -86,22 +95,30 @@ fn too_few_zones(described: &Description, plan: &Plan, partition: u32) -> String
 }
 
 fn too_full(described: &Description, plan: &Plan, id: u32) -> String {
-    let copies = plan
-        .layout
-        .rows()
-        .filter(|(_, ids)| ids.contains(&id))
-        .count() as u64;
-    let nodes = &described.cluster.nodes;
-    let capacity = nodes
-        .iter()
-        .find(|node| node.id == id)
-        .map_or(0, |node| node.capacity);
+    let mut nodes = described.cluster.nodes.iter();
+    let node = nodes.find(|node| node.id == id);
+    let node = node.expect("check names a node of the cluster");
+    let rows = plan.layout.rows();
+    let copies = rows.filter(|(_, ids)| ids.contains(&id)).count() as u64;
+    let together = copies * u64::from(plan.size);
+    let capacity = thousands(node.capacity.into());
+    let room = match keeps_free(node) {
+        true => format!(
+            "may hold {} MB of its {capacity} MB, since a sixteenth stays free",
+            thousands(node.usable().into())
+        ),
+        false => format!("has {capacity} MB"),
+    };
+    // It fits the disk, as one does that was planned before a sixteenth was kept free.
+    let advice = match together <= node.capacity.into() {
+        true => ": plan again, with this layout as --former",
+        false => "",
+    };
     format!(
-        "box {id} is to hold {} of {} MB, {} MB together, and has {} MB",
+        "box {id} is to hold {} of {} MB, {} MB together, and {room}{advice}",
         count(copies, "copy", "copies"),
         thousands(plan.size.into()),
-        thousands(copies * u64::from(plan.size)),
-        thousands(capacity.into()),
+        thousands(together),
     )
 }
 

@@ -34,6 +34,8 @@ struct ZoneLine {
 struct Held {
     /// In megabytes; of a box that is gone it is not known.
     capacity: Option<u64>,
+    /// What of it may be filled, known where it is.
+    usable: Option<u64>,
     copies: u64,
 }
 
@@ -81,6 +83,7 @@ impl<'a> Overview<'a> {
     fn add_gone(&mut self, described: &Description, counts: &BTreeMap<u32, u32>) {
         let held = |copies: u32| Held {
             capacity: None,
+            usable: None,
             copies: copies.into(),
         };
         for (id, copies) in counts {
@@ -153,17 +156,27 @@ impl<'a> Overview<'a> {
         let size = u64::from(self.plan.size);
         let (partition, unit) = (thousands(size), self.unit());
         let (all, name) = (unit.of(size << self.plan.bits), unit.name);
+        let free = self.free();
         match self.hope {
             Some(hope) => format!(
                 "Size: each partition may grow to {partition} MB, all data to {all} {name}; used is \
-                 what it takes then.\n\
+                 what it takes then.\n{free}\
                  Hope: with nothing lost to rounding and zones it would be {} MB a partition.\n",
                 thousands(hope)
             ),
             None => format!(
                 "Size: it was planned for partitions of {partition} MB, {all} {name} of data in all; \
-                 used is what that takes.\n"
+                 used is what that takes.\n{free}"
             ),
+        }
+    }
+
+    /// Why no disk is full; nothing where each is too small to lose a part.
+    fn free(&self) -> &'static str {
+        let loses = |line: &BoxLine| line.held.usable < line.held.capacity;
+        match self.boxes.iter().any(loses) {
+            true => "Free: a sixteenth of each disk stays free; share is of the whole disk.\n",
+            false => "",
         }
     }
 
@@ -269,9 +282,10 @@ impl ZoneLine {
 }
 
 impl Held {
-    fn json(&self, size: u64) -> [(&'static str, Json); 3] {
+    fn json(&self, size: u64) -> [(&'static str, Json); 4] {
         [
             ("capacity_mb", self.capacity.into()),
+            ("usable_mb", self.usable.into()),
             ("copies", self.copies.into()),
             ("used_mb", (self.copies * size).into()),
         ]
@@ -287,6 +301,7 @@ fn box_lines(described: &Description, copies: &[u32]) -> Vec<BoxLine> {
         zone: label.zone.clone(),
         held: Held {
             capacity: Some(node.capacity.into()),
+            usable: Some(node.usable().into()),
             copies: (*copies).into(),
         },
     });
@@ -304,6 +319,7 @@ fn zone_lines(described: &Description, zone_copies: &[u32]) -> Vec<ZoneLine> {
         boxes: mates(b).count(),
         held: Held {
             capacity: Some(mates(b).map(|node| u64::from(node.capacity)).sum()),
+            usable: Some(mates(b).map(|node| u64::from(node.usable())).sum()),
             copies: zone_copies[b].into(),
         },
     });
@@ -342,6 +358,7 @@ pub fn transfers_in_words(transfers: &Transfers) -> String {
 fn sum(lines: &[Held]) -> Held {
     Held {
         capacity: lines.iter().map(|line| line.capacity).sum(),
+        usable: lines.iter().map(|line| line.usable).sum(),
         copies: lines.iter().map(|line| line.copies).sum(),
     }
 }

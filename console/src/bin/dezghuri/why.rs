@@ -105,7 +105,7 @@ pub fn unused(described: &Description, plan: &Plan) -> String {
         let label = labels::of(described, *id);
         let why = match why {
             Unused::Small => format!(
-                "its disk is smaller than one partition of {} MB",
+                "what may be filled of its disk is smaller than one partition of {} MB",
                 thousands(plan.size.into())
             ),
             Unused::ZoneWhole => format!(
