@@ -9,15 +9,16 @@ use std::collections::{BTreeMap, BTreeSet};
 const SMALL: &str = "copies 2\nzones 2\nbits 2\nbox 1 shop 110 <b>&\"\nbox 3 home 60 study\n\
                      box 4 home 60\nbox 4294967295 attic 0 the last one\n";
 
-/// Box 1 takes each partition, since all others stand in one zone; so at most 27 MB. At 27 MB the
-/// others take two copies each, and box 3 keeps the two that it has.
+/// Box 1, of which 104 MB may be filled, takes each partition, since all others stand in one zone; so at
+/// most 26 MB. At 26 MB the others, of which 57 MB may be filled, take two copies each, and box 3 keeps
+/// the two that it has.
 fn small(name: &str) -> Folder {
     let folder = Folder::new(name);
     folder.write("small.txt", SMALL);
     let before: [&[u32]; 4] = [&[1, 2], &[1, 3], &[2, 3], &[2, 9]];
     folder.write("last", layout_record(2, 20, &before));
     let after: [&[u32]; 4] = [&[1, 4], &[1, 3], &[1, 3], &[1, 4]];
-    folder.write("next", layout_record(2, 27, &after));
+    folder.write("next", layout_record(2, 26, &after));
     folder
 }
 
@@ -105,7 +106,8 @@ fn thousandths(text: &str) -> u64 {
     number(whole) * 1000 + number(&format!("{rest:0<3}"))
 }
 
-/// The parts of each bar come to its disk, which is as long as the table says.
+/// The parts of each bar come to its disk, which is as long as the table says; the last is a sixteenth
+/// of it, rounded down, and there is none where that is 0.
 fn bars_add_up(page: &Element, capacities: &BTreeMap<u32, u64>, whole: u64) {
     let mut seen = BTreeSet::new();
     for line in page.with_id("boxes").of_class("row") {
@@ -123,9 +125,28 @@ fn bars_add_up(page: &Element, capacities: &BTreeMap<u32, u64>, whole: u64) {
             end += thousandths(part.get("width"));
         }
         assert_eq!(end, capacity * 100_000 / whole, "box {id}");
+        stays_free(
+            bar,
+            *capacity,
+            end - (capacity - capacity / 16) * 100_000 / whole,
+        );
         seen.insert(id);
     }
     assert!(seen.iter().eq(capacities.keys()));
+}
+
+/// The bar ends in a part of this width that stays free, and its title tells the megabytes.
+fn stays_free(bar: &Element, capacity: u64, width: u64) {
+    let drawn = bar.of_class("free");
+    assert_eq!(drawn.len(), usize::from(capacity >= 16), "{capacity}");
+    if let Some(last) = bar.named("rect").last().filter(|_| capacity >= 16) {
+        assert_eq!(last.get("class"), "free", "{capacity}");
+        assert_eq!(thousandths(last.get("width")), width);
+    }
+    let title = bar.named("title")[0].text();
+    let (_, told) = title.rsplit_once(", free ").expect("it is told");
+    let unit = if told.ends_with(" GB") { 1000 } else { 1 };
+    assert_eq!(number(told), capacity / 16 / unit, "{title}");
 }
 
 /// The ids of a table's cell, each with the tag that it stands in.
@@ -212,11 +233,34 @@ fn map_agrees_with_table(page: &Element) {
     }
 }
 
+/// The disks of the small cluster.
+fn small_capacities() -> BTreeMap<u32, u64> {
+    BTreeMap::from([(1, 110), (3, 60), (4, 60), (u32::MAX, 0)])
+}
+
+/// At 15 MB a disk may be filled, and at 16 one megabyte stays free; both hold a partition of 15 MB.
+#[test]
+fn small_disks_have_no_part_that_stays_free() {
+    let folder = Folder::new("report-free");
+    let text = "copies 2\nzones 1\nbits 0\nbox 1 home 15\nbox 2 home 16\nbox 3 home 4\n";
+    folder.write("small.txt", text);
+    let page = page_of(&folder, "small.txt");
+    bars_add_up(&page, &BTreeMap::from([(1, 15), (2, 16), (3, 4)]), 16);
+    let bar = |place: usize| page.of_class("bar")[place].named("title")[0].text();
+    assert_eq!(
+        [0, 1, 2].map(bar),
+        [
+            "Box 1: disk 15 MB, held 15 MB, unused 0 MB, free 0 MB",
+            "Box 2: disk 16 MB, held 15 MB, unused 0 MB, free 1 MB",
+            "Box 3: disk 4 MB, held 0 MB, unused 4 MB, free 0 MB",
+        ]
+    );
+}
+
 #[test]
 fn bars_and_map_agree_with_the_tables() {
     let page = page_of(&small("report-agree"), "small.txt next --former last");
-    let capacities = BTreeMap::from([(1, 110), (3, 60), (4, 60), (u32::MAX, 0)]);
-    bars_add_up(&page, &capacities, 110);
+    bars_add_up(&page, &small_capacities(), 110);
     map_agrees_with_table(&page);
 
     let folder = planned_home("report-home");
@@ -229,8 +273,8 @@ fn bars_and_map_agree_with_the_tables() {
     let capacities = [(1, tb(4)), (2, tb(2)), (3, tb(4)), (4, tb(2)), (6, tb(4))];
     bars_add_up(&page, &BTreeMap::from(capacities), tb(4));
     map_agrees_with_table(&page);
-    let told = "3 copies of everything, in at least 2 zones. Each partition may grow to 20,833 MB: \
-                5,333 GB in all. 192 copies (up to 3,999 GB) have to be sent, 38 dropped. No layout \
+    let told = "3 copies of everything, in at least 2 zones. Each partition may grow to 19,531 MB: \
+                4,999 GB in all. 192 copies (up to 3,749 GB) have to be sent, 38 dropped. No layout \
                 of this size needs fewer.";
     assert_eq!(lead(&page), told);
 }
@@ -332,21 +376,21 @@ fn only_what_holds_from_the_former_layout_is_told() {
         )
     };
     let best: [&[u32]; 4] = [&[1, 4], &[1, 3], &[1, 3], &[1, 4]];
-    let sent = "4 copies (up to 108 MB) have to be sent, none dropped.";
-    let fewest = format!("{} {sent} No layout of this size needs fewer.", start(27));
-    assert_eq!(leads(&folder, 27, best), [fewest, start(27)]);
+    let sent = "4 copies (up to 104 MB) have to be sent, none dropped.";
+    let fewest = format!("{} {sent} No layout of this size needs fewer.", start(26));
+    assert_eq!(leads(&folder, 26, best), [fewest, start(26)]);
 
     let swapped: [&[u32]; 4] = [&[1, 3], &[1, 3], &[1, 4], &[1, 4]];
-    let sent = "5 copies (up to 135 MB) have to be sent, 1 dropped.";
-    let [with, _] = leads(&folder, 27, swapped);
+    let sent = "5 copies (up to 130 MB) have to be sent, 1 dropped.";
+    let [with, _] = leads(&folder, 26, swapped);
     let more = "Another layout of this size needs 1 fewer.";
-    assert_eq!(with, format!("{} {sent} {more}", start(27)));
+    assert_eq!(with, format!("{} {sent} {more}", start(26)));
 
-    let sent = "4 copies (up to 104 MB) have to be sent, none dropped.";
-    let larger = "The disks allow 27 MB a partition: a new plan has more.";
-    let with = format!("{} {sent} {larger}", start(26));
-    let without = format!("{} {larger}", start(26));
-    assert_eq!(leads(&folder, 26, best), [with, without]);
+    let sent = "4 copies (up to 100 MB) have to be sent, none dropped.";
+    let larger = "The disks allow 26 MB a partition: a new plan has more.";
+    let with = format!("{} {sent} {larger}", start(25));
+    let without = format!("{} {larger}", start(25));
+    assert_eq!(leads(&folder, 25, best), [with, without]);
 }
 
 #[test]
@@ -414,6 +458,7 @@ fn a_refusal_has_its_page_too() {
         let page = page::read(std::str::from_utf8(&folder.read("page.html")).expect("text"));
         assert_eq!(lead(&page), why);
         assert_eq!(page.of_class("bar").len(), 4);
+        bars_add_up(&page, &small_capacities(), 110);
         assert!(page.all().iter().all(|element| element.get("id") != "map"));
     }
 }

@@ -13,6 +13,9 @@ struct Scale {
     unit: Unit,
 }
 
+/// What the part of a disk that stays free is called.
+const FREE: (&str, &str) = ("free", "stays free");
+
 /// A bar: parts from the left, each with its class and its megabytes.
 struct Bar {
     parts: Vec<(&'static str, u64)>,
@@ -37,25 +40,27 @@ pub fn of_layout(facts: &Facts, laid: &Laid) -> String {
     body += &axis(&scale);
     let caption = match facts.has_former() {
         true => {
-            "Each bar is a disk: what it keeps, what it receives, what stays unused. \
-                 At its right: copies, share of the disk, + received, \u{2212} dropped."
+            "Each bar is a disk: what it keeps, what it receives, what is unused, and the \
+                 sixteenth that stays free. At its right: copies, share of the disk, + received, \
+                 \u{2212} dropped."
         }
         false => {
-            "Each bar is a disk: what it holds, what stays unused. At its right: copies, \
-                  share of the disk."
+            "Each bar is a disk: what it holds, what is unused, and the sixteenth that stays \
+                  free. At its right: copies, share of the disk."
         }
     };
-    figure(&legend(facts, laid), caption, &body)
+    figure(&legend(&parts(facts, laid)), caption, &body)
 }
 
 /// The bars of a cluster that has no layout.
 pub fn of_disks(facts: &Facts) -> String {
     let scale = Scale::new(facts, 0);
     let body = zones(facts, |b| {
-        let capacity = capacity(facts, b);
+        let (capacity, usable) = disk_space(facts, b);
+        let free = capacity - usable;
         let bar = Bar {
-            parts: vec![("unused", capacity)],
-            title: title(facts, b, &[("disk", capacity)]),
+            parts: vec![("unused", usable), ("free", free)],
+            title: title(facts, b, &[("disk", capacity), ("free", free)]),
         };
         let figures = format!(
             "<span>{} {}</span>",
@@ -64,7 +69,11 @@ pub fn of_disks(facts: &Facts) -> String {
         );
         line(facts, b, &bar, &figures, &scale)
     });
-    figure("", "Each bar is a disk.", &(body + &axis(&scale)))
+    figure(
+        &legend(&[("unused", "may be filled"), FREE]),
+        "Each bar is a disk, of which a sixteenth stays free.",
+        &(body + &axis(&scale)),
+    )
 }
 
 fn figure(legend: &str, caption: &str, body: &str) -> String {
@@ -110,27 +119,27 @@ fn line(facts: &Facts, b: usize, bar: &Bar, figures: &str, scale: &Scale) -> Str
 
 /// The bar of a disk with its copies, each as large as a partition may grow.
 fn disk(facts: &Facts, laid: &Laid, b: usize) -> Bar {
-    let (row, capacity) = (&laid.rows.here[b], capacity(facts, b));
+    let (row, (capacity, usable)) = (&laid.rows.here[b], disk_space(facts, b));
     let kept = row.count(Cell::Kept) * laid.size;
     let received = row.count(Cell::Received) * laid.size;
-    let unused = capacity - kept - received;
-    let told = match facts.has_former() {
-        true => vec![
-            ("disk", capacity),
-            ("kept", kept),
-            ("received", received),
-            ("unused", unused),
-        ],
-        false => vec![("disk", capacity), ("held", kept), ("unused", unused)],
+    let rest = [
+        ("unused", usable.saturating_sub(kept + received)),
+        ("free", capacity - usable),
+    ];
+    let held = match facts.has_former() {
+        true => vec![("disk", capacity), ("kept", kept), ("received", received)],
+        false => vec![("disk", capacity), ("held", kept)],
     };
     Bar {
-        parts: vec![("kept", kept), ("received", received), ("unused", unused)],
-        title: title(facts, b, &told),
+        parts: [&[("kept", kept), ("received", received)][..], &rest].concat(),
+        title: title(facts, b, &[&held[..], &rest].concat()),
     }
 }
 
-fn capacity(facts: &Facts, b: usize) -> u64 {
-    facts.cluster().nodes[b].capacity.into()
+/// The capacity of a disk, and what of it may be filled.
+fn disk_space(facts: &Facts, b: usize) -> (u64, u64) {
+    let node = &facts.cluster().nodes[b];
+    (node.capacity.into(), node.usable().into())
 }
 
 fn title(facts: &Facts, b: usize, told: &[(&str, u64)]) -> String {
@@ -162,7 +171,7 @@ fn figures(facts: &Facts, laid: &Laid, b: usize) -> String {
     format!(
         "<span>{}</span><span>{}</span>{}{}",
         count(copies, "copy", "copies"),
-        percent(copies * laid.size, capacity(facts, b)),
+        percent(copies * laid.size, disk_space(facts, b).0),
         moved('+', row.count(Cell::Received)),
         moved('\u{2212}', row.count(Cell::Dropped)),
     )
@@ -197,24 +206,29 @@ fn gone(laid: &Laid, scale: &Scale) -> String {
     }
 }
 
-/// What the colours mean.
-fn legend(facts: &Facts, laid: &Laid) -> String {
+/// The parts of the bars of a layout, each with its class and what it is called.
+fn parts(facts: &Facts, laid: &Laid) -> Vec<(&'static str, &'static str)> {
     let first = if facts.has_former() { "kept" } else { "held" };
     let mut parts = vec![("kept", first)];
     if facts.has_former() {
         parts.push(("received", "received"));
     }
-    parts.push(("unused", "unused"));
+    parts.extend([("unused", "unused"), FREE]);
     if !laid.rows.gone.is_empty() {
         parts.push(("gone", "was on a box that is gone"));
     }
-    let item = |(class, word): (&str, &str)| {
+    parts
+}
+
+/// What the colours mean.
+fn legend(parts: &[(&str, &str)]) -> String {
+    let item = |(class, word): &(&str, &str)| {
         format!(
             "<span><svg width=\"26\" height=\"14\" aria-hidden=\"true\"><rect class=\"{class}\" \
              x=\"1\" y=\"1\" width=\"24\" height=\"12\"/></svg> {word}</span>"
         )
     };
-    let items: String = parts.into_iter().map(item).collect();
+    let items: String = parts.iter().map(item).collect();
     format!("<p class=\"legend\">{items}</p>\n")
 }
 

@@ -60,7 +60,7 @@ pub fn boxes_and_zones(facts: &Facts, laid: &Laid) -> String {
     let heads = numbers(facts);
     let caption = format!(
         "The boxes. Capacity and used are in {}; used is what the copies take once each partition \
-         has grown to its size.",
+         has grown to its size, share is of the whole disk, a sixteenth of which stays free.",
         facts.unit().name
     );
     let boxes = table(
