@@ -33,7 +33,7 @@ use dezghuri::ffi;
 use reference::exchanges::{plan_record, Path};
 use reference::random::Random;
 use reference::records::{cluster_record, read_cluster};
-use reference::{report, sent, Cluster, Layout, Node};
+use reference::{capacity_for, report, sent, Cluster, Layout, Node};
 use std::time::Instant;
 
 /// Clusters of each kind.
@@ -420,7 +420,7 @@ fn tight(r: &mut Random) -> Case {
         }
     }
     for (node, dealt) in c.nodes.iter_mut().zip(dealt) {
-        node.capacity = 5_000 * dealt;
+        node.capacity = capacity_for(5_000 * dealt);
     }
     (c, former)
 }

@@ -101,7 +101,7 @@ fn copies_times_size_does_not_overflow() {
     };
     let r = &mut Random::new(1);
     let cells = cells_of(&vec![vec![1]; 256]);
-    let largest = u32::MAX / 256;
+    let largest = 4_026_531_840 / 256; // all but a sixteenth of the disk
     assert_eq!(agrees(&c, &cells, largest, r), 0);
     for size in [largest + 1, 1 << 24, (1 << 24) + 1, 1 << 31, u32::MAX] {
         assert_eq!(agrees(&c, &cells, size, r), 12);

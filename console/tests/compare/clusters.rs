@@ -36,8 +36,8 @@ pub const LARGE: Kind = Kind {
     most_capacity: 4_000_000,
 };
 
-/// A cluster, at times with capacities of 0, with equal capacities, or with more zones wanted than
-/// there are.
+/// A cluster, at times with capacities of 0, with equal capacities, with capacities at which what stays
+/// free changes, or with more zones wanted than there are.
 pub fn cluster(kind: Kind, r: &mut Random) -> Cluster {
     let bits = if r.chance(15) {
         0
@@ -49,14 +49,15 @@ pub fn cluster(kind: Kind, r: &mut Random) -> Cluster {
     let few = if r.chance(80) { replication as u64 } else { 0 };
     let number = r.between(few, kind.most_nodes);
     let zones = r.between(1, number.max(1));
-    let equal = r.chance(20).then(|| r.between(1, kind.most_capacity));
+    let drawn = if r.chance(30) { at_a_sixteen } else { capacity };
+    let equal = r.chance(20).then(|| drawn(kind, r).max(1));
     let mut id = 0;
     let nodes = (0..number).map(|_| {
         id += r.between(1, 3) as u32;
         Node {
             id,
             zone: zone(r.below(zones)),
-            capacity: equal.unwrap_or_else(|| capacity(kind, r)) as u32,
+            capacity: equal.unwrap_or_else(|| drawn(kind, r)) as u32,
         }
     });
     Cluster {
@@ -74,6 +75,11 @@ fn capacity(kind: Kind, r: &mut Random) -> u64 {
         2 => u32::MAX.into(),
         _ => r.between(0, kind.most_capacity),
     }
+}
+
+/// A capacity at which what stays free of a disk changes: 15, 16, 17, 31, 32, 33 and on.
+fn at_a_sixteen(kind: Kind, r: &mut Random) -> u64 {
+    16 * r.between(1, (kind.most_capacity / 16).max(3)) - 1 + r.below(3)
 }
 
 /// Zone numbers from both ends of their range.

@@ -81,7 +81,7 @@ impl Seen {
             without.nodes.retain(|node| node.id != id);
             assert_eq!(size(&without), u64::from(plan.size));
             let node = c.nodes.iter().find(|node| node.id == id).unwrap();
-            assert_eq!(why == Unused::Small, node.capacity < plan.size);
+            assert_eq!(why == Unused::Small, node.usable() < plan.size);
             if why == Unused::ZoneWhole {
                 self.zone_whole += 1;
                 zone_is_whole(c, node.zone, &plan);

@@ -4,7 +4,7 @@
 use crate::lent;
 use reference::random::Random;
 use reference::records::cluster_record;
-use reference::{exchanges, is_valid, listing, report, sent, Cluster, Layout, Node};
+use reference::{capacity_for, exchanges, is_valid, listing, report, sent, Cluster, Layout, Node};
 
 /// Found by a search through millions of small clusters.
 fn split_case() -> (Cluster, Layout) {
@@ -69,7 +69,7 @@ fn chain() -> (Cluster, Layout) {
     let node = |((zone, copies), id)| Node {
         id,
         zone,
-        capacity: copies * SIZE,
+        capacity: capacity_for(copies * SIZE),
     };
     let nodes: Vec<Node> = room.into_iter().zip(1..).map(node).collect();
     let c = Cluster {

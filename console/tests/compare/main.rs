@@ -13,6 +13,7 @@ mod paper;
 mod paths;
 mod records;
 mod sent;
+mod usable;
 mod worst;
 
 /// How many times as many cases a soak tries.

@@ -1,5 +1,5 @@
 //! The table of examples of document 01, with the copies to be sent as change request 2026-01 has
-//! them.
+//! them, and the size of A as 2026-02 has it; the other examples keep theirs.
 
 use crate::lent::{self, Planned};
 use reference::cells::cells_of;
@@ -35,12 +35,13 @@ fn outcome(c: &Cluster, former: &[&[u32]]) -> Result<(u32, u32), (u32, u64)> {
 const THREE: [(u32, u16, u32); 3] = [(1, 1, 100), (2, 1, 70), (3, 2, 50)];
 const FOUR: [(u32, u16, u32); 4] = [(1, 1, 9), (2, 1, 9), (3, 1, 9), (4, 2, 1)];
 
-/// Nothing was there before, so all of three copies of two partitions are sent.
+/// Nothing was there before, so all of three copies of two partitions are sent. Of 100, 70 and 50 MB
+/// 94, 66 and 47 may be filled, each with both partitions: 23 MB is the most for node 3.
 #[test]
 fn a_b_three_copies_in_two_zones() {
     let a = planned(&cluster([1, 3, 2], &THREE), &[]).unwrap();
     let expected = Planned {
-        size: 25,
+        size: 23,
         sent: 6,
         finished: true,
         improvements: 0,

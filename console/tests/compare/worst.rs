@@ -5,7 +5,7 @@ use dezghuri::ffi::LAYOUT_RECORD_BYTES;
 use reference::cells::cells_of;
 use reference::random::Random;
 use reference::records::{cluster_record, read_layout, Numbers};
-use reference::{is_valid, report, sent, Cluster, Layout, Node};
+use reference::{capacity_for, is_valid, report, sent, Cluster, Layout, Node};
 use std::time::{Duration, Instant};
 
 /// A call on the largest cluster takes some milliseconds; this is far beyond.
@@ -23,6 +23,11 @@ fn largest(redundancy: usize, zones: u32, capacity: impl Fn(u32) -> u32) -> Clus
         redundancy,
         nodes: (0..32).map(node).collect(),
     }
+}
+
+/// Just enough for 64 copies of 100 MB, which are a node's part of all 2,048.
+fn just_enough(_: u32) -> u32 {
+    capacity_for(6400)
 }
 
 /// Eight former copies in each row, drawn by lot.
@@ -65,8 +70,8 @@ fn the_largest_clusters_end() {
     let mut r = Random::new(41);
     for zones in [32, 8] {
         for redundancy in [1, 5, 8] {
-            ends(&largest(redundancy, zones, |_| 6400), &drawn(&mut r));
-            ends(&largest(redundancy, zones, |_| 6400), &neighbours());
+            ends(&largest(redundancy, zones, just_enough), &drawn(&mut r));
+            ends(&largest(redundancy, zones, just_enough), &neighbours());
             ends(
                 &largest(redundancy, zones, |b| 5000 + 97 * b),
                 &drawn(&mut r),
@@ -84,7 +89,7 @@ fn the_largest_clusters_end() {
 #[test]
 fn the_most_copies_are_sent_and_written() {
     let r = &mut Random::new(1);
-    let c = largest(8, 8, |_| 6400);
+    let c = largest(8, 8, just_enough);
     for former in [vec![Vec::new(); 256], vec![(33..=40).collect(); 256]] {
         let planned = lent::plan(&cluster_record(&c, &former), 0, r).expect("a layout exists");
         assert_eq!((planned.sent, planned.finished), (2048, true));
