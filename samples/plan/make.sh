@@ -45,7 +45,7 @@ while [ $b -lt 32 ]; do
     node $((first + b)) $((65528 + b / 4)) 4294967295
     b=$((b + 1))
 done
-printf 'size 67108863\nsent 0\nimprovements N\nfinished\n' >largest.out
+printf 'size 62914560\nsent 0\nimprovements N\nfinished\n' >largest.out
 p=0
 while [ $p -lt 256 ]; do
     ids=

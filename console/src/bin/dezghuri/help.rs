@@ -42,8 +42,9 @@ FILE is a text file:
   bits 8                      # 2^8 = 256 partitions; may be left out
   box 1 workshop 4T tower     # id, zone, capacity, and a name if you like
 
-A capacity is in megabytes, or ends in G or T. A zone is a name of one word, or
-a number from 0 to 65535. A # begins a remark.
+A capacity is in megabytes, or ends in G or T. It is that of the whole disk, of
+which a sixteenth stays free. A zone is a name of one word, or a number from 0
+to 65535. A # begins a remark.
 
 With --json, plan, check, show, diff and what-if print one JSON object.
 
