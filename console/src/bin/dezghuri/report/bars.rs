@@ -41,8 +41,8 @@ pub fn of_layout(facts: &Facts, laid: &Laid) -> String {
     let caption = match facts.has_former() {
         true => {
             "Each bar is a disk: what it keeps, what it receives, what is unused, and the \
-                 sixteenth that stays free. At its right: copies, share of the disk, + received, \
-                 \u{2212} dropped."
+                 sixteenth that stays free. At its right: copies, share of the disk, +\u{a0}received, \
+                 \u{2212}\u{a0}dropped."
         }
         false => {
             "Each bar is a disk: what it holds, what is unused, and the sixteenth that stays \
