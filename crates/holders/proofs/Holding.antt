@@ -2,23 +2,23 @@
 -- many partitions a set has.
 -- Assumes nothing.
 use Prim.Native.Nat.{ℕ, _+_, _-_, _*_, _/_, _%_, _^_, _≤_, _<_, min, max}
-use mathlib.Core.Path.{_≡_, refl, sym, ap, ap₂, _∙_}
+use mathlib.Core.Path.{_≡_, refl, sym, ap, ap₂, subst, _∙_}
 use mathlib.Core.Bool.{Bool, true, false}
 use mathlib.Core.Logic.{⊎-elim}
 use mathlib.Core.List.{List}
 use native.Mathlib.Omega.{arith}
 use lib.ListN.{length, getD, set, replicate, length-set, length-replicate, getD-replicate}
 use lib.Arith.{lt-of-le-ne}
-use lib.Seq.{getD-set-same, getD-set-other}
+use lib.Seq.{getD-set-same, getD-set-other, set-comm}
 use Rattle.sums.specs.TermsSums.{sumTo}
 use Rattle.sums.specs.ModelSums.{is}
 use Rattle.sums.proofs.Sum.{eq-or-ne, is-eq, is-ne, is-le, is-cases, sum-cong, sum-le, sum-const, sum-zero, sum-cut, sum-term, sum-but-one}
 use Rattle.cluster.specs.Terms.{mostNodes, bufferRows}
 use Rattle.sets.specs.ModelBits.{maskBits, bit, bitsAt, memberOf, withOf, withoutOf, leastOf}
-use Rattle.sets.proofs.Laws.{bit-le, bit-zero, bit-high, member-true, member-false, bit-with, bit-without}
-use Rattle.sets.proofs.Scan.{Left, done-more, done-all}
+use Rattle.sets.proofs.Laws.{bit-le, bit-zero, bit-high, member-true, member-false, bit-with, bit-without, least-at}
+use Rattle.sets.proofs.Scan.{Left, least-word, done-more, done-all}
 use Rattle.exchange.specs.ModelRow.{copies}
-use Rattle.holders.specs.ModelHolders.{setWords, holderCells, holderCell, countCell, holds, Counted, Held, Taken, Gone}
+use Rattle.holders.specs.ModelHolders.{setWords, holderCells, holderCell, countCell, holds, Counted, Held, Absent, Taken, Gone}
 
 -- Two partitions of one word are the same where their numbers in it are.
 place : (p q : ℕ) → p / maskBits ≡ q / maskBits → is (p % maskBits) (q % maskBits) ≡ is p q
@@ -167,13 +167,13 @@ module _ (held : List ℕ) (p u : ℕ) (far : mostNodes ≤ u) where
   pub none-gone : Gone u p held held
   none-gone = stayed _-_ (λ a. omega arith) held p u (λ l. absurd (omega arith))
 
--- The code's test m, whether node u's set has partition p, and what is left after it.
+-- The code's test m, whether node u's set has partition p, and what follows from it.
 module _ (held : List ℕ) (p u : ℕ) (m : Bool) (e : m ≡ memberOf (getD held (holderCell u p) 0) (p % maskBits)) where
   pub has : m ≡ true → holds held u p ≡ 1
   unfolding holds
   has t = member-true (getD held (holderCell u p) 0) (p % maskBits) (sym e ∙ t)
 
-  lacks : m ≡ false → holds held u p ≡ 0
+  pub lacks : m ≡ false → holds held u p ≡ 0
   unfolding holds
   lacks t = member-false (getD held (holderCell u p) 0) (p % maskBits) (sym e ∙ t)
 
@@ -183,24 +183,34 @@ module _ (held : List ℕ) (p u : ℕ) (m : Bool) (e : m ≡ memberOf (getD held
   pub gone-before : m ≡ false → Gone u p held held
   gone-before t = stayed _-_ (λ a. omega arith) held p u (λ l. omega (arith, lacks t))
 
-  module _ (x : ℕ) (C : Counted held) (lp : p < bufferRows) (lu : u < mostNodes) where
-    abbrev count : ℕ
-    count = getD held (countCell u) 0
+  pub gone-now : (x : ℕ) → Counted held → p < bufferRows → u < mostNodes → m ≡ true → x ≡ withoutOf (getD held (holderCell u p) 0) (p % maskBits)
+      → Counted (stored held p u (getD held (countCell u) 0 - 1) x) × Gone u p held (stored held p u (getD held (countCell u) 0 - 1) x)
+  gone-now x C lp lu t d =
+      step _-_ (λ a. omega arith) held p u (getD held (countCell u) 0 - 1) x C lp lu
+      (λ j l. ap (λ (y : ℕ). bit y j) d ∙ bit-without (getD held (holderCell u p) 0) (p % maskBits) j l)
+      (omega (arith, has t, count-some held C u lu p lp (has t)))
 
-    abbrev word : ℕ
-    word = getD held (holderCell u p) 0
+-- A partition that node u's set lacks: first the word x is stored that has it, then it is counted.
+module _ (held : List ℕ) (p u x : ℕ) (lp : p < bufferRows) (lu : u < mostNodes) where
+  abbrev worded : List ℕ
+  worded = set held (holderCell u p) x
 
-    pub taken-now : m ≡ false → x ≡ withOf word (p % maskBits)
-        → Counted (stored held p u (count + 1) x) × Taken (is u) p held (stored held p u (count + 1) x)
-    taken-now t d =
-        step max (λ a. omega arith) held p u (count + 1) x C lp lu (λ j l. ap (λ (y : ℕ). bit y j) d ∙ bit-with word (p % maskBits) j l)
-        (omega (arith, lacks t))
+  -- The word does not change the count.
+  pub count-stays : getD worded (countCell u) 0 ≡ getD held (countCell u) 0
+  count-stays = getD-set-other held (holderCell u p) (countCell u) x 0 (λ e. omega arith)
 
-    pub gone-now : m ≡ true → x ≡ withoutOf word (p % maskBits)
-        → Counted (stored held p u (count - 1) x) × Gone u p held (stored held p u (count - 1) x)
-    gone-now t d =
-        step _-_ (λ a. omega arith) held p u (count - 1) x C lp lu (λ j l. ap (λ (y : ℕ). bit y j) d ∙ bit-without word (p % maskBits) j l)
-        (omega (arith, has t, count-some held C u lu p lp (has t)))
+  pub taken-now : Counted held → holds held u p ≡ 0 → x ≡ withOf (getD held (holderCell u p) 0) (p % maskBits)
+      → Counted (set worded (countCell u) (getD worded (countCell u) 0 + 1)) × Taken (is u) p held (set worded (countCell u) (getD worded (countCell u) 0 + 1))
+  taken-now C n d =
+      subst (λ (l : List ℕ). Counted l × Taken (is u) p held l) (sym order)
+      (step max (λ a. omega arith) held p u (getD held (countCell u) 0 + 1) x C lp lu
+      (λ j l. ap (λ (y : ℕ). bit y j) d ∙ bit-with (getD held (holderCell u p) 0) (p % maskBits) j l)
+      (omega (arith, n)))
+    where
+      order : set worded (countCell u) (getD worded (countCell u) 0 + 1) ≡ stored held p u (getD held (countCell u) 0 + 1) x
+      order =
+          ap (λ (n : ℕ). set worded (countCell u) (n + 1)) count-stays
+          ∙ set-comm held (holderCell u p) (countCell u) x (getD held (countCell u) 0 + 1) (λ e. omega arith)
 
 -- ---- the sets of rows
 
@@ -223,6 +233,13 @@ module _ (row p : ℕ) (before : List ℕ) where
   partly-more left held after L some h t b q lb lq =
       widen (holds before b q) (min (bit row b - bit left b) (is p q)) (min (is (leastOf left) b) (is p q)) (h b q lb lq) (t b q lb lq)
       (join (bit row b - bit left b) (is (leastOf left) b) (is p q) (done-more row left L some b lb) (omega (arith, bit-le row b)))
+
+  -- The least node that is left lacks partition p, which no set had.
+  pub least-lacks : (left : ℕ) (held : List ℕ) → p < bufferRows → Left row left → (left ≡ 0 → ⊥) → Absent p before → Partly row left p before held
+      → holds held (leastOf left) p ≡ 0
+  least-lacks left held lp L some n h =
+      let l = least-word row left L some in
+      omega (arith, h (leastOf left) p l lp, n (leastOf left) l, bit-le row (leastOf left), least-at left l)
 
   pub partly-all : (left : ℕ) (held : List ℕ) → left ≡ 0 → Partly row left p before held → Taken (bit row) p before held
   partly-all left held e h b q lb lq = omega (arith, h b q lb lq, done-all row left b e)

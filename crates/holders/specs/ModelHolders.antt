@@ -46,6 +46,10 @@ pub record Held (rows : List ℕ) (P : ℕ) (held : List ℕ) : Type 0 where
   pub here : (u p : ℕ) → u < mostNodes → p < P → holds held u p ≡ bit (getD rows p 0) u
   pub beyond : (u p : ℕ) → u < mostNodes → P ≤ p → p < bufferRows → holds held u p ≡ 0
 
+-- No set has partition p.
+abbrev pub Absent : ℕ → List ℕ → Type 0
+Absent p held = (u : ℕ) → u < mostNodes → holds held u p ≡ 0
+
 -- Each node at which f is 1 took partition p on.
 abbrev pub Taken : (ℕ → ℕ) → ℕ → List ℕ → List ℕ → Type 0
 Taken f p before after =

@@ -9,7 +9,7 @@ ghost use Rattle.sums.specs.ModelSums.{is};
 ghost use Rattle.cluster.specs.Terms.{mostNodes, bufferRows};
 ghost use Rattle.exchange.specs.ModelRow.{copies};
 ghost use Rattle.sets.specs.ModelBits.{bit, bitsAt, maskOf};
-ghost use Rattle.holders.specs.ModelHolders.{Counted, Held, Taken, Gone, Exchanged};
+ghost use Rattle.holders.specs.ModelHolders.{holds, Counted, Held, Absent, Taken, Gone, Exchanged};
 use cluster::Cluster;
 
 // The partitions of a word.
@@ -21,18 +21,25 @@ const COUNTS: usize = Cluster::NODES * WORDS;
 // The cells of the sets and of the counts.
 pub const CELLS: usize = COUNTS + Cluster::NODES;
 
+// Node u takes partition p on, which its set lacks.
+fn add(held: &mut [u32], p: usize, u: u32)
+    requires { ⌜ Counted (now held) × (p < bufferRows) × (u < mostNodes) × (holds (now held) u p ≡ 0) ⌝ }
+    ensures { λ _. ⌜ Counted (now (held .exit)) × Taken (is u) p (now (held .entry)) (now (held .exit)) ⌝ }
+{
+    let i = WORDS * u as usize + p / BITS;
+    held[i] = sets::with(held[i], (p % BITS) as u32);
+    held[COUNTS + u as usize] += 1;
+}
+
 // Node u takes partition p on.
 fn take_on(held: &mut [u32], p: usize, u: u32)
     requires { ⌜ Counted (now held) × (p < bufferRows) ⌝ }
     ensures { λ _. ⌜ Counted (now (held .exit)) × Taken (is u) p (now (held .entry)) (now (held .exit)) ⌝ }
 {
     if (u as usize) < Cluster::NODES {
-        let i = WORDS * u as usize + p / BITS;
-        let j = (p % BITS) as u32;
-        let word = held[i];
-        if !sets::member(word, j) {
-            held[COUNTS + u as usize] += 1;
-            held[i] = sets::with(word, j);
+        let word = held[WORDS * u as usize + p / BITS];
+        if !sets::member(word, (p % BITS) as u32) {
+            add(held, p, u);
         }
     }
 }
@@ -62,15 +69,15 @@ pub fn exchange(held: &mut [u32], p: usize, u: u32, v: u32)
     take_on(held, p, v);
 }
 
-// Each node of the row takes partition p on.
+// Each node of the row takes partition p on, which no set has: so none is asked whether it does.
 fn hold(held: &mut [u32], p: usize, row: u32)
-    requires { ⌜ Counted (now held) × (p < bufferRows) ⌝ }
+    requires { ⌜ Counted (now held) × (p < bufferRows) × Absent p (now held) ⌝ }
     ensures { λ _. ⌜ Counted (now (held .exit)) × Taken (bit row) p (now (held .entry)) (now (held .exit)) ⌝ }
 {
     let mut left = row;
     while left != 0 {
         let u = sets::least(left);
-        take_on(held, p, u);
+        add(held, p, u);
         left = sets::rest(left);
     }
 }

@@ -23,7 +23,7 @@ cell-requires : tie.Need-cell-requires Inv-loop μ-loop
 cell-requires c κs = search needs
 
 hold-requires : tie.Need-hold-requires Inv-loop μ-loop
-hold-requires c κs = search needs
+hold-requires c κs = let k = c .before .before .before in (search needs, search needs, λ u l. k .loop .inv .2 .beyond u (k .loop .p) l (omega arith) (omega arith))
 
 add-p : tie.Need-add-p Inv-loop μ-loop
 add-p c = search needs

@@ -1,12 +1,12 @@
 -- `holders::hold` meets its contract. The nodes of the row that are left no more have taken the partition on. Assumes nothing.
 use Prim.Native.Nat.{ℕ}
-use mathlib.Core.Path.{refl, sym, subst}
+use mathlib.Core.Path.{refl, sym, ap, subst, _∙_}
 use native.Mathlib.Omega.{arith}
 use Rattle.sums.specs.ModelSums.{is}
 use Rattle.sets.specs.ModelBits.{leastOf, countOf}
-use Rattle.sets.proofs.Scan.{Left, left-all, left-less, fewer}
-use Rattle.holders.specs.ModelHolders.{Counted, Taken}
-use Rattle.holders.proofs.Holding.{Partly, partly-none, partly-more, partly-all}
+use Rattle.sets.proofs.Scan.{Left, left-all, least-word, left-less, fewer}
+use Rattle.holders.specs.ModelHolders.{holds, Counted, Taken}
+use Rattle.holders.proofs.Holding.{Partly, partly-none, partly-more, least-lacks, partly-all}
 use borrow.Author.Needs.{needs}
 use Rattle.holders.proofs.hold.Statement.{statement}
 use Rattle.holders.proofs.hold.Tie as tie
@@ -23,8 +23,17 @@ loop-holds c = let a = c .before .args in (search needs, left-all (a .row) (omeg
 least-requires : tie.Need-least-requires Inv-loop μ-loop
 least-requires c κs = search needs
 
-take-on-requires : tie.Need-take-on-requires Inv-loop μ-loop
-take-on-requires c κs = search needs
+add-requires : tie.Need-add-requires Inv-loop μ-loop
+add-requires c κs = let k = c .before .before .before in
+    let a = k .before .before .args in
+    let n = c .before .before .loop-test .taken in
+    let e = c .before .least .ensures in (
+      search needs,
+      search needs,
+      omega (arith, e, least-word (a .row) (k .loop .left) (k .loop .inv .1) n),
+      ap (λ (x : ℕ). holds (k .loop .held) x (a .p)) e
+          ∙ least-lacks (a .row) (a .p) (a .held .now) (k .loop .left) (k .loop .held) (omega arith) (k .loop .inv .1) n (search needs) (k .loop .inv .2),
+    )
 
 rest-requires : tie.Need-rest-requires Inv-loop μ-loop
 rest-requires c κs = search needs
@@ -41,11 +50,11 @@ loop-again c = let t = c .before .before .before in
     let a = k .before .before .args in
     let n = l .before .loop-test .taken in
     let e = c .rest .ensures in (
-      t .take-on .ensures .0,
+      t .add .ensures .0,
       subst (Left (a .row)) (sym e) (left-less (a .row) (k .loop .left) (k .loop .inv .1) n),
-      subst (λ (x : ℕ). Partly (a .row) x (a .p) (a .held .now) (t .take-on .last .0)) (sym e)
-          (partly-more (a .row) (a .p) (a .held .now) (k .loop .left) (k .loop .held) (t .take-on .last .0) (k .loop .inv .1) n (k .loop .inv .2)
-          (subst (λ (x : ℕ). Taken (is x) (a .p) (k .loop .held) (t .take-on .last .0)) (l .least .ensures) (t .take-on .ensures .1))),
+      subst (λ (x : ℕ). Partly (a .row) x (a .p) (a .held .now) (t .add .last .0)) (sym e)
+          (partly-more (a .row) (a .p) (a .held .now) (k .loop .left) (k .loop .held) (t .add .last .0) (k .loop .inv .1) n (k .loop .inv .2)
+          (subst (λ (x : ℕ). Taken (is x) (a .p) (k .loop .held) (t .add .last .0)) (l .least .ensures) (t .add .ensures .1))),
     )
 
 same-length : tie.Need-same-length Inv-loop μ-loop
@@ -64,7 +73,7 @@ hold-spec =
     μ-loop
     loop-holds
     least-requires
-    take-on-requires
+    add-requires
     rest-requires
     loop-less
     loop-again
