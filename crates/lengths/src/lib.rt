@@ -1,5 +1,6 @@
 // The legal lengths of the bodies of a record's fields, by tag.
 ghost use mathlib.Core.Path.{_≡_};
+ghost use Prim.Native.Nat.{ℕ, _<_};
 ghost use Rattle.lengths.specs.RecordLengths.{ruleOf, legalAs};
 
 // The bytes of a node: id 4, zone 2, capacity 4.
@@ -90,22 +91,18 @@ const LEGAL: [Rule; TAGS] = [
     ROW,
 ];
 
-// The rule of a tag; a tag that the table does not have has no legal length. Most fields are rows, and a rule that is known spares the machine code a
-// copy of the table.
+// The rule of a tag; a tag that the table does not have has no legal length.
 fn rule_of(tag: usize) -> Rule
     ensures { λ r. ⌜ r ≡ ruleOf tag ⌝ }
 {
-    if tag == FORMER_ROW {
-        return ROW;
-    }
     if tag < TAGS { LEGAL[tag] } else { NONE }
 }
 
-// Whether a body of this length is legal for this tag and, where `exact` is not 0, of that length.
-pub fn is_legal(exact: usize, tag: usize, len: usize) -> bool
-    ensures { λ r. ⌜ r ≡ legalAs exact tag len ⌝ }
+// Whether a body of this length is legal by the rule of its tag and, where `exact` is not 0, of that length.
+fn meets(rule: Rule, exact: usize, len: usize) -> bool
+    requires { ⌜ 0 < rule .step ⌝ }
+    ensures { λ r. ⌜ ((tag : ℕ) → rule ≡ ruleOf tag → r ≡ legalAs exact tag len) ⌝ }
 {
-    let rule = rule_of(tag);
     if len < rule.least {
         return false;
     }
@@ -116,4 +113,15 @@ pub fn is_legal(exact: usize, tag: usize, len: usize) -> bool
         return false;
     }
     exact == 0 || len == exact
+}
+
+// Whether a body of this length is legal for this tag and, where `exact` is not 0, of that length. Most fields are rows, and a rule that is known
+// spares the machine code a division, and a copy of the table.
+pub fn is_legal(exact: usize, tag: usize, len: usize) -> bool
+    ensures { λ r. ⌜ r ≡ legalAs exact tag len ⌝ }
+{
+    if tag == FORMER_ROW {
+        return meets(ROW, exact, len);
+    }
+    meets(rule_of(tag), exact, len)
 }

@@ -1,94 +1,31 @@
 -- `lengths::is_legal` meets its contract.
 -- Assumes nothing.
-use Prim.Native.Nat.{ℕ, _-_, _%_, _≤_, _<_}
-use mathlib.Core.Path.{_≡_, sym, subst}
-use mathlib.Core.Bool.{true, false}
-use lib.Dec.{eqb}
+use mathlib.Core.Path.{sym, ap, subst, _∙_}
+use Prim.Native.Nat.{_<_}
+use native.Mathlib.Omega.{arith}
 use borrow.Author.Needs.{needs}
-use borrow.Author.Tests.{le-leb, lt-leb, eq-eqb, ne-eqb}
-use Rattle.lengths.specs.RecordLengths.{ruleOf, legal, legalAs}
+use Rattle.lengths.specs.RecordLengths.{rule, ruleOf}
 use Rattle.lengths.specs.declared.Rule.{Rule}
-use Rattle.lengths.proofs.Lengths.{step-pos, legal-true}
+use Rattle.lengths.proofs.Lengths.{step-pos, rule-there}
 use Rattle.lengths.proofs.is_legal.Statement.{statement}
 use Rattle.lengths.proofs.is_legal.Tie as tie
 
--- What the tests show, over plain numbers and the rule r of the tag.
-module _ (exact tag len : ℕ) (r : Rule) (e : r ≡ ruleOf tag) where
-  too-short : len < r .least → false ≡ legalAs exact tag len
-  unfolding legalAs legal
-  too-short h =
-      let k : len < ruleOf tag .least = subst (λ (q : Rule). len < q .least) e h in
-      simp (lt-leb _ _ k)
+meets-requires : tie.Need-meets-requires
+meets-requires c κs = search needs
 
-  module _ (least : r .least ≤ len) where
-    too-long : r .greatest < len → false ≡ legalAs exact tag len
-    unfolding legalAs legal
-    too-long h =
-        let l : ruleOf tag .least ≤ len = subst (λ (q : Rule). q .least ≤ len) e least in
-        let k : ruleOf tag .greatest < len = subst (λ (q : Rule). q .greatest < len) e h in
-        simp (le-leb _ _ l, lt-leb _ _ k)
-
-    module _ (greatest : len ≤ r .greatest) where
-      off-step : ((len - r .least) % r .step ≡ 0 → ⊥) → false ≡ legalAs exact tag len
-      unfolding legalAs legal
-      off-step h =
-          let l : ruleOf tag .least ≤ len = subst (λ (q : Rule). q .least ≤ len) e least in
-          let g : len ≤ ruleOf tag .greatest = subst (λ (q : Rule). len ≤ q .greatest) e greatest in
-          let k : (len - ruleOf tag .least) % ruleOf tag .step ≡ 0 → ⊥ = subst (λ (q : Rule). (len - q .least) % q .step ≡ 0 → ⊥) e h in
-          simp (le-leb _ _ l, le-leb _ _ g, ne-eqb _ _ k)
-
-      module _ (step : (len - r .least) % r .step ≡ 0) where
-        fits : legal tag len ≡ true
-        fits =
-            legal-true tag len (subst (λ (q : Rule). q .least ≤ len) e least) (subst (λ (q : Rule). len ≤ q .greatest) e greatest)
-            (subst (λ (q : Rule). (len - q .least) % q .step ≡ 0) e step)
-
-        any-length : exact ≡ 0 → eqb exact 0 ≡ legalAs exact tag len
-        unfolding legalAs
-        any-length h = simp (fits, eq-eqb exact 0 h)
-
-        one-length : (exact ≡ 0 → ⊥) → eqb len exact ≡ legalAs exact tag len
-        unfolding legalAs
-        one-length h = simp (fits, ne-eqb exact 0 h)
+returns : tie.Need-returns
+returns c =
+    let a = c .before .before .args in
+    c .meets .ensures (a .tag) (rule-there 5 (rule 0 0 0) (omega arith) ∙ ap ruleOf (sym (c .before .if1 .taken)))
 
 rule-of-requires : tie.Need-rule-of-requires
 rule-of-requires c κs = search needs
 
-returns : tie.Need-returns
-returns c =
-    let k = c .before .before in
-    let a = k .before .args in
-    too-short (a .exact) (a .tag) (a .len) (k .rule-of .result) (k .rule-of .ensures) (search needs)
+meets-requires-2 : tie.Need-meets-requires-2
+meets-requires-2 c κs = subst (λ (q : Rule). 0 < q .step) (sym (c .rule-of .ensures)) (step-pos (c .before .before .args .tag))
 
 returns-2 : tie.Need-returns-2
-returns-2 c =
-    let k = c .before .before .before .before in
-    let a = k .before .args in
-    too-long (a .exact) (a .tag) (a .len) (k .rule-of .result) (k .rule-of .ensures) (search needs) (search needs)
-
-rem-if3 : tie.Need-rem-if3
-rem-if3 c =
-    let k = c .before .before .before .before .before .before in
-    subst (λ (q : Rule). 0 < q .step) (sym (k .rule-of .ensures)) (step-pos (k .before .args .tag))
-
-returns-3 : tie.Need-returns-3
-returns-3 c =
-    let k = c .before .before .before .before .before .before .before in
-    let a = k .before .args in
-    off-step (a .exact) (a .tag) (a .len) (k .rule-of .result) (k .rule-of .ensures) (search needs) (search needs) (c .if3 .taken)
-
-returns-4 : tie.Need-returns-4
-returns-4 c =
-    let k = c .before .before .before .before .before .before .before .before in
-    let a = k .before .args in
-    any-length (a .exact) (a .tag) (a .len) (k .rule-of .result) (k .rule-of .ensures) (search needs) (search needs) (c .before .if3 .left) (c .if4 .taken)
-
-returns-5 : tie.Need-returns-5
-returns-5 c =
-    let k = c .before .before .before .before .before .before .before .before in
-    let a = k .before .args in
-    one-length (a .exact) (a .tag) (a .len) (k .rule-of .result) (k .rule-of .ensures) (search needs) (search needs) (c .before .if3 .left) (c .if4 .left)
+returns-2 c = c .meets2 .ensures (c .before .before .before .args .tag) (c .before .rule-of .ensures)
 
 pub is-legal-spec : {M : Type 1} → statement M
-is-legal-spec =
-    tie.close (tie.spec rule-of-requires returns returns-2 rem-if3 returns-3 returns-4 returns-5)
+is-legal-spec = tie.close (tie.spec meets-requires returns rule-of-requires meets-requires-2 returns-2)
