@@ -1,12 +1,12 @@
 -- The scans of one row of cells, over plain lists, and what the answers tell of the row.
 -- Assumes nothing.
-use Prim.Native.Nat.{ℕ, suc, _+_, _-_, _*_, _≤_, _<_}
+use Prim.Native.Nat.{ℕ, suc, _+_, _-_, _*_, _^_, _≤_, _<_}
 use mathlib.Core.Path.{_≡_, refl, sym, ap, ap₂, _∙_}
 use mathlib.Core.Bool.{Bool, true, false, _&&_, and-false, cond}
-use mathlib.Core.List.{List}
-use native.Mathlib.Nat.{add-zero}
+use mathlib.Core.List.{List, []}
+use native.Mathlib.Nat.{zero-add, add-zero}
 use native.Mathlib.Omega.{arith}
-use lib.Dec.{ltb, leb}
+use lib.Dec.{ltb, leb, eqb}
 use lib.ListN.{length, take, drop, getD}
 use borrow.Author.Tests.{eq-eqb, ne-eqb, lt-ltb, le-ltb, le-leb, lt-leb}
 use Rattle.cells.proofs.Cells.{rest-cons}
@@ -18,20 +18,36 @@ use Rattle.cluster.proofs.CellRows.{blank-ids, blank-formed}
 unfoldable pub scan : ℕ → ℕ → List ℕ → ℕ
 scan last count l = cond (formedFrom last l) (count + length (idsIn l)) illFormed
 
+-- What stands for the last id once there was a 0: above every id.
+abbrev pub noMore : ℕ
+noMore = 2 ^ 64 - 1
+
+-- The same of a scan that goes on after a 0, where only zeros may follow.
+unfoldable pub onward : ℕ → ℕ → List ℕ → ℕ
+onward last count l = cond (eqb last noMore) (cond (blank l) count illFormed) (scan last count l)
+
 -- A row is asked by scanning it from its start.
-pub scan-start : (l : List ℕ) (a : ℕ) → idCount (take rowCells (drop a l)) ≡ scan 0 (a - a) (take (a + rowCells - a) (drop a l))
-unfolding scan idCount
-scan-start l a =
-    let r : List ℕ = take rowCells (drop a l) in
-    let e : length (idsIn r) ≡ a - a + length (idsIn r) = omega arith in
+pub onward-start : (l : List ℕ) (a : ℕ) → idCount (take rowCells (drop a l)) ≡ onward 0 0 (take (a + rowCells - a) (drop a l))
+unfolding onward scan idCount
+onward-start l a =
     let d : rowCells ≡ a + rowCells - a = omega arith in
-    ap (λ (n : ℕ). cond (formed r) n illFormed) e ∙ ap (λ (n : ℕ). scan 0 (a - a) (take n (drop a l))) d
+    ap (λ (n : ℕ). cond (formed (take rowCells (drop a l))) n illFormed) (sym (zero-add (length (idsIn (take rowCells (drop a l))))))
+    ∙ ap (λ (n : ℕ). onward 0 0 (take n (drop a l))) d
 
 -- A scan that has only zeros before it has passed all ids.
 pub scan-blank : (last count : ℕ) (l : List ℕ) → blank l ≡ true → scan last count l ≡ count
 unfolding scan
 scan-blank last count l h =
     ap₂ (λ (t : Bool) (r : List ℕ). cond t (count + length r) illFormed) (blank-formed last l h) (blank-ids l h) ∙ add-zero count
+
+-- At the end all ids are passed.
+pub onward-end : (last count : ℕ) (l : List ℕ) → l ≡ [] → onward last count l ≡ count
+unfolding onward blank
+onward-end last count l e = ap (λ (r : List ℕ). onward last count r) e ∙ go (eqb last noMore)
+  where
+    go : (t : Bool) → cond t count (scan last count []) ≡ count
+    go true = refl
+    go false = scan-blank last count [] refl
 
 module _ (l : List ℕ) (n i : ℕ) (inside : i < n) (long : n ≤ length l) where
   -- A cell that is not 0: the cells are not blank.
@@ -48,11 +64,16 @@ module _ (l : List ℕ) (n i : ℕ) (inside : i < n) (long : n ≤ length l) whe
       ap (λ (r : List ℕ). blank r) (rest-cons l n i 0 inside long)
       ∙ ap (λ (t : Bool). t && blank (take (n - (i + 1)) (drop (i + 1) l))) (eq-eqb (getD l i 0) 0 e)
 
-  -- A 0 with an id after it: ill formed.
-  pub scan-zero : (last count : ℕ) → getD l i 0 ≡ 0 → blank (take (n - i) (drop i l)) ≡ false → scan last count (take (n - i) (drop i l)) ≡ illFormed
-  unfolding scan formedFrom
-  scan-zero last count e h =
-      ap (λ (r : List ℕ). scan last count r) (rest-cons l n i 0 inside long) ∙ simp (eq-eqb (getD l i 0) 0 e, sym (zero-blank e) ∙ h)
+  -- A 0: the scan goes on, and only zeros may follow.
+  pub onward-zero : (last count : ℕ) → getD l i 0 ≡ 0
+      → onward last count (take (n - i) (drop i l)) ≡ onward noMore count (take (n - (i + 1)) (drop (i + 1) l))
+  unfolding onward scan formedFrom idsIn
+  onward-zero last count e = go (eqb last noMore)
+    where
+      go : (t : Bool) → cond t (cond (blank (take (n - i) (drop i l))) count illFormed) (scan last count (take (n - i) (drop i l)))
+          ≡ cond (blank (take (n - (i + 1)) (drop (i + 1) l))) count illFormed
+      go true = ap (λ (t : Bool). cond t count illFormed) (zero-blank e)
+      go false = ap (λ (r : List ℕ). scan last count r) (rest-cons l n i 0 inside long) ∙ simp (eq-eqb (getD l i 0) 0 e, add-zero count)
 
   -- An id not above the last: ill formed.
   pub scan-falls : (last count : ℕ) → (getD l i 0 ≡ 0 → ⊥) → getD l i 0 ≤ last → scan last count (take (n - i) (drop i l)) ≡ illFormed
@@ -69,6 +90,27 @@ module _ (l : List ℕ) (n i : ℕ) (inside : i < n) (long : n ≤ length l) whe
       let e : count + suc (length (idsIn r)) ≡ count + 1 + length (idsIn r) = omega arith in
       ap (λ (r : List ℕ). scan last count r) (rest-cons l n i 0 inside long)
       ∙ simp (ne-eqb (getD l i 0) 0 h, lt-ltb last (getD l i 0) k, e)
+
+  -- The same of a scan that goes on after a 0, which no id is above.
+  module _ (last count : ℕ) (some : getD l i 0 ≡ 0 → ⊥) where
+    pub onward-falls : getD l i 0 ≤ last → onward last count (take (n - i) (drop i l)) ≡ illFormed
+    unfolding onward
+    onward-falls h = go (eqb last noMore)
+      where
+        go : (t : Bool) → cond t (cond (blank (take (n - i) (drop i l))) count illFormed) (scan last count (take (n - i) (drop i l))) ≡ illFormed
+        go true = ap (λ (t : Bool). cond t count illFormed) (id-not-blank some)
+        go false = scan-falls last count some h
+
+    pub onward-rises : last < getD l i 0 → getD l i 0 < noMore
+        → onward last count (take (n - i) (drop i l)) ≡ onward (getD l i 0) (count + 1) (take (n - (i + 1)) (drop (i + 1) l))
+    unfolding onward
+    onward-rises h k =
+        ap (λ (t : Bool). cond t (cond (blank (take (n - i) (drop i l))) count illFormed) (scan last count (take (n - i) (drop i l))))
+        (ne-eqb last noMore (λ e. omega arith))
+        ∙ (scan-rises last count some h
+        ∙ sym (ap (λ (t : Bool). cond t (cond (blank (take (n - (i + 1)) (drop (i + 1) l))) (count + 1) illFormed)
+        (scan (getD l i 0) (count + 1) (take (n - (i + 1)) (drop (i + 1) l))))
+        (ne-eqb (getD l i 0) noMore (λ e. omega arith))))
 
 -- ---- what the answers tell
 

@@ -1,6 +1,6 @@
 // Rows of lent cells: eight cells to a partition, rising ids first, then zeros.
 ghost use mathlib.Core.Path.{_≡_};
-ghost use Prim.Native.Nat.{_+_, _-_, _≤_};
+ghost use Prim.Native.Nat.{_+_, _-_, _^_, _≤_, _<_};
 ghost use lib.ListN.{length, take, drop};
 ghost use Rattle.cluster.specs.Terms.{rowCells, blank};
 ghost use Rattle.cluster.specs.ModelRows.{idCount, rowIds, rowIsBlank};
@@ -24,29 +24,37 @@ fn zeros(cells: &[u32], from: usize, to: usize) -> bool
     true
 }
 
-// How many ids the row that starts at cell `from` has.
+// An id, among numbers that go farther than ids.
+fn wide(id: u32) -> u64
+    ensures { λ r. ⌜ (r ≡ id) × (r < 2 ^ 32) ⌝ }
+{
+    id as u64
+}
+
+// How many ids the row that starts at cell `from` has. After a 0 no id is above the last: so one loop of as many turns for each row looks for rising
+// ids and for zeros, and the machine code has each turn by itself.
 fn count_ids(cells: &[u32], from: usize) -> u32
     requires { ⌜ from + rowCells ≤ length (now cells) ⌝ }
     ensures { λ r. ⌜ r ≡ idCount (take rowCells (drop from (now (cells .entry)))) ⌝ }
 {
     let to = from + Cluster::ROW;
     let mut last = 0;
+    let mut count = 0;
     let mut i = from;
     while i < to {
-        let id = cells[i];
+        let id = wide(cells[i]);
         if id == 0 {
-            if zeros(cells, i, to) {
-                return (i - from) as u32;
+            last = u64::MAX;
+        } else {
+            if id <= last {
+                return ILL_FORMED;
             }
-            return ILL_FORMED;
+            last = id;
+            count += 1;
         }
-        if id <= last {
-            return ILL_FORMED;
-        }
-        last = id;
         i += 1;
     }
-    Cluster::ROW as u32
+    count
 }
 
 // How many ids row `partition` of the cells has, or ILL_FORMED where it is not rising ids followed by zeros or not there whole.

@@ -1,72 +1,55 @@
--- `cluster::rows::count_ids` meets its contract. The loop's invariant: the row's answer is that of a scan with as many ids passed as cells.
+-- `cluster::rows::count_ids` meets its contract. The loop's invariant: the row's answer is that of the scan of the cells that are left.
 -- Assumes nothing.
 use borrow.Author.Needs.{needs}
 use native.Mathlib.Omega.{arith}
 use Prim.Native.Nat.{ℕ, _≤_, _+_, _-_}
-use mathlib.Core.Path.{_≡_, refl, sym, ap, _∙_}
-use mathlib.Core.List.{List, []}
-use lib.ListN.{take, drop, getD}
+use mathlib.Core.Path.{_≡_, sym, ap₂, _∙_}
+use mathlib.Core.List.{List}
+use mathlib.Core.Logic.{⊎-elim}
+use lib.ListN.{take, drop}
 use Rattle.cells.proofs.Cells.{rest-none}
-use Rattle.cluster.specs.Terms.{rowCells, blank}
+use Rattle.cluster.specs.Terms.{rowCells}
 use Rattle.cluster.specs.ModelRows.{idCount}
-use Rattle.cluster.proofs.RowScans.{scan, scan-start, scan-blank, scan-zero, scan-falls, scan-rises}
+use Rattle.cluster.proofs.RowScans.{onward, onward-start, onward-end, onward-zero, onward-falls, onward-rises}
 use Rattle.cluster.proofs.rows.count_ids.Statement.{statement}
 use Rattle.cluster.proofs.rows.count_ids.Tie as tie
 
 abbrev Inv-loop : tie.InvT-loop
-Inv-loop cells from to last₀ i₀ last i =
-    (from ≤ i) × (i ≤ to)
-    × (idCount (take rowCells (drop from cells)) ≡ scan last (i - from) (take (to - i) (drop i cells)))
+Inv-loop cells from to last₀ count₀ i₀ last count i =
+    (from ≤ i) × (i ≤ to) × (count ≤ i - from)
+    × (idCount (take rowCells (drop from cells)) ≡ onward last count (take (to - i) (drop i cells)))
 
 abbrev μ-loop : tie.MeasureT-loop
-μ-loop cells from to last₀ i₀ last i = to - i
+μ-loop cells from to last₀ count₀ i₀ last count i = to - i
 
 add-to : tie.Need-add-to Inv-loop μ-loop
 add-to c = search needs
 
 loop-holds : tie.Need-loop-holds Inv-loop μ-loop
-loop-holds c = (search needs, search needs, scan-start (c .before .args .cells .now) (c .before .args .from))
+loop-holds c = (search needs, search needs, search needs, onward-start (c .before .args .cells .now) (c .before .args .from))
 
-mul-id : tie.Need-mul-id Inv-loop μ-loop
-mul-id c = search needs
+mul-wide : tie.Need-mul-wide Inv-loop μ-loop
+mul-wide c = search needs
 
-shared-slice-read-id : tie.Need-shared-slice-read-id Inv-loop μ-loop
-shared-slice-read-id c = search needs
+shared-slice-read-wide : tie.Need-shared-slice-read-wide Inv-loop μ-loop
+shared-slice-read-wide c = search needs
 
-zeros-requires : tie.Need-zeros-requires Inv-loop μ-loop
-zeros-requires c κs = search needs
-
-sub-result : tie.Need-sub-result Inv-loop μ-loop
-sub-result c = search needs
-
-cast-result : tie.Need-cast-result Inv-loop μ-loop
-cast-result c = search needs
+wide-requires : tie.Need-wide-requires Inv-loop μ-loop
+wide-requires c κs = search needs
 
 returns : tie.Need-returns Inv-loop μ-loop
 returns c =
-    let k = c .before .before .before .before .before in
+    let w = c .before .before in
+    let k = w .before .before .before in
     let a = k .before .before .args in
+    let e = w .wide .ensures .0 in
     sym
-    (k .loop .inv .2
-    ∙ scan-blank (k .loop .last) (k .loop .i - a .from) (take (a .from + rowCells - k .loop .i) (drop (k .loop .i) (a .cells .now)))
-    (sym (c .before .zeros .ensures) ∙ c .if2 .taken))
+    (k .loop .inv .3
+    ∙ onward-falls (a .cells .now) (a .from + rowCells) (k .loop .i) (omega arith) (omega arith) (k .loop .last) (k .loop .count)
+    (λ z. c .before .if1 .left (e ∙ z)) (omega arith))
 
-returns-2 : tie.Need-returns-2 Inv-loop μ-loop
-returns-2 c =
-    let k = c .before .before .before .before .before in
-    let a = k .before .before .args in
-    sym
-    (k .loop .inv .2
-    ∙ scan-zero (a .cells .now) (a .from + rowCells) (k .loop .i) (search needs) (search needs) (k .loop .last) (k .loop .i - a .from) (search needs)
-    (sym (c .before .zeros .ensures) ∙ c .if2 .left))
-
-returns-3 : tie.Need-returns-3 Inv-loop μ-loop
-returns-3 c =
-    let k = c .before .before .before .before in
-    let a = k .before .before .args in
-    sym
-    (k .loop .inv .2
-    ∙ scan-falls (a .cells .now) (a .from + rowCells) (k .loop .i) (search needs) (search needs) (k .loop .last) (k .loop .i - a .from) (search needs) (search needs))
+add-count : tie.Need-add-count Inv-loop μ-loop
+add-count c = search needs
 
 add-i : tie.Need-add-i Inv-loop μ-loop
 add-i c = search needs
@@ -76,29 +59,33 @@ loop-less c = search needs
 
 loop-again : tie.Need-loop-again Inv-loop μ-loop
 loop-again c =
-    let k = c .before .before .before .before in
+    let w = c .before in
+    let k = w .before .before .before in
     let a = k .before .before .args in
-    let e : k .loop .i - a .from + 1 ≡ k .loop .i + 1 - a .from = omega arith in (
-      search needs,
-      search needs,
-      k .loop .inv .2
-          ∙ (scan-rises (a .cells .now) (a .from + rowCells) (k .loop .i) (search needs) (search needs) (k .loop .last) (k .loop .i - a .from) (search needs) (search needs)
-          ∙ ap (λ (n : ℕ). scan (getD (a .cells .now) (k .loop .i) 0) n (take (a .from + rowCells - (k .loop .i + 1)) (drop (k .loop .i + 1) (a .cells .now)))) e),
-    )
+    let e = w .wide .ensures .0 in
+    let rest : List ℕ = take (a .from + rowCells - (k .loop .i + 1)) (drop (k .loop .i + 1) (a .cells .now)) in
+    let turn : (c .if1 .count ≤ k .loop .count + 1)
+    × (onward (k .loop .last) (k .loop .count) (take (a .from + rowCells - k .loop .i) (drop (k .loop .i) (a .cells .now))) ≡ onward (c .if1 .last) (c .if1 .count) rest) =
+    ⊎-elim
+    (λ v. (
+      omega (arith, v .2),
+      onward-zero (a .cells .now) (a .from + rowCells) (k .loop .i) (omega arith) (omega arith) (k .loop .last) (k .loop .count) (sym e ∙ v .0 .taken)
+          ∙ sym (ap₂ (λ (x y : ℕ). onward x y rest) (v .1) (v .2)),
+    ))
+    (λ v. (
+      omega (arith, v .3),
+      onward-rises (a .cells .now) (a .from + rowCells) (k .loop .i) (omega arith) (omega arith) (k .loop .last) (k .loop .count) (λ z. v .0 .left (e ∙ z))
+          (omega (arith, v .1 .left)) (omega arith)
+          ∙ sym (ap₂ (λ (x y : ℕ). onward x y rest) (v .2 ∙ e) (v .3)),
+    ))
+    (c .if1 .came) in
+    (omega arith, omega arith, omega (arith, turn .0), k .loop .inv .3 ∙ turn .1)
 
-cast-result-2 : tie.Need-cast-result-2 Inv-loop μ-loop
-cast-result-2 c = search needs
-
-returns-4 : tie.Need-returns-4 Inv-loop μ-loop
-unfolding blank
-returns-4 c =
+returns-2 : tie.Need-returns-2 Inv-loop μ-loop
+returns-2 c =
     let k = c .before in
     let a = k .before .before .args in
-    let e : k .loop .i - a .from ≡ rowCells = omega arith in
-    sym
-    (k .loop .inv .2
-    ∙ (ap (λ (r : List ℕ). scan (k .loop .last) (k .loop .i - a .from) r) (rest-none (a .cells .now) (a .from + rowCells) (k .loop .i) (search needs))
-    ∙ (scan-blank (k .loop .last) (k .loop .i - a .from) [] refl ∙ e)))
+    sym (k .loop .inv .3 ∙ onward-end (k .loop .last) (k .loop .count) _ (rest-none (a .cells .now) (a .from + rowCells) (k .loop .i) (omega arith)))
 
 pub count-ids-spec : {M : Type 1} → statement M
 count-ids-spec =
@@ -108,16 +95,12 @@ count-ids-spec =
     μ-loop
     add-to
     loop-holds
-    mul-id
-    shared-slice-read-id
-    zeros-requires
-    sub-result
-    cast-result
+    mul-wide
+    shared-slice-read-wide
+    wide-requires
     returns
-    returns-2
-    returns-3
+    add-count
     add-i
     loop-less
     loop-again
-    cast-result-2
-    returns-4)
+    returns-2)
