@@ -1,6 +1,6 @@
 -- The nodes that ids name, by one walk over both: the steps of the walk, and that they are the nodes whose ids stand in the row.
 -- Assumes nothing.
-use Prim.Native.Nat.{ℕ, zero, suc, _+_, _-_, _*_, _^_, _≤_, _<_, min, max}
+use Prim.Native.Nat.{ℕ, suc, _+_, _-_, _*_, _^_, _≤_, _<_, min, max}
 use mathlib.Core.Path.{_≡_, refl, sym, ap, ap₂, _∙_}
 use mathlib.Core.List.{List, [], _∷_}
 use mathlib.Core.Bool.{Bool, true, cond}
@@ -23,8 +23,7 @@ use Rattle.incidence.specs.ModelIncidence.{bitsOf}
 use Rattle.cluster.specs.declared.Node.{Node}
 use Rattle.cluster.proofs.Lists.{mem-head, mem-skip, rising-tail, rising-cons, rising-fresh, rising-above}
 use Rattle.incidence.proofs.TieRows.{id-known}
-use Rattle.masks.specs.ModelMasks.{idCells, namedAt, named}
-use Rattle.masks.proofs.Where.{id-cell}
+use Rattle.masks.specs.ModelMasks.{namedAt, named}
 
 -- ---- the steps
 
@@ -127,19 +126,6 @@ node-done total mask b x v k mask′ h bound inv (inr w) = (
   omega (arith, w .1, ap (λ (n : ℕ). 2 ^ n) (add-one b), pow-suc 2 b),
   omega (arith, w .1, higher b 0 k, inv ∙ ap (λ (d : ℕ). mask + 2 ^ b * (d + 2 * k)) (is-ne (w .0))),
 )
-
--- Nodes whose ids are below the next one are passed.
-module _ (ns : List Node) (ids l : List ℕ) (to i total mask : ℕ) (inside : i < to) (long : to ≤ length l) (some : getD l i 0 ≡ 0 → ⊥)
-    (few : length ns ≤ mostNodes) (same : ids ≡ idCells ns) where
-  pub passed : (d b b′ : ℕ) → b + d ≡ b′ → b′ ≤ length ns → ((e : ℕ) → b ≤ e → e < b′ → getD ids e 0 < getD l i 0)
-      → mask < 2 ^ b → total ≡ mask + 2 ^ b * left ns b l to i → total ≡ mask + 2 ^ b′ * left ns b′ l to i
-  passed zero b b′ e low h bound inv = let q : b ≡ b′ = omega arith in inv ∙ ap (λ (k : ℕ). mask + 2 ^ k * left ns k l to i) q
-  passed (suc d) b b′ e low h bound inv =
-      let below = h b (omega arith) (omega arith) in
-      let done = node-done total mask b (getD l i 0) (getD ids b 0) (left ns (b + 1) l to i) mask (omega arith) bound
-      (inv ∙ ap (λ (n : ℕ). mask + 2 ^ b * n) (left-node ns b l to i inside long (getD ids b 0) (omega arith) (sym (id-cell ns ids b few same (omega arith))) some (omega arith)))
-      (inr ((λ q. omega arith), refl)) in
-      passed d (b + 1) b′ (omega arith) low (λ k a g. h k (omega arith) g) (done .0) (done .1)
 
 -- Where nothing is left, the mask is whole.
 pub walked : (total mask b k : ℕ) → total ≡ mask + 2 ^ b * k → k ≡ 0 → mask ≡ total

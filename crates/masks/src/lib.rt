@@ -1,6 +1,6 @@
 // Between rows of ids in lent cells and sets of nodes, as masks over the indices of a cluster's nodes in use.
 ghost use mathlib.Core.Path.{_≡_};
-ghost use Prim.Native.Nat.{ℕ, _+_, _<_, _≤_};
+ghost use Prim.Native.Nat.{_+_, _≤_};
 ghost use mathlib.Core.List.{List};
 ghost use lib.ListN.{length, take, drop, getD};
 ghost use lib.Dec.{ltb};
@@ -29,24 +29,8 @@ fn ids_of(c: Cluster) -> [u32; Cluster::NODES]
     ids
 }
 
-// The first node from `from` on, of the n whose ids are given, whose id is not below `id`; n where there is none.
-fn seek(ids: &[u32], n: usize, from: usize, id: u32) -> usize
-    requires { ⌜ (from ≤ n) × (n ≤ length (now ids)) ⌝ }
-    ensures { λ r. ⌜ (from ≤ r) × (r ≤ n) × ((b : ℕ) → from ≤ b → b < r → getD (now (ids .entry)) b 0 < id)
-        × (r < n → id ≤ getD (now (ids .entry)) r 0) ⌝ }
-{
-    let mut b = from;
-    while b < n {
-        if id <= ids[b] {
-            return b;
-        }
-        b += 1;
-    }
-    b
-}
-
-// The nodes, of the n whose ids are given, that the ids of the row that starts at cell `from` name: one walk over both. It goes from each id
-// to the next node that can have it, as there are more nodes than ids.
+// The nodes, of the n whose ids are given, that the ids of the row that starts at cell `from` name: one walk over both, each id past the nodes that
+// are not above it.
 fn walk_row(ids: &[u32], n: usize, cells: &[u32], from: usize) -> u32
     requires { ⌜ (n ≤ mostNodes) × (n ≤ length (now ids)) × (from + rowCells ≤ length (now cells)) ⌝ }
     ensures { λ r. ⌜ ((ns : List Node) → n ≡ length ns → now (ids .entry) ≡ idCells ns
@@ -61,16 +45,18 @@ fn walk_row(ids: &[u32], n: usize, cells: &[u32], from: usize) -> u32
         if id == 0 {
             return mask;
         }
-        b = seek(ids, n, b, id);
         loop {
             if n <= b {
                 return mask;
             }
-            if ids[b] != id {
+            let own = ids[b];
+            if id < own {
                 break;
             }
-            mask = sets::with(mask, b as u32);
-            b = seek(ids, n, b + 1, id);
+            if id == own {
+                mask = sets::with(mask, b as u32);
+            }
+            b += 1;
         }
         i += 1;
     }

@@ -1,26 +1,25 @@
 -- `masks::walk_row` meets its contract. The invariant of both loops: the nodes that the row names are those of the mask, and what is left to
--- the walk; of the inner one also that no node from b on is passed by the id.
+-- the walk.
 -- Assumes nothing.
 use borrow.Author.Needs.{needs}
 use native.Mathlib.Omega.{arith}
 use Prim.Native.Nat.{ℕ, _≤_, _<_, _+_, _-_, _*_, _^_}
 use mathlib.Core.Path.{_≡_, refl, sym, ap, _∙_}
 use mathlib.Core.List.{List}
-use mathlib.Core.Logic.{inl}
+use mathlib.Core.Logic.{_⊎_, inl, inr, ⊎-elim}
 use lib.ListN.{length, take, drop, getD}
-use lib.Arith.{lt-of-le-ne}
-use lib.Pow.{pow-mono}
 use Rattle.cluster.specs.Terms.{rowCells, idsIn}
 use Rattle.cluster.specs.declared.Node.{Node}
+use Rattle.sets.specs.ModelBits.{withOf}
 use Rattle.masks.specs.ModelMasks.{idCells, named}
 use Rattle.masks.proofs.Where.{id-cell}
-use Rattle.masks.proofs.Named.{left, left-all, left-end, left-past, left-zero, left-skip, left-node, node-done, passed, walked}
+use Rattle.masks.proofs.Named.{left, left-all, left-end, left-past, left-zero, left-skip, left-node, node-done, walked}
 use Rattle.masks.proofs.walk_row.Statement.{statement}
 use Rattle.masks.proofs.walk_row.Tie as tie
 
 abbrev Inv-loop2 : tie.InvT-loop2
 Inv-loop2 ids n cells from to mask₀ b₀ i id mask b =
-    (b ≤ n) × (mask < 2 ^ b) × (b < n → id ≤ getD ids b 0)
+    (b ≤ n) × (mask < 2 ^ b)
     × ((ns : List Node) → n ≡ length ns → ids ≡ idCells ns → named ns (idsIn (take rowCells (drop from cells))) ≡ mask + 2 ^ b * left ns b cells to i)
 
 abbrev μ-loop2 : tie.MeasureT-loop2
@@ -59,31 +58,19 @@ returns c =
     λ ns m e. walked _ _ (k .loop .b) _ (k .loop .inv .4 ns m e)
     (left-zero ns (k .loop .b) (a .cells .now) (a .from + rowCells) (k .loop .i) (search needs) (search needs) (c .if1 .taken))
 
-seek-requires : tie.Need-seek-requires Inv-loop2 μ-loop2 Inv-loop μ-loop
-seek-requires c κs = search needs
-
 loop2-holds : tie.Need-loop2-holds Inv-loop2 μ-loop2 Inv-loop μ-loop
-loop2-holds c =
-    let k = c .before .before .before .before in
-    let a = k .before .before .before .args in
-    let s = c .seek .ensures in (
-      search needs,
-      omega (arith, pow-mono {i = k .loop .b} {j = c .seek .result} (s .0)),
-      s .3,
-      λ ns m e. passed ns (a .ids .now) (a .cells .now) (a .from + rowCells) (k .loop .i) _ (k .loop .mask) (search needs) (search needs) (c .before .if1 .left)
-          (omega arith) e (c .seek .result - k .loop .b) (k .loop .b) (c .seek .result) (omega arith) (omega arith) (s .2) (k .loop .inv .3) (k .loop .inv .4 ns m e),
-    )
+loop2-holds c = (search needs, search needs, c .before .before .before .loop .inv .4)
 
 returns-2 : tie.Need-returns-2 Inv-loop2 μ-loop2 Inv-loop μ-loop
 returns-2 c =
     let q = c .before in
-    λ ns m e. walked _ _ (q .loop2 .b) _ (q .loop2 .inv .3 ns m e) (left-past ns (q .loop2 .b) _ _ _ (omega arith))
+    λ ns m e. walked _ _ (q .loop2 .b) _ (q .loop2 .inv .2 ns m e) (left-past ns (q .loop2 .b) _ _ _ (omega arith))
 
-mul-if3 : tie.Need-mul-if3 Inv-loop2 μ-loop2 Inv-loop μ-loop
-mul-if3 c = search needs
+mul-own : tie.Need-mul-own Inv-loop2 μ-loop2 Inv-loop μ-loop
+mul-own c = search needs
 
-shared-slice-read-if3 : tie.Need-shared-slice-read-if3 Inv-loop2 μ-loop2 Inv-loop μ-loop
-shared-slice-read-if3 c = search needs
+shared-slice-read-own : tie.Need-shared-slice-read-own Inv-loop2 μ-loop2 Inv-loop μ-loop
+shared-slice-read-own c = search needs
 
 cast-with : tie.Need-cast-with Inv-loop2 μ-loop2 Inv-loop μ-loop
 cast-with c = search needs
@@ -91,36 +78,29 @@ cast-with c = search needs
 with-requires : tie.Need-with-requires Inv-loop2 μ-loop2 Inv-loop μ-loop
 with-requires c κs = search needs
 
-add-seek : tie.Need-add-seek Inv-loop2 μ-loop2 Inv-loop μ-loop
-add-seek c = search needs
-
-seek-requires-2 : tie.Need-seek-requires-2 Inv-loop2 μ-loop2 Inv-loop μ-loop
-seek-requires-2 c κs = search needs
+add-b : tie.Need-add-b Inv-loop2 μ-loop2 Inv-loop μ-loop
+add-b c = search needs
 
 loop2-less : tie.Need-loop2-less Inv-loop2 μ-loop2 Inv-loop μ-loop
 loop2-less c = search needs
 
 loop2-again : tie.Need-loop2-again Inv-loop2 μ-loop2 Inv-loop μ-loop
 loop2-again c =
-    let q = c .before .before .before .before .before in
-    let k = q .before .before .before .before .before in
+    let q = c .before .before .before .before in
+    let k = q .before .before .before .before in
     let a = k .before .before .before .args in
-    let s = c .seek2 .ensures in
     let id = getD (a .cells .now) (k .loop .i) 0 in
     let v = getD (a .ids .now) (q .loop2 .b) 0 in
-    let same : id ≡ v = omega (arith, c .before .before .if3 .left) in
-    let bound = node-done _ (q .loop2 .mask) (q .loop2 .b) id v 0 (c .before .with .result) (omega arith) (q .loop2 .inv .1) refl (inl (same, c .before .with .ensures)) .0 in (
+    let took : ((id ≡ v) × (c .if4 .mask ≡ withOf (q .loop2 .mask) (q .loop2 .b))) ⊎ ((id ≡ v → ⊥) × (c .if4 .mask ≡ q .loop2 .mask)) =
+    ⊎-elim (λ w. inl (w .0 .taken, w .2 ∙ w .1 .ensures)) (λ w. inr (w .0 .left, w .1)) (c .if4 .came) in (
       search needs,
-      omega (arith, pow-mono {i = q .loop2 .b + 1} {j = c .seek2 .result} (s .0)),
-      s .3,
-      λ ns m e. passed ns (a .ids .now) (a .cells .now) (a .from + rowCells) (k .loop .i) _ (c .before .with .result) (omega arith) (omega arith) (q .before .before .if1 .left)
-          (omega arith) e (c .seek2 .result - (q .loop2 .b + 1)) (q .loop2 .b + 1) (c .seek2 .result) (omega arith) (omega arith) (s .2) bound
-          (node-done _ (q .loop2 .mask) (q .loop2 .b) id v _ (c .before .with .result) (omega arith) (q .loop2 .inv .1)
-          (q .loop2 .inv .3 ns m e
+      node-done _ (q .loop2 .mask) (q .loop2 .b) id v 0 (c .if4 .mask) (omega arith) (q .loop2 .inv .1) refl took .0,
+      λ ns m e. node-done _ (q .loop2 .mask) (q .loop2 .b) id v _ (c .if4 .mask) (omega arith) (q .loop2 .inv .1)
+          (q .loop2 .inv .2 ns m e
           ∙ ap (λ (n : ℕ). q .loop2 .mask + 2 ^ (q .loop2 .b) * n)
           (left-node ns (q .loop2 .b) (a .cells .now) (a .from + rowCells) (k .loop .i) (omega arith) (omega arith) v (omega arith)
-          (sym (id-cell ns (a .ids .now) (q .loop2 .b) (omega arith) e (omega arith))) (q .before .before .if1 .left) (omega arith)))
-          (inl (same, c .before .with .ensures)) .1),
+          (sym (id-cell ns (a .ids .now) (q .loop2 .b) (omega arith) e (omega arith))) (q .before .if1 .left) (omega arith)))
+          took .1,
     )
 
 add-i : tie.Need-add-i Inv-loop2 μ-loop2 Inv-loop μ-loop
@@ -132,17 +112,16 @@ loop-less c = search needs
 loop-again : tie.Need-loop-again Inv-loop2 μ-loop2 Inv-loop μ-loop
 loop-again c =
     let q = c .before .before .before in
-    let k = q .before .before .before .before .before in
-    let a = k .before .before .before .args in
-    let above : getD (a .cells .now) (k .loop .i) 0 < getD (a .ids .now) (q .loop2 .b) 0 = lt-of-le-ne (q .loop2 .inv .2 (omega arith)) (λ w. c .if3 .taken (sym w)) in (
+    let k = q .before .before .before .before in
+    let a = k .before .before .before .args in (
       search needs,
       search needs,
       search needs,
       search needs,
-      λ ns m e. q .loop2 .inv .3 ns m e
+      λ ns m e. q .loop2 .inv .2 ns m e
           ∙ ap (λ (n : ℕ). q .loop2 .mask + 2 ^ (q .loop2 .b) * n)
           (left-skip ns (q .loop2 .b) (a .cells .now) (a .from + rowCells) (k .loop .i) (search needs) (search needs)
-          _ (omega arith) (sym (id-cell ns (a .ids .now) (q .loop2 .b) (omega arith) e (omega arith))) (q .before .before .if1 .left) above),
+          _ (omega arith) (sym (id-cell ns (a .ids .now) (q .loop2 .b) (omega arith) e (omega arith))) (q .before .if1 .left) (omega arith)),
     )
 
 returns-3 : tie.Need-returns-3 Inv-loop2 μ-loop2 Inv-loop μ-loop
@@ -163,15 +142,13 @@ walk-row-spec =
     mul-id
     shared-slice-read-id
     returns
-    seek-requires
     loop2-holds
     returns-2
-    mul-if3
-    shared-slice-read-if3
+    mul-own
+    shared-slice-read-own
     cast-with
     with-requires
-    add-seek
-    seek-requires-2
+    add-b
     loop2-less
     loop2-again
     add-i
