@@ -3,13 +3,14 @@
 use mathlib.Core.Path.{_≡_, refl}
 use mathlib.Core.List.{[], _∷_}
 use Rattle.sums.specs.TermsSums.{one-if, tab}
+use Rattle.sums.specs.ModelSums.{firstFrom}
 use Rattle.cluster.specs.Terms.{mem, usable}
 use Rattle.cluster.proofs.Examples.{A, E, K, row124}
-use Rattle.incidence.specs.ModelIncidence.{firstIndex, zoneIndex, capAt, incidence, idsWhere, layoutOf}
+use Rattle.incidence.specs.ModelIncidence.{zoneIndex, capAt, incidence, idsWhere, layoutOf}
 
 -- Node 3 of K lies in the zone that node 1 (index 0) names, and node 4 in a zone of its own.
 zone-index-K : tab (zoneIndex K) 4 ≡ 0 ∷ 0 ∷ 0 ∷ 3 ∷ []
-unfolding tab zoneIndex firstIndex
+unfolding tab zoneIndex firstFrom
 zone-index-K = refl
 
 -- The caps of E at size 5: 10 / 5, and 4 / 5.

@@ -3,7 +3,7 @@
 use Prim.Native.Nat.{ℕ, zero, suc, _+_, _*_, _≤_, _<_, min}
 use mathlib.Core.Path.{_≡_, refl, sym, ap, ap₂, _∙_}
 use mathlib.Core.List.{List, [], _∷_}
-use mathlib.Core.Bool.{Bool, true, false, not, false≢true, cond}
+use mathlib.Core.Bool.{Bool, true, false, not, cond}
 use mathlib.Core.Logic.{_⊎_, inl, inr, ⊎-elim}
 use native.Mathlib.Nat.{mul-zero}
 use native.Mathlib.Omega.{arith}
@@ -11,29 +11,14 @@ use lib.Dec.{eqb}
 use lib.ListN.{length, getD}
 use borrow.Author.Tests.{eqb-true, eq-eqb}
 use Rattle.sums.specs.TermsSums.{sumTo, one-if}
-use Rattle.sums.specs.ModelSums.{is}
+use Rattle.sums.specs.ModelSums.{is, firstFrom}
+use Rattle.sums.proofs.First.{first-passes}
 use Rattle.sums.proofs.Sum.{eq-or-ne, is-eq, is-ne, is-cases, sum-cong, sum-zero, sum-add, sum-is, sum-first}
 use Rattle.exchange.specs.ModelRow.{zoneCount, cover}
 use Rattle.cluster.specs.Terms.{Topology, noNode, nodeAt, mem, different, zonesNamed, zonesOf}
-use Rattle.incidence.specs.ModelIncidence.{firstIndex, zoneIndex, bitsOf}
+use Rattle.incidence.specs.ModelIncidence.{zoneIndex, bitsOf}
 use Rattle.cluster.specs.declared.Node.{Node}
 use Rattle.cluster.proofs.Lists.{mem-head, mem-skip, mem-tail, mem-none, mem-cases}
-
--- The first index of which a test holds, where it holds of some k: below the bound, passes the test, and is at most k.
-pub first-passes : (n : ℕ) (f : ℕ → Bool) (k : ℕ) → k < n → f k ≡ true
-    → (firstIndex n f < n) × (f (firstIndex n f) ≡ true) × (firstIndex n f ≤ k)
-unfolding firstIndex
-first-passes zero f k h e = absurd (omega arith)
-first-passes (suc n) f k h e = go (f 0) refl k h e (first-passes n (λ i. f (suc i)))
-  where
-    go : (t : Bool) → f 0 ≡ t → (j : ℕ) → j < suc n → f j ≡ true
-        → ((i : ℕ) → i < n → f (suc i) ≡ true
-        → (firstIndex n (λ c. f (suc c)) < n) × (f (suc (firstIndex n (λ c. f (suc c)))) ≡ true) × (firstIndex n (λ c. f (suc c)) ≤ i))
-        → (cond t 0 (suc (firstIndex n (λ c. f (suc c)))) < suc n) × (f (cond t 0 (suc (firstIndex n (λ c. f (suc c))))) ≡ true)
-        × (cond t 0 (suc (firstIndex n (λ c. f (suc c)))) ≤ j)
-    go true q j l s r = (omega arith, q, omega arith)
-    go false q zero l s r = absurd (false≢true (sym q ∙ s))
-    go false q (suc j) l s r = let w = r j (omega arith) s in (omega (arith, w .0), w .1, omega (arith, w .2))
 
 module _ (t : Topology) where
   -- The first node of a zone lies in it, is a node, and is no later than any node of it.
@@ -41,7 +26,7 @@ module _ (t : Topology) where
       → (zoneIndex t b < length (t .nodes)) × (nodeAt t (zoneIndex t b) .zone ≡ nodeAt t b .zone) × (zoneIndex t b ≤ b)
   unfolding zoneIndex
   zone-first b h =
-      let w = first-passes (length (t .nodes)) (λ c. eqb (nodeAt t c .zone) (nodeAt t b .zone)) b h
+      let w = first-passes (λ c. eqb (nodeAt t c .zone) (nodeAt t b .zone)) (length (t .nodes)) b h
       (eq-eqb (nodeAt t b .zone) (nodeAt t b .zone) refl) in
       (w .0, eqb-true (nodeAt t (zoneIndex t b) .zone) (nodeAt t b .zone) (w .1), w .2)
 
@@ -52,7 +37,7 @@ module _ (t : Topology) where
   -- Nodes of one zone have one zone index.
   pub zone-same : (a b : ℕ) → nodeAt t a .zone ≡ nodeAt t b .zone → zoneIndex t a ≡ zoneIndex t b
   unfolding zoneIndex
-  zone-same a b e = ap (λ (v : ℕ). firstIndex (length (t .nodes)) (λ c. eqb (nodeAt t c .zone) v)) e
+  zone-same a b e = ap (λ (v : ℕ). firstFrom (λ c. eqb (nodeAt t c .zone) v) (length (t .nodes)) 0) e
 
   -- Nodes of one zone index have one zone.
   pub same-zone : (a b : ℕ) → a < length (t .nodes) → b < length (t .nodes) → zoneIndex t a ≡ zoneIndex t b → nodeAt t a .zone ≡ nodeAt t b .zone

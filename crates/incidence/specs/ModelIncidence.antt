@@ -1,24 +1,20 @@
 -- Between the terms and the theory of exchanges: a layout of ids as 0/1 rows of node indices, and back. Nobody has to believe this file:
 -- the theorems of proofs/ say what it achieves.
 -- Assumes nothing.
-use Prim.Native.Nat.{ℕ, zero, suc, _/_, min}
+use Prim.Native.Nat.{ℕ, suc, _/_, min}
 use mathlib.Core.List.{List, [], _∷_}
-use mathlib.Core.Bool.{Bool, cond}
+use mathlib.Core.Bool.{cond}
 use lib.Dec.{eqb}
 use lib.ListN.{length, getD, replicate}
 use Rattle.sums.specs.TermsSums.{one-if, tab}
+use Rattle.sums.specs.ModelSums.{firstFrom}
 use Rattle.cells.specs.ModelCells.{put}
 use Rattle.cluster.specs.Terms.{mostNodes, Topology, partitions, noNode, nodeAt, Layout, row, mem, usable}
 use Rattle.cluster.specs.declared.Node.{Node}
 
--- The first index below n of which a test holds; n where there is none.
-unfoldable pub firstIndex : ℕ → (ℕ → Bool) → ℕ
-firstIndex zero f = 0
-firstIndex (suc n) f = cond (f 0) 0 (suc (firstIndex n (λ i. f (suc i))))
-
 -- The zone of node b as an index: the first node of the same zone.
 unfoldable pub zoneIndex : Topology → ℕ → ℕ
-zoneIndex t b = firstIndex (length (t .nodes)) (λ c. eqb (nodeAt t c .zone) (nodeAt t b .zone))
+zoneIndex t b = firstFrom (λ c. eqb (nodeAt t c .zone) (nodeAt t b .zone)) (length (t .nodes)) 0
 
 -- The most copies that node b may hold at size s. The one place that knows of capacities.
 unfoldable pub capAt : Topology → ℕ → ℕ → ℕ

@@ -72,6 +72,13 @@ first-cong t s (suc n) i h = rw (h i (omega arith) (omega arith), first-cong t s
 pub first-lt : (t : ℕ → Bool) (n i : ℕ) → i < n → t i ≡ true → firstFrom t n 0 < n
 first-lt t n i l e = ⊎-elim (λ h. omega (arith, h .1)) (λ h. absurd (false≢true (sym (h .1 i (omega arith) (omega arith)) ∙ e))) (first-cases t n 0)
 
+-- It passes the test then, and is no later.
+pub first-passes : (t : ℕ → Bool) (n k : ℕ) → k < n → t k ≡ true → (firstFrom t n 0 < n) × (t (firstFrom t n 0) ≡ true) × (firstFrom t n 0 ≤ k)
+first-passes t n k l e =
+    ⊎-elim
+    (λ h. (omega (arith, h .1), h .2, ⊎-elim (λ g. absurd (false≢true (sym (h .3 k (omega arith) g) ∙ e))) (λ g. g) (lt-or-ge k (firstFrom t n 0))))
+    (λ h. absurd (false≢true (sym (h .1 k (omega arith) (omega arith)) ∙ e))) (first-cases t n 0)
+
 -- ---- one index after the other
 
 module _ (t : ℕ → Bool) (n i : ℕ) where

@@ -1,6 +1,5 @@
 -- `walks::allows` meets its contract. Assumes nothing.
 use borrow.Author.Needs.{needs}
-use native.Mathlib.Omega.{arith}
 use Rattle.walks.proofs.Steps.{ok-at}
 use Rattle.walks.proofs.allows.Statement.{statement}
 use Rattle.walks.proofs.allows.Tie as tie

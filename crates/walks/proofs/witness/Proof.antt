@@ -1,6 +1,5 @@
 -- `walks::witness` meets its contract. Assumes nothing.
 use borrow.Author.Needs.{needs}
-use native.Mathlib.Omega.{arith}
 use native.Mathlib.Nat.{sub-zero}
 use Rattle.walks.specs.ModelWalks.{suitsAt, witnessOf}
 use Rattle.sums.specs.ModelSums.{firstFrom}
