@@ -156,22 +156,22 @@ impl<'a> Overview<'a> {
         let size = u64::from(self.plan.size);
         let (partition, unit) = (thousands(size), self.unit());
         let (all, name) = (unit.of(size << self.plan.bits), unit.name);
-        let free = self.free();
         match self.hope {
             Some(hope) => format!(
                 "Size: each partition may grow to {partition} MB, all data to {all} {name}; used is \
-                 what it takes then.\n{free}\
+                 what it takes then.\n{}\
                  Hope: with nothing lost to rounding and zones it would be {} MB a partition.\n",
+                self.free(),
                 thousands(hope)
             ),
             None => format!(
                 "Size: it was planned for partitions of {partition} MB, {all} {name} of data in all; \
-                 used is what that takes.\n{free}"
+                 used is what that takes.\n"
             ),
         }
     }
 
-    /// Why no disk is full; nothing where each is too small to lose a part.
+    /// Why a valid layout fills no disk; nothing where each is too small to lose a part.
     fn free(&self) -> &'static str {
         let loses = |line: &BoxLine| line.held.usable < line.held.capacity;
         match self.boxes.iter().any(loses) {
