@@ -5,81 +5,20 @@ ghost use lib.ListN.{length};
 use layout_head::Numbers;
 use libc::STDOUT_FILENO;
 
-// A record of 55 bytes: two partitions, two copies, size 25, sent 4, finished, no improvements, rows 1 2 and 2 3.
+// A record of 55 bytes, a line for each field: two partitions, two copies, size 25, sent 4, finished, no improvements, rows 1 2 and 2 3.
 // A third row stands after it.
 fn sample() -> [u8; 68]
     ensures { λ r. ⌜ 68 ≡ length r ⌝ }
 {
-    [
-        1,
-        0,
-        1,
-        1,
-        2,
-        0,
-        1,
-        2,
-        6,
-        0,
-        4,
-        0,
-        0,
-        0,
-        25,
-        7,
-        0,
-        2,
-        0,
-        4,
-        8,
-        0,
-        1,
-        1,
-        9,
-        0,
-        2,
-        0,
-        0,
-        10,
-        0,
-        10,
-        0,
-        0,
-        0,
-        0,
-        0,
-        1,
-        0,
-        0,
-        0,
-        2,
-        10,
-        0,
-        10,
-        0,
-        1,
-        0,
-        0,
-        0,
-        2,
-        0,
-        0,
-        0,
-        3,
-        10,
-        0,
-        10,
-        0,
-        2,
-        0,
-        0,
-        0,
-        3,
-        0,
-        0,
-        0,
-        4,
-    ]
+    *b"\x01\x00\x01\x01\
+       \x02\x00\x01\x02\
+       \x06\x00\x04\x00\x00\x00\x19\
+       \x07\x00\x02\x00\x04\
+       \x08\x00\x01\x01\
+       \x09\x00\x02\x00\x00\
+       \x0a\x00\x0a\x00\x00\x00\x00\x00\x01\x00\x00\x00\x02\
+       \x0a\x00\x0a\x00\x01\x00\x00\x00\x02\x00\x00\x00\x03\
+       \x0a\x00\x0a\x00\x02\x00\x00\x00\x03\x00\x00\x00\x04"
 }
 
 // Its numbers.
