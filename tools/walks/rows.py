@@ -43,7 +43,7 @@ use lib.ListN.{{length}}
 use Rattle.fields.specs.RecordField.{{numberAt, idsAt, Within, Whole, refusalOf, placeOf}}
 use Rattle.cluster.specs.Terms.{{mostBits, mostCopies, rowCells, bufferRows, layoutCells, Layout, cellsOf}}
 use Rattle.cluster.proofs.Accepting.{{partitions-in-range}}
-use Rattle.cluster.proofs.CellLayouts.{{length-cellsOf}}
+use Rattle.cell_rows.proofs.CellLayouts.{{length-cellsOf}}
 use Rattle.{BELOW}.specs.declared.Numbers.{{Numbers}}
 use {SPECS}.declared.ReadLayout.{{ReadLayout}}
 use Rattle.{BELOW}.specs.RecordHeadFaults.{{nextField}}

@@ -1,6 +1,3 @@
-pub mod CellLayouts
-pub mod CellRows
-pub mod RowScans
 pub mod Scans
 pub mod Accepting
 pub mod Lists

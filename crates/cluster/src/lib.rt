@@ -6,7 +6,6 @@ ghost use Rattle.cluster.specs.Terms.{mostBits, bufferRows, usable, take
 
 mod faults;
 pub mod refusal;
-pub mod rows;
 
 // A node ("box" in the papers): one storage box of the cluster.
 pub struct Node {

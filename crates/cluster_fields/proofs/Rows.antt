@@ -11,7 +11,7 @@ use Rattle.sums.proofs.Sum.{lt-or-ge}
 use Rattle.cells.specs.ModelCells.{put}
 use Rattle.cells.proofs.Cells.{length-put, getD-put-in, getD-put-out}
 use Rattle.cluster.specs.Terms.{mostCopies, rowCells, bufferRows, layoutCells, Layout, row, cellsOf}
-use Rattle.cluster.proofs.CellLayouts.{length-cellsOf, getD-cellsOf}
+use Rattle.cell_rows.proofs.CellLayouts.{length-cellsOf, getD-cellsOf}
 use Rattle.fields.specs.RecordField.{numberAt, rowWidth, idsAt}
 use Rattle.cluster_fields.specs.RecordClusterFaults.{Item, itemIn, upTo, formerWith}
 use Rattle.cluster_fields.proofs.Items.{item-five}

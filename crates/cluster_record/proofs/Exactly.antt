@@ -8,10 +8,10 @@ use native.Mathlib.Omega.{arith}
 use lib.Dec.{ltb}
 use lib.ListN.{length, drop}
 use Rattle.cluster.specs.Terms.{mostNodes, layoutCells, Topology, topology, partitions, Layout, IsFormer, cellsOf, rowsIn}
-use Rattle.cluster.specs.ModelRows.{FitsCells}
 use Rattle.cluster.specs.TermsReading.{Accepted, slotsOf}
 use Rattle.cluster.proofs.Accepting.{no-fault, few-partitions}
-use Rattle.cluster.proofs.CellLayouts.{rowsIn-written}
+use Rattle.cell_rows.specs.ModelRows.{FitsCells}
+use Rattle.cell_rows.proofs.CellLayouts.{rowsIn-written}
 use Rattle.fields.specs.RecordField.{Bytes}
 use Rattle.fields.proofs.RecordField.{whole, refused-some}
 use Rattle.cluster_record.specs.declared.ReadCluster.{ReadCluster}

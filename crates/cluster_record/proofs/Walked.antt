@@ -10,7 +10,7 @@ use lib.Dec.{ltb}
 use Rattle.cluster.specs.Terms.{mostBits, mostCopies, mostNodes, bufferRows, layoutCells, Topology, topology, partitions, Layout, cellsOf}
 use Rattle.cluster.specs.declared.Cluster.{Cluster}
 use Rattle.cluster.specs.TermsReading.{noNodes, slotsOf}
-use Rattle.cluster.proofs.CellLayouts.{length-cellsOf}
+use Rattle.cell_rows.proofs.CellLayouts.{length-cellsOf}
 use Rattle.fields.specs.RecordField.{numberAt, rowWidth, fieldAt, Whole, nodeAtByte, idsAt}
 use Rattle.fields.specs.declared.Field.the-variants.{Body, Refused}
 use Rattle.fields.proofs.RecordField.{whole, refused-some}

@@ -11,7 +11,7 @@ use Rattle.sums.proofs.Sum.{lt-or-ge}
 use Rattle.cells.specs.ModelCells.{put}
 use Rattle.cells.proofs.Cells.{length-put, getD-put-in, getD-put-out}
 use Rattle.cluster.specs.Terms.{rowCells, bufferRows, layoutCells, Layout, row, cellsOf}
-use Rattle.cluster.proofs.CellLayouts.{length-cellsOf, getD-cellsOf}
+use Rattle.cell_rows.proofs.CellLayouts.{length-cellsOf, getD-cellsOf}
 
 -- The rows of a layout with one more.
 module _ (L : Layout) (r : List ℕ) where

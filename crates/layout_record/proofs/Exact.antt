@@ -11,9 +11,9 @@ use lib.ListN.{length, take, drop, getD, length-append, length-take, List·getD-
 use lib.Seq.{take-at}
 use Rattle.sums.proofs.Sum.{lt-or-ge}
 use Rattle.cluster.specs.Terms.{rowCells, bufferRows, layoutCells, Layout, row, rising, cellsOf, rowAt, idsIn, formed, blank, rowsIn}
-use Rattle.cluster.specs.ModelRows.{FitsCells, HoldsRows}
-use Rattle.cluster.proofs.CellRows.{formed-rising, rising-ids}
-use Rattle.cluster.proofs.CellLayouts.{getD-rowAt, rowAt-take, length-rowsIn, row-rowsIn, length-cellsOf, rowAt-cellsOf, rowsIn-take, rowsIn-cellsOf, holds-cellsOf, id-rowsIn, cellsOf-rowsIn}
+use Rattle.cell_rows.specs.ModelRows.{FitsCells, HoldsRows}
+use Rattle.cell_rows.proofs.CellRows.{formed-rising, rising-ids}
+use Rattle.cell_rows.proofs.CellLayouts.{getD-rowAt, rowAt-take, length-rowsIn, row-rowsIn, length-cellsOf, rowAt-cellsOf, rowsIn-take, rowsIn-cellsOf, holds-cellsOf, id-rowsIn, cellsOf-rowsIn}
 use Rattle.fields.specs.RecordField.{Bytes, over}
 use Rattle.layout_head.specs.declared.Numbers.{Numbers}
 use Rattle.layout_record.specs.declared.ReadLayout.{ReadLayout}

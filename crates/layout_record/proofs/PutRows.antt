@@ -10,8 +10,8 @@ use native.Mathlib.Omega.{arith}
 use lib.ListN.{length, take, drop, replicate, length-append, length-drop}
 use lib.Seq.{take-at, take-take, length-take-le}
 use Rattle.cluster.specs.Terms.{rowCells, bufferRows, Layout, rowAt, idsIn, formedFrom, formed, rowsIn}
-use Rattle.cluster.proofs.CellRows.{formed-cells}
-use Rattle.cluster.proofs.CellLayouts.{length-rowsIn, row-rowsIn}
+use Rattle.cell_rows.proofs.CellRows.{formed-cells}
+use Rattle.cell_rows.proofs.CellLayouts.{length-rowsIn, row-rowsIn}
 use Rattle.fields.specs.RecordField.{bytesOf, written, over, idBytes}
 use Rattle.fields.proofs.Numbers.{length-bytes}
 use Rattle.fields.proofs.Written.{written-over, length-written}

@@ -12,9 +12,9 @@ use lib.ListN.{length}
 use borrow.Author.Tests.{le-leb, lt-leb, lt-ltb, le-ltb, eq-eqb, ne-eqb, eqb-true}
 use Rattle.sums.proofs.Sum.{lt-or-ge}
 use Rattle.cluster.specs.Terms.{mostCopies, bufferRows, layoutCells, Layout, mem, rising, rowAt, idsIn, blank, formed}
-use Rattle.cluster.specs.ModelRows.{rowIds, rowIsBlank}
+use Rattle.cell_rows.specs.ModelRows.{rowIds, rowIsBlank}
 use Rattle.sums.proofs.Tests.{both, true-or-false}
-use Rattle.cluster.proofs.RowScans.{formed-row-ids, ill-row-ids, row-of-buffer}
+use Rattle.cell_rows.proofs.RowScans.{formed-row-ids, ill-row-ids, row-of-buffer}
 use Rattle.fields.specs.RecordField.{fieldAt, refusalOf, placeOf}
 use Rattle.layout_head.specs.declared.Numbers.{Numbers}
 use Rattle.layout_head.specs.RecordHead.{inRange}

@@ -7,7 +7,6 @@ ghost use Rattle.layout_record.specs.RecordLayout.{recordLength};
 ghost use Rattle.layout_record.specs.RecordLayoutFaults.{rowFits, rowsFit, writeFault};
 use cluster::Cluster;
 use cluster::refusal;
-use cluster::rows;
 use layout_head::Numbers;
 use layout_head::table;
 
@@ -28,9 +27,9 @@ fn row_fits(cells: &[u32], partitions: usize, replication: u32, p: usize) -> boo
     ensures { λ r. ⌜ r ≡ rowFits (now (cells .entry)) partitions replication p ⌝ }
 {
     if p < partitions {
-        return rows::row_ids(cells, p) == replication;
+        return cell_rows::row_ids(cells, p) == replication;
     }
-    rows::row_is_blank(cells, p)
+    cell_rows::row_is_blank(cells, p)
 }
 
 // Whether every row is.

@@ -9,11 +9,11 @@ use native.Mathlib.Omega.{arith}
 use lib.ListN.{length}
 use Rattle.sums.proofs.Sum.{lt-or-ge}
 use Rattle.cluster.specs.Terms.{bufferRows, Topology, topology, partitions, nodeAt, Layout, ValidRow, ValidAt, cellsOf, rowAt, idsIn, blank, formed, rowsIn}
-use Rattle.cluster.specs.ModelRows.{FitsCells, HoldsRows}
 use Rattle.cluster.specs.TermsReading.{Accepted}
 use Rattle.cluster.specs.declared.Cluster.{Cluster}
 use Rattle.cluster.proofs.Accepting.{few-partitions, accepted}
-use Rattle.cluster.proofs.CellLayouts.{length-rowsIn, row-rowsIn, rowAt-take, rowsIn-take, rowsIn-cellsOf, holds-cellsOf, cellsOf-rowsIn}
+use Rattle.cell_rows.specs.ModelRows.{FitsCells, HoldsRows}
+use Rattle.cell_rows.proofs.CellLayouts.{length-rowsIn, row-rowsIn, rowAt-take, rowsIn-take, rowsIn-cellsOf, holds-cellsOf, cellsOf-rowsIn}
 use Rattle.layouts.specs.declared.check.Checked.{Checked}
 use Rattle.layouts.specs.TermsCheck.{fault, Passes, rowFault, rowsFault, nodeFault, nodesFault, checkOf}
 use Rattle.layouts.proofs.FaultMeaning.{own-row, row-own, other-row, row-other, node-held, held-node, each-row}

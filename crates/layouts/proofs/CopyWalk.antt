@@ -12,7 +12,7 @@ use Rattle.cells.proofs.Cells.{length-tab, getD-tab, tab-cong, tab-more}
 use Rattle.sets.specs.ModelBits.{bit}
 use Rattle.cluster.specs.Terms.{mostNodes, Topology, nodeAt, mem, Layout, copiesIn, rowAt, idsIn, rowsIn}
 use Rattle.sums.proofs.Tests.{one-if-le}
-use Rattle.cluster.proofs.CellLayouts.{length-rowsIn}
+use Rattle.cell_rows.proofs.CellLayouts.{length-rowsIn}
 use Rattle.layouts.specs.ModelScans.{rowNodes, copiesSoFar}
 use Rattle.layouts.proofs.RowWalks.{bit-nodes}
 

@@ -13,7 +13,7 @@ use Rattle.cluster.proofs.Accepting.{few-partitions}
 use Rattle.cluster.specs.Terms.{usable, takes, bufferRows, Topology, partitions, nodeAt, idsOf, zonesOf, Layout, copiesIn, ValidRow, onlyIn, rowAt, idsIn, blank, formed}
 use Rattle.cluster.specs.TermsReading.{Accepted}
 use Rattle.sums.proofs.Tests.{both}
-use Rattle.cluster.proofs.CellRows.{formed-rising}
+use Rattle.cell_rows.proofs.CellRows.{formed-rising}
 use Rattle.layouts.specs.TermsCheck.{fault, rightIds, rowFault, rowsFault, nodeFault}
 use Rattle.layouts.proofs.RowFaults.{only-none, none-only}
 use Rattle.layouts.proofs.CheckOrder.{none-found}

@@ -13,13 +13,13 @@ use Rattle.sums.specs.TermsSums.{sumTo, one-if}
 use Rattle.sets.specs.ModelBits.{countOf}
 use Rattle.sets.proofs.Laws.{count-mask}
 use Rattle.cluster.specs.Terms.{bufferRows, layoutCells, Topology, partitions, nodeAt, idsOf, mem, rising, onlyIn, zonesOf, rowAt, idsIn, formed}
-use Rattle.cluster.specs.ModelRows.{rowIds, rowIsBlank}
 use Rattle.cluster.specs.TermsReading.{Accepted}
+use Rattle.cell_rows.specs.ModelRows.{rowIds, rowIsBlank}
 use Rattle.incidence.specs.ModelIncidence.{bitsOf, zoneCells}
 use Rattle.sums.proofs.Tests.{true-or-false, one-if-le}
-use Rattle.cluster.proofs.CellRows.{formed-rising}
-use Rattle.cluster.proofs.RowScans.{row-ids-formed, formed-row-ids, row-of-buffer}
 use Rattle.cluster.proofs.Lists.{same-test, mem-head, mem-tail, mem-none, mem-cases, over-common, only-or-common}
+use Rattle.cell_rows.proofs.CellRows.{formed-rising}
+use Rattle.cell_rows.proofs.RowScans.{row-ids-formed, formed-row-ids, row-of-buffer}
 use Rattle.incidence.proofs.TieRows.{over-ids}
 use Rattle.masks.specs.ModelMasks.{rowMask}
 use Rattle.masks.proofs.Laws.{mask-bits}

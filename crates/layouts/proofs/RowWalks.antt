@@ -20,7 +20,7 @@ use Rattle.cluster.specs.Terms.{mostNodes, Topology, noNode, nodeAt, mem, zones
 use Rattle.incidence.specs.ModelIncidence.{zoneIndex, bitsOf, zoneCells}
 use Rattle.cluster.specs.declared.Node.{Node}
 use Rattle.sums.proofs.Tests.{one-if-le}
-use Rattle.cluster.proofs.CellRows.{ids-more}
+use Rattle.cell_rows.proofs.CellRows.{ids-more}
 use Rattle.incidence.proofs.TieZones.{zones-cover, zone-below}
 use Rattle.incidence.proofs.Columns.{cell-column}
 use Rattle.layouts.specs.ModelScans.{rowNodes, zonesIn}

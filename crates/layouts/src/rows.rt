@@ -8,7 +8,6 @@ ghost use Rattle.layouts.specs.TermsCheck.{rowFault};
 ghost use Rattle.layouts.specs.ModelScans.{zonesIn};
 use cluster::Cluster;
 use cluster::refusal;
-use cluster::rows;
 
 // The set of the zones of a set of nodes.
 fn zones_in(zones: [u32; Cluster::NODES], nodes: u32) -> u32
@@ -30,7 +29,7 @@ fn own_row_fault(c: Cluster, zones: [u32; Cluster::NODES], cells: &[u32], p: usi
     requires { ⌜ (faultOf c ≡ 0) × (zones ≡ zoneCells (topology c)) × (p < partitions (topology c)) × (layoutCells ≤ length (now cells)) ⌝ }
     ensures { λ r. ⌜ r ≡ rowFault (topology c) (now (cells .entry)) p ⌝ }
 {
-    if rows::row_ids(cells, p) != c.replication {
+    if cell_rows::row_ids(cells, p) != c.replication {
         return refusal::ROW;
     }
     let nodes = masks::row_mask(c, cells, p);
@@ -51,7 +50,7 @@ pub(crate) fn row_fault(c: Cluster, zones: [u32; Cluster::NODES], cells: &[u32],
     if p < cluster::partitions(c.bits) {
         return own_row_fault(c, zones, cells, p);
     }
-    if rows::row_is_blank(cells, p) {
+    if cell_rows::row_is_blank(cells, p) {
         0
     } else {
         refusal::ROW

@@ -16,13 +16,13 @@ use Rattle.sets.specs.ModelBits.{bit, maskOf}
 use Rattle.sets.proofs.Laws.{bit-le}
 use Rattle.cells.proofs.Cells.{tab-cong}
 use Rattle.cluster.specs.Terms.{rowCells, bufferRows, layoutCells, Topology, partitions, idsOf, rising, Layout, IsFormer, cellsOf, rowAt, idsIn, formed, rowsIn}
-use Rattle.cluster.specs.ModelRows.{HoldsRows, illFormed, hasRow, rowIds}
+use Rattle.cell_rows.specs.ModelRows.{HoldsRows, illFormed, hasRow, rowIds}
 use Rattle.incidence.specs.ModelIncidence.{bitsOf, idsWhere, layoutOf}
 use Rattle.cluster.specs.declared.Node.{Node}
 use Rattle.sums.proofs.Tests.{both, every-at, every-all}
-use Rattle.cluster.proofs.CellRows.{formed-rising}
-use Rattle.cluster.proofs.CellLayouts.{few-ids, length-rowsIn, row-rowsIn}
-use Rattle.cluster.proofs.RowScans.{row-ids-formed, hold-ids}
+use Rattle.cell_rows.proofs.CellRows.{formed-rising}
+use Rattle.cell_rows.proofs.CellLayouts.{few-ids, length-rowsIn, row-rowsIn}
+use Rattle.cell_rows.proofs.RowScans.{row-ids-formed, hold-ids}
 use Rattle.masks.specs.ModelMasks.{named, rowMask, rowsWhere, cellsWritten, rowsFormed}
 use Rattle.masks.proofs.Named.{named-bits}
 use Rattle.masks.proofs.Where.{where-length}

@@ -10,7 +10,7 @@ use Rattle.sums.specs.TermsSums.{everyTo, tab}
 use Rattle.sums.specs.ModelSums.{is}
 use Rattle.sets.specs.ModelBits.{bit}
 use Rattle.cluster.specs.Terms.{rowCells, bufferRows, layoutCells, noNode, Layout, rowAt, idsIn, cellsOf}
-use Rattle.cluster.specs.ModelRows.{illFormed, hasRow, rowIds}
+use Rattle.cell_rows.specs.ModelRows.{illFormed, hasRow, rowIds}
 use Rattle.incidence.specs.ModelIncidence.{idsWhere, column}
 use Rattle.cluster.specs.declared.Node.{Node}
 

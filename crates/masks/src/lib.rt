@@ -12,7 +12,6 @@ ghost use Rattle.cluster.specs.declared.Node.{Node};
 ghost use Rattle.incidence.specs.ModelIncidence.{idsWhere};
 ghost use Rattle.masks.specs.ModelMasks.{idCells, named, rowMask, masksRead, cellsWritten, rowsFormed};
 use cluster::Cluster;
-use cluster::rows;
 use incidence::zones;
 
 // The ids of the nodes in use, then zeros. Rows are walked over these: a cluster by value would be copied for each row.
@@ -116,7 +115,7 @@ pub fn rows_formed(cells: &[u32], partitions: usize) -> bool
     }
     let mut p = 0;
     while p < partitions {
-        if rows::ILL_FORMED <= rows::row_ids(cells, p) {
+        if cell_rows::ILL_FORMED <= cell_rows::row_ids(cells, p) {
             return false;
         }
         p += 1;

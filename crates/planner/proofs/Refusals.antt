@@ -9,11 +9,11 @@ use lib.Dec.{ltb, eqb}
 use lib.ListN.{length}
 use borrow.Author.Tests.{le-leb, lt-ltb, le-ltb, eq-eqb, ne-eqb, eqb-true, ltb-false}
 use Rattle.cluster.specs.Terms.{bufferRows, layoutCells, scratchCells, rowCells, topology, partitions, Layout, IsFormer, cellsOf, rowAt, idsIn, formed, rowsIn, faultOf}
-use Rattle.cluster.specs.ModelRows.{illFormed, idCount, rowIds, FitsCells, HoldsRows}
 use Rattle.cluster.specs.declared.Cluster.{Cluster}
 use Rattle.cluster.proofs.Accepting.{few-partitions, accepted}
-use Rattle.cluster.proofs.CellLayouts.{few-ids, holds-cellsOf, holds-append}
-use Rattle.cluster.proofs.RowScans.{row-of-buffer}
+use Rattle.cell_rows.specs.ModelRows.{illFormed, idCount, rowIds, FitsCells, HoldsRows}
+use Rattle.cell_rows.proofs.CellLayouts.{few-ids, holds-cellsOf, holds-append}
+use Rattle.cell_rows.proofs.RowScans.{row-of-buffer}
 use Rattle.masks.specs.ModelMasks.{rowsFormed}
 use Rattle.sums.specs.TermsSums.{everyTo}
 use Rattle.sums.proofs.Tests.{every-cong}

@@ -17,7 +17,7 @@ use Rattle.cluster.specs.TermsReading.{Accepted, Fits32}
 use Rattle.incidence.specs.ModelIncidence.{bitsOf, incidence, zoneCells}
 use Rattle.cluster.specs.declared.Cluster.{Cluster}
 use Rattle.cluster.proofs.Accepting.{few-partitions, accepted}
-use Rattle.cluster.proofs.CellLayouts.{row-rowsIn}
+use Rattle.cell_rows.proofs.CellLayouts.{row-rowsIn}
 use Rattle.masks.specs.ModelMasks.{masksRead, rowMask, cellsWritten, rowsFormed}
 use Rattle.masks.proofs.Laws.{mask-bits, formed-each, written-layout}
 use Rattle.sizing.specs.ModelSizing.{nodesOf, mateCells, capCells, sizeOf, dealtIn}

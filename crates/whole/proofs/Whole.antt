@@ -10,12 +10,12 @@ use lib.ListN.{length, take, drop, length-append}
 use lib.Seq.{take-at}
 use Rattle.cluster.specs.Terms.{mostBits, mostCopies, layoutCells, scratchCells, Topology, topology, partitions, nodeAt, Layout, ValidAt, IsFormer, sent, cellsOf, rowsIn}
 use Rattle.cluster.specs.TermsReading.{mostSize, mostSent, mostVerdict, mostImprovements, Accepted, Fits32}
-use Rattle.cluster.specs.ModelRows.{FitsCells, HoldsRows}
 use Rattle.cluster.specs.declared.Cluster.{Cluster}
 use Rattle.cluster.proofs.Accepting.{accepted}
+use Rattle.cell_rows.specs.ModelRows.{FitsCells, HoldsRows}
 use borrow.Author.Tests.{le-leb}
 use Rattle.sums.proofs.Tests.{one-if-le}
-use Rattle.cluster.proofs.CellLayouts.{length-cellsOf, rowsIn-written, holds-cellsOf, holds-append}
+use Rattle.cell_rows.proofs.CellLayouts.{length-cellsOf, rowsIn-written, holds-cellsOf, holds-append}
 use Rattle.masks.proofs.Laws.{holds-formed}
 use Rattle.layouts.specs.TermsCheck.{fault, checkOf}
 use Rattle.layouts.proofs.CheckMeaning.{valid-fits, valid-passed}

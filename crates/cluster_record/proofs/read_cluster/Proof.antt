@@ -5,7 +5,7 @@ use mathlib.Core.Path.{sym, ap, _∙_}
 use mathlib.Core.List.{List, _++_}
 use lib.ListN.{length, drop}
 use Rattle.cluster.specs.Terms.{cellsOf}
-use Rattle.cluster.proofs.CellLayouts.{length-cellsOf}
+use Rattle.cell_rows.proofs.CellLayouts.{length-cellsOf}
 use Rattle.cluster_record.specs.declared.ReadCluster.{ReadCluster}
 use Rattle.cluster_record.specs.RecordClusterReading.{readCluster}
 use Rattle.cluster_record.specs.RecordClusterAnswer.{clusterAnswer}

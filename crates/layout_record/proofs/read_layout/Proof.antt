@@ -7,7 +7,7 @@ use mathlib.Core.Path.{sym, ap, _∙_}
 use mathlib.Core.List.{List, _++_}
 use lib.ListN.{length, drop}
 use Rattle.cluster.specs.Terms.{cellsOf}
-use Rattle.cluster.proofs.CellLayouts.{length-cellsOf}
+use Rattle.cell_rows.proofs.CellLayouts.{length-cellsOf}
 use Rattle.layout_record.specs.declared.ReadLayout.{ReadLayout}
 use Rattle.layout_record.specs.RecordLayoutFaults.{readLayout}
 use Rattle.layout_record.specs.RecordLayoutAnswer.{layoutAnswer}

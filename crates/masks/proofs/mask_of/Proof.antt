@@ -5,7 +5,7 @@ use Prim.Native.Nat.{ℕ}
 use mathlib.Core.Path.{sym, ap, ap₂}
 use mathlib.Core.Bool.{Bool, cond}
 use Rattle.cluster.specs.Terms.{rowAt, idsIn}
-use Rattle.cluster.proofs.RowScans.{row-out, row-short, row-whole}
+use Rattle.cell_rows.proofs.RowScans.{row-out, row-short, row-whole}
 use Rattle.masks.specs.ModelMasks.{named, rowMask}
 use Rattle.masks.proofs.mask_of.Statement.{statement}
 use Rattle.masks.proofs.mask_of.Tie as tie

@@ -8,7 +8,7 @@ use mathlib.Core.Bool.{Bool, true, _&&_, and-false}
 use lib.Dec.{ltb, leb}
 use borrow.Author.Tests.{lt-ltb, le-ltb, le-leb, lt-leb}
 use Rattle.cluster.specs.Terms.{bufferRows}
-use Rattle.cluster.specs.ModelRows.{illFormed, rowIds}
+use Rattle.cell_rows.specs.ModelRows.{illFormed, rowIds}
 use Rattle.masks.specs.ModelMasks.{rowsFormed}
 use Rattle.sums.proofs.Tests.{every-none, every-more, every-fails}
 use Rattle.sums.specs.TermsSums.{everyTo}

@@ -66,7 +66,7 @@ use Rattle.cells.specs.ModelCells.{put}
 use Rattle.fields.specs.RecordField.{numberAt, idsAt, Within, Whole, refusalOf, placeOf}
 use Rattle.cluster.specs.Terms.{mostBits, mostCopies, rowCells, bufferRows, layoutCells, Layout, cellsOf}
 use Rattle.cluster.proofs.Accepting.{partitions-in-range}
-use Rattle.cluster.proofs.CellLayouts.{length-cellsOf}
+use Rattle.cell_rows.proofs.CellLayouts.{length-cellsOf}
 use Rattle.layout_head.specs.declared.Numbers.{Numbers}
 use Rattle.layout_record.specs.declared.ReadLayout.{ReadLayout}
 use Rattle.layout_head.specs.RecordHeadFaults.{nextField}

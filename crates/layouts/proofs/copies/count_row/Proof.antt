@@ -12,7 +12,7 @@ use Rattle.sums.specs.TermsSums.{tab}
 use Rattle.sets.proofs.Laws.{member-true, member-false}
 use Rattle.cluster.specs.Terms.{mostNodes, topology}
 use Rattle.cluster.proofs.Accepting.{accepted}
-use Rattle.cluster.proofs.RowScans.{row-of-buffer}
+use Rattle.cell_rows.proofs.RowScans.{row-of-buffer}
 use Rattle.masks.proofs.Laws.{mask-bits}
 use Rattle.layouts.specs.ModelScans.{rowNodes}
 use Rattle.layouts.proofs.CopyWalk.{unwritten, oneMore, count-turn, count-end, length-so-far, so-far-few}

@@ -8,7 +8,7 @@ use mathlib.Core.List.{List}
 use Rattle.sets.specs.ModelBits.{countOf}
 use Rattle.cluster.specs.Terms.{bufferRows, topology}
 use Rattle.cluster.specs.TermsReading.{Accepted}
-use Rattle.cluster.specs.ModelRows.{rowIds}
+use Rattle.cell_rows.specs.ModelRows.{rowIds}
 use Rattle.incidence.specs.ModelIncidence.{zoneCells}
 use Rattle.cluster.proofs.Accepting.{few-partitions, accepted}
 use Rattle.masks.specs.ModelMasks.{rowMask}

@@ -4,10 +4,8 @@ use borrow.Author.Needs.{needs}
 use native.Mathlib.Omega.{arith}
 use Prim.Native.Nat.{ℕ, _-_, _≤_, _<_}
 use mathlib.Core.Path.{_≡_, ap, _∙_}
-use lib.ListN.{length}
-use mathlib.Core.List.{[]}
+use lib.ListN.{length, getD-replicate}
 use Rattle.cluster.specs.Terms.{bufferRows, mostNodes}
-use Rattle.cluster.proofs.CellRows.{getD-zeros}
 use Rattle.sums.specs.TermsSums.{sumTo}
 use Rattle.dealing.specs.ModelDeal.{inZone}
 use Rattle.incidence.specs.ModelIncidence.{cell}
@@ -24,7 +22,7 @@ abbrev μ-loop : tie.MeasureT-loop
 
 loop-holds : tie.Need-loop-holds Inv-loop μ-loop
 unfolding inZone sumTo
-loop-holds c = (search needs, search needs, λ z l. getD-zeros [] mostNodes z)
+loop-holds c = (search needs, search needs, λ z l. getD-replicate {A = ℕ} mostNodes z 0 0 l)
 
 mul-z : tie.Need-mul-z Inv-loop μ-loop
 mul-z c = search needs

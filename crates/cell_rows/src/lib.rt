@@ -2,9 +2,9 @@
 ghost use mathlib.Core.Path.{_≡_};
 ghost use Prim.Native.Nat.{_+_, _-_, _^_, _≤_, _<_};
 ghost use lib.ListN.{length, take, drop};
 ghost use Rattle.cluster.specs.Terms.{rowCells, blank};
-ghost use Rattle.cluster.specs.ModelRows.{idCount, rowIds, rowIsBlank};
-use super::Cluster;
+ghost use Rattle.cell_rows.specs.ModelRows.{idCount, rowIds, rowIsBlank};
+use cluster::Cluster;
 
 // The answer for a row that is not rising ids followed by zeros: one more than a row has cells.
 pub const ILL_FORMED: u32 = Cluster::ROW as u32 + 1;

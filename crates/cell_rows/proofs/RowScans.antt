@@ -10,9 +10,9 @@ use lib.Dec.{ltb, leb, eqb}
 use lib.ListN.{length, take, drop, getD}
 use borrow.Author.Tests.{eq-eqb, ne-eqb, lt-ltb, le-ltb, le-leb, lt-leb}
 use Rattle.cells.proofs.Cells.{rest-cons}
 use Rattle.cluster.specs.Terms.{rowCells, bufferRows, layoutCells, rowAt, idsIn, blank, formedFrom, formed}
-use Rattle.cluster.specs.ModelRows.{HoldsRows, illFormed, hasRow, idCount, rowIds}
-use Rattle.cluster.proofs.CellRows.{blank-ids, blank-formed}
+use Rattle.cell_rows.specs.ModelRows.{HoldsRows, illFormed, hasRow, idCount, rowIds}
+use Rattle.cell_rows.proofs.CellRows.{blank-ids, blank-formed}
 
 -- What the scan of a row answers that has passed `count` ids, `last` the last of them, and has l before it.
 unfoldable pub scan : ℕ → ℕ → List ℕ → ℕ

@@ -1,4 +1,4 @@
--- `cluster::rows::zeros` meets its contract. The loop's invariant: the cells are blank exactly where those that are still before the scan are.
+-- `cell_rows::zeros` meets its contract. The loop's invariant: the cells are blank exactly where those that are still before the scan are.
 -- Assumes nothing.
 use borrow.Author.Needs.{needs}
 use Prim.Native.Nat.{ℕ, _≤_, _-_}
@@ -6,10 +6,10 @@ use mathlib.Core.Path.{_≡_, refl, sym, ap, _∙_}
 use mathlib.Core.List.{List}
 use lib.ListN.{take, drop, length}
 use Rattle.cells.proofs.Cells.{rest-none}
 use Rattle.cluster.specs.Terms.{blank}
-use Rattle.cluster.proofs.RowScans.{id-not-blank, zero-blank}
-use Rattle.cluster.proofs.rows.zeros.Statement.{statement}
-use Rattle.cluster.proofs.rows.zeros.Tie as tie
+use Rattle.cell_rows.proofs.RowScans.{id-not-blank, zero-blank}
+use Rattle.cell_rows.proofs.zeros.Statement.{statement}
+use Rattle.cell_rows.proofs.zeros.Tie as tie
 
 abbrev Inv-loop : tie.InvT-loop
 Inv-loop cells from to i₀ i = (i ≤ to) × (to ≤ length cells) × (blank (take (to - from) (drop from cells)) ≡ blank (take (to - i) (drop i cells)))

@@ -9,9 +9,9 @@ use lib.ListN.{length, take, drop, getD, replicate, length-append, length-replic
 use lib.Seq.{take-at, take-take, take-append-le, length-take-le, getD-take, getD-drop, ext-getD}
 use Rattle.sums.proofs.Sum.{lt-or-ge}
 use Rattle.cells.proofs.Cells.{length-tab, getD-tab, tab-cong, tab-getD}
 use Rattle.cluster.specs.Terms.{rowCells, bufferRows, layoutCells, Layout, row, cellsOf, rowAt, idsIn, blank, formed, rowsIn}
-use Rattle.cluster.specs.ModelRows.{FitsCells, HoldsRows}
-use Rattle.cluster.proofs.CellRows.{getD-zeros, zeros-blank, blank-cell, ids-length, formed-cell, rising-ids, rising-formed}
+use Rattle.cell_rows.specs.ModelRows.{FitsCells, HoldsRows}
+use Rattle.cell_rows.proofs.CellRows.{getD-zeros, zeros-blank, blank-cell, ids-length, formed-cell, rising-ids, rising-formed}
 
 -- ---- the rows of cells
 

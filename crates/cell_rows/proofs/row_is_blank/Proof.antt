@@ -1,4 +1,4 @@
--- `cluster::rows::row_is_blank` meets its contract.
+-- `cell_rows::row_is_blank` meets its contract.
 -- Assumes nothing.
 use borrow.Author.Needs.{needs}
 use native.Mathlib.Omega.{arith}
@@ -6,11 +6,11 @@ use Prim.Native.Nat.{ℕ, _+_, _-_, _*_}
 use mathlib.Core.Path.{_≡_, sym, ap, ap₂, _∙_}
 use mathlib.Core.Bool.{Bool, _&&_}
 use lib.ListN.{take, drop}
 use Rattle.cluster.specs.Terms.{rowCells, rowAt, blank}
-use Rattle.cluster.specs.ModelRows.{rowIsBlank}
-use Rattle.cluster.proofs.RowScans.{row-out, row-short, row-whole}
-use Rattle.cluster.proofs.rows.row_is_blank.Statement.{statement}
-use Rattle.cluster.proofs.rows.row_is_blank.Tie as tie
+use Rattle.cell_rows.specs.ModelRows.{rowIsBlank}
+use Rattle.cell_rows.proofs.RowScans.{row-out, row-short, row-whole}
+use Rattle.cell_rows.proofs.row_is_blank.Statement.{statement}
+use Rattle.cell_rows.proofs.row_is_blank.Tie as tie
 
 returns : tie.Need-returns
 unfolding rowIsBlank

@@ -1,14 +1,14 @@
--- `cluster::rows::row_ids` meets its contract.
+-- `cell_rows::row_ids` meets its contract.
 -- Assumes nothing.
 use borrow.Author.Needs.{needs}
 use Prim.Native.Nat.{ℕ}
 use mathlib.Core.Path.{sym, ap, ap₂}
 use mathlib.Core.Bool.{Bool, cond}
 use Rattle.cluster.specs.Terms.{rowAt}
-use Rattle.cluster.specs.ModelRows.{illFormed, idCount, rowIds}
-use Rattle.cluster.proofs.RowScans.{row-out, row-short, row-whole}
-use Rattle.cluster.proofs.rows.row_ids.Statement.{statement}
-use Rattle.cluster.proofs.rows.row_ids.Tie as tie
+use Rattle.cell_rows.specs.ModelRows.{illFormed, idCount, rowIds}
+use Rattle.cell_rows.proofs.RowScans.{row-out, row-short, row-whole}
+use Rattle.cell_rows.proofs.row_ids.Statement.{statement}
+use Rattle.cell_rows.proofs.row_ids.Tie as tie
 
 returns : tie.Need-returns
 unfolding rowIds

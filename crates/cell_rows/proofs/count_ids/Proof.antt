@@ -1,4 +1,4 @@
--- `cluster::rows::count_ids` meets its contract. The loop's invariant: the row's answer is that of the scan of the cells that are left.
+-- `cell_rows::count_ids` meets its contract. The loop's invariant: the row's answer is that of the scan of the cells that are left.
 -- Assumes nothing.
 use borrow.Author.Needs.{needs}
 use native.Mathlib.Omega.{arith}
@@ -8,11 +8,11 @@ use mathlib.Core.List.{List}
 use mathlib.Core.Logic.{⊎-elim}
 use lib.ListN.{take, drop}
 use Rattle.cells.proofs.Cells.{rest-none}
 use Rattle.cluster.specs.Terms.{rowCells}
-use Rattle.cluster.specs.ModelRows.{idCount}
-use Rattle.cluster.proofs.RowScans.{onward, onward-start, onward-end, onward-zero, onward-falls, onward-rises}
-use Rattle.cluster.proofs.rows.count_ids.Statement.{statement}
-use Rattle.cluster.proofs.rows.count_ids.Tie as tie
+use Rattle.cell_rows.specs.ModelRows.{idCount}
+use Rattle.cell_rows.proofs.RowScans.{onward, onward-start, onward-end, onward-zero, onward-falls, onward-rises}
+use Rattle.cell_rows.proofs.count_ids.Statement.{statement}
+use Rattle.cell_rows.proofs.count_ids.Tie as tie
 
 abbrev Inv-loop : tie.InvT-loop
 Inv-loop cells from to last₀ count₀ i₀ last count i =

@@ -1,0 +1,3 @@
+pub mod CellLayouts
+pub mod CellRows
+pub mod RowScans
