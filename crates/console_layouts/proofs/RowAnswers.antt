@@ -10,7 +10,7 @@ use lib.ListN.{length, drop, length-drop}
 use lib.Seq.{length-take-le}
 use borrow.Author.Tests.{lt-ltb, le-ltb, ltb-false, leb-false}
 use Rattle.cluster.specs.Terms.{rowCells, bufferRows, layoutCells, rowAt}
-use Rattle.layouts.specs.TermsShow.{shown, showCode}
+use Rattle.show.specs.TermsShow.{shown, showCode}
 use Rattle.console_layouts.specs.TermsConsoleLayouts.{rowRefusal, rowAfter}
 
 module _ (cells : List ℕ) (p : ℕ) (row : List ℕ) where

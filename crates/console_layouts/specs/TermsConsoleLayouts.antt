@@ -8,10 +8,10 @@ use lib.ListN.{drop}
 use Rattle.cluster.specs.Terms.{rowCells, rowAt}
 use Rattle.cluster_record.specs.declared.ReadCluster.{ReadCluster}
 use Rattle.layouts.specs.TermsCheck.{fault, checkOf}
-use Rattle.layouts.specs.TermsFigures.{figuresOf, figuresIn}
-use Rattle.layouts.specs.TermsShow.{showCode}
 use Rattle.layouts.specs.declared.check.Checked.{Checked}
-use Rattle.layouts.specs.declared.figures.Figured.{Figured}
+use Rattle.figures.specs.TermsFigures.{figuresOf, figuresIn}
+use Rattle.figures.specs.declared.Figured.{Figured}
+use Rattle.show.specs.TermsShow.{showCode}
 use Rattle.answers.specs.TermsAnswers.{halves, unlessShort, afterReading}
 
 -- ---- check and figures

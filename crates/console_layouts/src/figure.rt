@@ -5,8 +5,7 @@ ghost use Rattle.console_layouts.specs.TermsConsoleLayouts.{figuredCells
 use answers::entering;
 use cluster::refusal;
 use cluster_record::ReadCluster;
-use layouts::figures;
-use layouts::figures::Figured;
+use figures::Figured;
 
 // The cells of the answer: byte (two cells), place, the size to hope for (two cells).
 const ANSWER: usize = 5;

@@ -3,7 +3,6 @@ ghost use mathlib.Core.Path.{_≡_};
 ghost use Rattle.console_layouts.specs.TermsConsoleLayouts.{rowRefusal, rowAfter};
 use cluster::Cluster;
 use cluster::refusal;
-use layouts::show;
 
 // Copies the eight cells of row `partition`.
 #[no_mangle]

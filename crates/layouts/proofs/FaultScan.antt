@@ -12,10 +12,10 @@ use Rattle.cluster.specs.Terms.{takes, mostNodes, topology, noNode, rowsIn}
 use Rattle.cluster.specs.declared.Cluster.{Cluster}
 use Rattle.cluster.specs.declared.Node.{Node}
 use Rattle.cluster.proofs.Slots.{node-slot}
+use Rattle.copies.specs.ModelCopies.{copiesSoFar}
+use Rattle.copies.proofs.CopyWalk.{so-far-cell}
 use Rattle.layouts.specs.declared.check.Checked.{Checked}
 use Rattle.layouts.specs.TermsCheck.{fault, firstFault, nodeFault}
-use Rattle.layouts.specs.ModelScans.{copiesSoFar}
-use Rattle.layouts.proofs.CopyWalk.{so-far-cell}
 
 module _ (n i : ℕ) (f : ℕ → Checked) where
   -- A scan that is at a fault has found the first.

@@ -1,9 +1,6 @@
 pub mod CheckMeaning
 pub mod CheckOrder
-pub mod CopyWalk
 pub mod FaultMeaning
 pub mod FaultScan
-pub mod FigureWalk
-pub mod Hope
 pub mod RowFaults
 pub mod RowWalks

@@ -23,8 +23,9 @@ use Rattle.cell_rows.proofs.RowScans.{row-ids-formed, formed-row-ids, row-of-bu
 use Rattle.incidence.proofs.TieRows.{over-ids}
 use Rattle.masks.specs.ModelMasks.{rowMask}
 use Rattle.masks.proofs.Laws.{mask-bits}
+use Rattle.copies.specs.ModelCopies.{rowNodes}
 use Rattle.layouts.specs.TermsCheck.{rightIds, rowFault}
-use Rattle.layouts.specs.ModelScans.{rowNodes, zonesIn}
+use Rattle.layouts.specs.ModelScans.{zonesIn}
 use Rattle.layouts.proofs.RowWalks.{count-zones}
 
 -- ---- rows of known ids

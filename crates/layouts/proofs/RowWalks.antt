@@ -1,56 +1,26 @@
--- The sets of the nodes and of the zones of a row, and the walk that makes the zones of nodes.
+-- The set of the zones of a row, and the walk that makes the zones of nodes.
 -- Assumes nothing.
-use Prim.Native.Nat.{ℕ, zero, suc, _+_, _-_, _*_, _≤_, _<_, min}
-use mathlib.Core.Path.{_≡_, refl, sym, ap, ap₂, _∙_}
-use mathlib.Core.Bool.{Bool, true, false, _||_}
-use mathlib.Core.List.{List, [], _∷_}
-use mathlib.Core.Logic.{⊎-elim}
+use Prim.Native.Nat.{ℕ, _+_, _*_, _≤_, _<_, min}
+use mathlib.Core.Path.{_≡_, sym, ap, ap₂, _∙_}
+use mathlib.Core.Bool.{true, false}
+use mathlib.Core.List.{List}
 use native.Mathlib.Nat.{zero-mul, mul-zero}
 use native.Mathlib.Numerals.{add-one}
 use native.Mathlib.Omega.{arith}
-use lib.ListN.{length, getD, List·getD-eq-default}
-use borrow.Author.Tests.{ne-eqb}
-use Rattle.sums.specs.TermsSums.{sumTo, one-if}
+use lib.ListN.{length, getD}
+use Rattle.sums.specs.TermsSums.{sumTo}
 use Rattle.sums.specs.ModelSums.{is}
-use Rattle.sums.proofs.Sum.{lt-or-ge, is-le, is-ne, sum-cong, sum-cut, sum-zero}
+use Rattle.sums.proofs.Sum.{is-le, is-ne, sum-cong, sum-cut, sum-zero}
 use Rattle.sets.specs.ModelBits.{bit, maskOf, memberOf, withOf, countOf}
-use Rattle.sets.proofs.Laws.{bit-ext, bit-zero, bit-mask, bit-maskOf, bit-mask-high, mask-lt, mask-unique, with-lt, bit-with, mask-cong, member-true, member-false, count-sum}
+use Rattle.sets.proofs.Laws.{bit-ext, bit-zero, bit-mask, bit-mask-high, mask-lt, mask-unique, with-lt, bit-with, mask-cong, member-true, member-false, count-sum}
 use Rattle.exchange.specs.ModelRow.{zoneCount, cover}
-use Rattle.cluster.specs.Terms.{mostNodes, Topology, noNode, nodeAt, mem, zonesOf, rowAt, idsIn}
+use Rattle.cluster.specs.Terms.{mostNodes, Topology, zonesOf, rowAt, idsIn}
 use Rattle.incidence.specs.ModelIncidence.{zoneIndex, bitsOf, zoneCells}
-use Rattle.cluster.specs.declared.Node.{Node}
-use Rattle.sums.proofs.Tests.{one-if-le}
-use Rattle.cell_rows.proofs.CellRows.{ids-more}
 use Rattle.incidence.proofs.TieZones.{zones-cover, zone-below}
 use Rattle.incidence.proofs.Columns.{cell-column}
-use Rattle.layouts.specs.ModelScans.{rowNodes, zonesIn}
-
--- No row names the id 0.
-pub zero-unnamed : (l : List ℕ) → mem 0 (idsIn l) ≡ false
-unfolding mem idsIn
-zero-unnamed [] = refl
-zero-unnamed (zero ∷ xs) = refl
-zero-unnamed (suc x ∷ xs) =
-    ap (λ (r : List ℕ). mem 0 r) (ids-more x xs) ∙ (ap (λ (t : Bool). t || mem 0 (idsIn xs)) (ne-eqb 0 (suc x) (λ e. omega arith)) ∙ zero-unnamed xs)
-
--- ---- the nodes of a row
-
-module _ (t : Topology) (cells : List ℕ) (p : ℕ) where
-  -- Whether row p names node b, also of a slot that is not in use.
-  abbrev named : ℕ → Bool
-  named b = mem (nodeAt t b .id) (idsIn (rowAt cells p))
-
-  -- The digits of the set of the nodes of a row.
-  pub bit-nodes : (b : ℕ) → bit (rowNodes t cells p) b ≡ one-if (named b)
-  unfolding rowNodes one-if
-  bit-nodes b =
-      ⊎-elim
-      (λ h. bit-maskOf (bitsOf (t .nodes) (idsIn (rowAt cells p))) (length (t .nodes)) b h (one-if-le (named b)))
-      (λ h. bit-mask-high (bitsOf (t .nodes) (idsIn (rowAt cells p))) (length (t .nodes)) b h
-      ∙ ap one-if (sym (ap (λ (n : Node). mem (n .id) (idsIn (rowAt cells p))) (List·getD-eq-default (t .nodes) noNode h) ∙ zero-unnamed (rowAt cells p))))
-      (lt-or-ge b (length (t .nodes)))
-
--- ---- the zones of a set of nodes
+use Rattle.copies.specs.ModelCopies.{rowNodes}
+use Rattle.copies.proofs.RowNodes.{bit-nodes}
+use Rattle.layouts.specs.ModelScans.{zonesIn}
 
 -- A number put into a mask is counted in the function that the mask is made of.
 mask-grow : (f g : ℕ → ℕ) (k : ℕ) → ((z : ℕ) → z < mostNodes → g z ≡ f z + is k z) → withOf (maskOf f mostNodes) k ≡ maskOf g mostNodes

@@ -1,4 +1,2 @@
 pub mod ModelScans
 pub mod TermsCheck
-pub mod TermsFigures
-pub mod TermsShow

@@ -4,7 +4,6 @@ ghost use Prim.Native.Nat.{_≤_};
 ghost use lib.ListN.{length};
 ghost use Rattle.cluster.specs.Terms.{layoutCells, topology, partitions, rowsIn, faultOf};
 ghost use Rattle.layouts.specs.TermsCheck.{clusterFault, rowsFault, nodesFault, checkOf};
-use super::copies;
 use super::rows;
 use cluster::Cluster;
 use cluster::refusal;

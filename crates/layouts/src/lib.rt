@@ -1,6 +1,3 @@
-// What one asks of a layout in hand: whether it is valid at a size, its figures, one of its rows.
+// Whether a layout in hand is valid at a size.
 pub mod check;
-mod copies;
-pub mod figures;
 mod rows;
-pub mod show;

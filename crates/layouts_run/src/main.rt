@@ -1,9 +1,7 @@
-// Runs check, figures and show of the crate `layouts` on example M and on the order of faults, and prints a line for each.
+// Runs check, figures and showing a row on example M and on the order of faults, and prints a line for each.
 use cluster::Cluster;
 use cluster::Node;
 use layouts::check;
-use layouts::figures;
-use layouts::show;
 
 mod print;
 

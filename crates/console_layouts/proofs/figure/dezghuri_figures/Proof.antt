@@ -6,7 +6,7 @@ use Prim.Native.Nat.{_/_, _%_, _^_}
 use mathlib.Core.List.{[], _∷_, _++_}
 use lib.ListN.{drop}
 use Rattle.cluster_record.specs.declared.ReadCluster.{ReadCluster}
-use Rattle.layouts.specs.declared.figures.Figured.{Figured}
+use Rattle.figures.specs.declared.Figured.{Figured}
 use Rattle.answers.specs.TermsAnswers.{halves, reading}
 use Rattle.console_layouts.specs.TermsConsoleLayouts.{figured, figuresLeft}
 use Rattle.answers.proofs.Answered.{short, long}

@@ -12,9 +12,10 @@ use Rattle.cells.proofs.Cells.{length-of-map}
 use Rattle.cluster.specs.Terms.{mostNodes, Topology, topology, partitions, noNode, nodeAt, takes, rowsIn}
 use Rattle.cluster.specs.declared.Node.{Node}
 use Rattle.cluster.proofs.Slots.{node-slot}
-use Rattle.cluster.proofs.Accepting.{few-nodes, nodes-count}
+use Rattle.cluster.proofs.Accepting.{accepted, few-nodes, nodes-count}
 use Rattle.layouts.specs.declared.check.Checked.{Checked}
 use Rattle.layouts.specs.TermsCheck.{fault, firstFault, nodeFault, nodesFault}
+use Rattle.layouts.proofs.FaultMeaning.{each-formed}
 use Rattle.layouts.proofs.FaultScan.{scan-fault, scan-on, scan-end, node-reads}
 use Rattle.layouts.proofs.check.nodes_fault.Statement.{statement}
 use Rattle.layouts.proofs.check.nodes_fault.Tie as tie
@@ -43,7 +44,8 @@ told c = let k = c .before .before .before in
     (ap (λ (l : List ℕ). takes (getD (a .t1 .nodes) (k .loop .b) noNode) (getD l (k .loop .b) 0) (a .size)) (sym (k .before .copies .ensures)) ∙ sym (c .takes .ensures))
 
 copies-requires : tie.Need-copies-requires Inv-loop μ-loop
-copies-requires c κs = c .before .pre
+copies-requires c κs = let s = c .before in
+    (s .pre .0, s .pre .1, each-formed (topology (s .args .t1)) (s .args .cells .now) (accepted (s .args .t1) (s .pre .0)) (s .pre .2))
 
 loop-holds : tie.Need-loop-holds Inv-loop μ-loop
 unfolding nodesFault

@@ -1,0 +1,2 @@
+pub mod CopyWalk
+pub mod RowNodes

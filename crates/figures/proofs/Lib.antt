@@ -1,0 +1,2 @@
+pub mod FigureWalk
+pub mod HopeBound

@@ -1,0 +1,2 @@
+pub mod ModelZones
+pub mod TermsFigures
