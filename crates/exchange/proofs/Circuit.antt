@@ -10,7 +10,7 @@ use native.Mathlib.Omega.{arith}
 use borrow.Author.Tests.{lt-ltb, le-ltb}
 use Rattle.sums.specs.TermsSums.{sumTo}
 use Rattle.sums.specs.ModelSums.{is, hits}
-use Rattle.sums.proofs.Sum.{lt-or-ge, is-le, is-one, sum-le, sum-balance, sum-const, sum-swap, sum-first, sum-none, sum-is, sum-witness}
+use Rattle.sums.proofs.Sum.{lt-or-ge, is-le, is-one, not-times, sum-le, sum-zero, sum-balance, sum-const, sum-swap, sum-first, sum-none, sum-is, sum-witness}
 use Rattle.sums.proofs.Count.{two-bits, pigeonhole}
 use Rattle.exchange.specs.ModelRow.{Valid, Within, Agree, Exchange, swap, copies, weigh}
 use Rattle.exchange.specs.ModelCircuit.{cost, costs, Circuit, Crossed, Uncrossed, Better, turn}
@@ -129,40 +129,66 @@ module _ (P N R Z C : ℕ) (zone cap : ℕ → ℕ) (g free S : ℕ → ℕ → 
 
   -- ---- the copies of a node
 
+  -- Whether an arc of some row has b as its end f: a step over the store has it in none.
+  abbrev of-row : (ℕ → ℕ) → ℕ → ℕ → ℕ
+  of-row f b i = sumTo P (λ p. is (q i) p * is (f i) b)
+
+  -- An arc of a row counts where its end is b.
+  row-counts : (f : ℕ → ℕ) (b i : ℕ) → q i < P → of-row f b i ≡ is (f i) b
+  row-counts f b i r = sum-is P (q i) (λ p. is (f i) b) r
+
+  -- The arcs of rows that end at b are among all that do.
+  rows-among : (f : ℕ → ℕ) (b : ℕ) → sumTo m (of-row f b) ≤ sumTo m (λ i. is (f i) b)
+  rows-among f b =
+      sum-le m (of-row f b) (λ i. is (f i) b)
+      (λ i k. ⊎-elim (λ r. omega (arith, row-counts f b i r)) (λ r. omega (arith, sum-none P (q i) (λ p. is (f i) b) r)) (lt-or-ge (q i) P))
+
+  -- The copies of a node after the turn, with what the rows give up of it, are those before, with what they take in.
+  balance : (b : ℕ) → copies P (turn m y q S) b + sumTo m (of-row (next y) b) ≡ copies P S b + sumTo m (of-row y b)
+  unfolding copies
+  balance b =
+      omega (
+        arith,
+        sum-balance P (λ p. turn m y q S p b) (λ p. picked m (mask q p) (next y) b) (λ p. S p b) (λ p. picked m (mask q p) y b)
+            (λ p r. turned p r b),
+        sum-swap P m (λ p i. is (q i) p * is (y i) b),
+        sum-swap P m (λ p i. is (q i) p * is (y (suc i)) b),
+      )
+
   -- Where a node has more copies than before, its leaving arc is a step over the store, which it had room for.
   turn-caps : ((b : ℕ) → b < N → copies P S b ≤ cap b) → (b : ℕ) → b < N → copies P (turn m y q S) b ≤ cap b
-  unfolding hits copies
+  unfolding hits
   turn-caps h b l =
-      ⊎-elim (λ a. one (sum-witness m (out (next y)) (λ i. is (next y i) b) a)) (λ r. omega (arith, balance, comes, left b, h b l))
-      (lt-or-ge (sumTo m (out (next y))) (sumTo m (λ i. is (next y i) b)))
+      ⊎-elim (λ a. one (sum-witness m (of-row (next y) b) (λ i. is (next y i) b) a))
+      (λ r. omega (arith, balance b, rows-among y b, left b, h b l))
+      (lt-or-ge (sumTo m (of-row (next y) b)) (sumTo m (λ i. is (next y i) b)))
     where
-      out : (ℕ → ℕ) → ℕ → ℕ
-      out f i = sumTo P (λ p. is (q i) p * is (f i) b)
-
-      out-row : (f : ℕ → ℕ) (i : ℕ) → q i < P → out f i ≡ is (f i) b
-      out-row f i r = sum-is P (q i) (λ p. is (f i) b) r
-
-      comes : sumTo m (out y) ≤ hits m y b
-      comes =
-          sum-le m (out y) (λ i. is (y i) b)
-          (λ i k. ⊎-elim (λ r. omega (arith, out-row y i r)) (λ r. omega (arith, sum-none P (q i) (λ p. is (y i) b) r)) (lt-or-ge (q i) P))
-
-      balance : copies P (turn m y q S) b + sumTo m (out (next y)) ≡ copies P S b + sumTo m (out y)
-      balance =
-          omega (
-            arith,
-            sum-balance P (λ p. turn m y q S p b) (λ p. picked m (mask q p) (next y) b) (λ p. S p b) (λ p. picked m (mask q p) y b)
-                (λ p r. turned p r b),
-            sum-swap P m (λ p i. is (q i) p * is (y i) b),
-            sum-swap P m (λ p i. is (q i) p * is (y (suc i)) b),
-          )
-
-      one : (i : ℕ) × (i < m) × (out (next y) i < is (y (suc i)) b) → copies P (turn m y q S) b ≤ cap b
+      one : (i : ℕ) × (i < m) × (of-row (next y) b i < is (y (suc i)) b) → copies P (turn m y q S) b ≤ cap b
       one (i, k, a) =
-          ⊎-elim (λ r. absurd (omega (arith, out-row (next y) i r)))
+          ⊎-elim (λ r. absurd (omega (arith, row-counts (next y) b i r)))
           (λ r. let e : y (suc i) ≡ b = is-one (y (suc i)) b (omega (arith, is-le (y (suc i)) b)) in
-          omega (arith, balance, comes, once b, subst (λ (x : ℕ). copies P S x < cap x) e (room i k r)))
+          omega (arith, balance b, rows-among y b, once b, subst (λ (x : ℕ). copies P S x < cap x) e (room i k r)))
           (lt-or-ge (q i) P)
+
+  -- A node that has fewer copies than before is entered by a step over the store.
+  pub turn-room : (b : ℕ) → copies P (turn m y q S) b < copies P S b → (i : ℕ) × (i < m) × (P ≤ q i) × (y i ≡ b)
+  unfolding hits
+  turn-room b less = one (sum-witness m (of-row y b) (λ i. is (y i) b) (omega (arith, balance b, rows-among (next y) b, left b)))
+    where
+      one : (i : ℕ) × (i < m) × (of-row y b i < is (y i) b) → (i : ℕ) × (i < m) × (P ≤ q i) × (y i ≡ b)
+      one (i, k, a) =
+          ⊎-elim (λ r. absurd (omega (arith, row-counts y b i r)))
+          (λ r. (i, k, r, is-one (y i) b (omega (arith, is-le (y i) b)))) (lt-or-ge (q i) P)
+
+  -- A row that no arc is of stays.
+  pub turn-kept : (p : ℕ) → ((i : ℕ) → i < m → q i ≡ p → ⊥) → (x : ℕ) → turn m y q S p x ≡ S p x
+  unfolding turn
+  turn-kept p none x =
+      omega (
+        arith,
+        sum-zero m (λ i. is (q i) p * is (y i) x) (λ i l. not-times (none i l) (is (y i) x)),
+        sum-zero m (λ i. is (q i) p * is (y (suc i)) x) (λ i l. not-times (none i l) (is (y (suc i)) x)),
+      )
 
   -- ---- the weight
 

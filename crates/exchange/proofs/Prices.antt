@@ -84,6 +84,25 @@ weigh-copies P N S y =
     sum-swap P N (λ p b. S p b * y b)
     ∙ sum-cong N (λ b. sumTo P (λ p. S p b * y b)) (λ b. sumTo P (λ p. S p b) * y b) (λ b l. sum-scale-right P (y b) (λ p. S p b))
 
+-- One row of a layout with prices is best for weight less price.
+pub row-fair : (P N R Z : ℕ) (zone cap : ℕ → ℕ) (g free S : ℕ → ℕ → ℕ) (y : ℕ → ℕ) → ((x : ℕ) → x < N → zone x < N)
+    → ((p b : ℕ) → free p b ≤ 1) → Within P N R Z zone cap S → Prices P N R Z zone cap g free S y
+    → (p : ℕ) → p < P → (T : ℕ → ℕ) → Valid N R Z zone T → ((x : ℕ) → x < N → free p x ≡ 0 → T x ≡ S p x)
+    → sumTo N (λ b. T b * g p b) + sumTo N (λ b. S p b * y b) ≤ sumTo N (λ b. S p b * g p b) + sumTo N (λ b. T b * y b)
+row-fair P N R Z zone cap g free S y zl fl v c p l T w agree =
+    row-prices N R Z zone (g p) (free p) (S p) T y zl (fl p) (v .rows p l) w agree
+    (λ a b la lb i o fa fb u.
+    c .fair p a b l (record { a-node = la; b-node = lb; a-in = i; b-out = o; a-free = fa; b-free = fb; valid = u }))
+
+-- No layout within the caps pays more at a node than one that the prices are of: it has the node full where it pays.
+pub node-paid : (P N R Z : ℕ) (zone cap : ℕ → ℕ) (g free S : ℕ → ℕ → ℕ) (y : ℕ → ℕ) → Prices P N R Z zone cap g free S y
+    → (T : ℕ → ℕ → ℕ) → Within P N R Z zone cap T → (b : ℕ) → b < N → copies P T b * y b ≤ copies P S b * y b
+node-paid P N R Z zone cap g free S y c T w b l =
+    ⊎-elim
+    (λ z. let e : y b ≡ 0 = omega arith in
+    omega (arith, ap (λ (n : ℕ). copies P T b * n) e, ap (λ (n : ℕ). copies P S b * n) e))
+    (λ o. let n : copies P T b ≤ copies P S b = omega (arith, w .caps b l, c .full b l o) in mul-le-mul-right (y b) n) (lt-or-ge (y b) 1)
+
 -- A layout within the caps that has prices weighs the most of all layouts within the caps that agree with it on the pairs that are not free.
 pub prices-best : (P N R Z : ℕ) (zone cap : ℕ → ℕ) (g free S : ℕ → ℕ → ℕ) (y : ℕ → ℕ) → ((x : ℕ) → x < N → zone x < N)
     → ((p b : ℕ) → free p b ≤ 1) → Within P N R Z zone cap S → Prices P N R Z zone cap g free S y
@@ -94,26 +113,13 @@ prices-best P N R Z zone cap g free S y zl fl v c T w agree =
       arith,
       weigh-copies P N S y,
       weigh-copies P N T y,
-      sum-le N (λ b. copies P T b * y b) (λ b. copies P S b * y b) paid,
+      sum-le N (λ b. copies P T b * y b) (λ b. copies P S b * y b) (node-paid P N R Z zone cap g free S y c T w),
       sum-add P (λ p. sumTo N (λ b. T p b * g p b)) (λ p. sumTo N (λ b. S p b * y b)),
       sum-add P (λ p. sumTo N (λ b. S p b * g p b)) (λ p. sumTo N (λ b. T p b * y b)),
       sum-le P (λ p. sumTo N (λ b. T p b * g p b) + sumTo N (λ b. S p b * y b))
-          (λ p. sumTo N (λ b. S p b * g p b) + sumTo N (λ b. T p b * y b)) row,
+          (λ p. sumTo N (λ b. S p b * g p b) + sumTo N (λ b. T p b * y b))
+          (λ p l. row-fair P N R Z zone cap g free S y zl fl v c p l (T p) (w .rows p l) (agree p l)),
     )
-  where
-    paid : (b : ℕ) → b < N → copies P T b * y b ≤ copies P S b * y b
-    paid b l =
-        ⊎-elim
-        (λ z. let e : y b ≡ 0 = omega arith in
-        omega (arith, ap (λ (n : ℕ). copies P T b * n) e, ap (λ (n : ℕ). copies P S b * n) e))
-        (λ o. let n : copies P T b ≤ copies P S b = omega (arith, w .caps b l, c .full b l o) in mul-le-mul-right (y b) n) (lt-or-ge (y b) 1)
-
-    row : (p : ℕ) → p < P
-        → sumTo N (λ b. T p b * g p b) + sumTo N (λ b. S p b * y b) ≤ sumTo N (λ b. S p b * g p b) + sumTo N (λ b. T p b * y b)
-    row p l =
-        row-prices N R Z zone (g p) (free p) (S p) (T p) y zl (fl p) (v .rows p l) (w .rows p l) (agree p l)
-        (λ a b la lb i o fa fb u.
-        c .fair p a b l (record { a-node = la; b-node = lb; a-in = i; b-out = o; a-free = fa; b-free = fb; valid = u }))
 
 -- ---- from a potential
 
