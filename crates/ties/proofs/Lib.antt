@@ -1,0 +1,5 @@
+pub mod Stays
+pub mod Trying
+pub mod Order
+pub mod Largest
+pub mod Deciding

@@ -1,0 +1,2 @@
+pub mod ModelOrder
+pub mod ModelEven
