@@ -1,7 +1,7 @@
 -- Rows of ids and rows of bits over the nodes: counts, and the row of ids with given bits.
 -- Assumes nothing.
 use Prim.Native.Nat.{ℕ, zero, suc, _+_, _*_, _≤_, _<_}
-use mathlib.Core.Path.{_≡_, refl, sym, ap, _∙_, subst}
+use mathlib.Core.Path.{_≡_, refl, sym, ap, ap₂, _∙_, subst}
 use mathlib.Core.List.{List, [], _∷_}
 use mathlib.Core.Bool.{Bool, true, false, not, cond}
 use mathlib.Core.Logic.{⊎-elim}
@@ -9,7 +9,7 @@ use native.Mathlib.Nat.{mul-one}
 use native.Mathlib.Omega.{arith}
 use lib.Dec.{eqb}
 use lib.ListN.{length, getD, length-map, List·getD-map}
-use borrow.Author.Tests.{eqb-true, eqb-false}
+use borrow.Author.Tests.{eqb-true, eqb-false, eq-eqb, ne-eqb}
 use Rattle.sums.specs.TermsSums.{sumTo, one-if}
 use Rattle.sums.proofs.Sum.{sum-cong, sum-first}
 use Rattle.cluster.specs.Terms.{noNode, idsOf, mem, risingFrom, Layout, row, copiesIn}
@@ -72,6 +72,26 @@ copies-sum (r ∷ rs) i =
     ∙ sym (sum-first (length rs) (λ p. one-if (mem i (row (r ∷ rs) p))))
 
 -- ---- the row of ids with given bits
+
+-- A node at which f is 0 is left out,
+pub where-out : (n : Node) (ns : List Node) (f : ℕ → ℕ) → f 0 ≡ 0 → idsWhere (n ∷ ns) f ≡ idsWhere ns (λ b. f (suc b))
+unfolding idsWhere
+where-out n ns f e =
+    ap (λ (t : Bool). cond t (idsWhere ns (λ b. f (suc b))) (n .id ∷ idsWhere ns (λ b. f (suc b)))) (eq-eqb (f 0) 0 e)
+
+-- and any other is taken.
+pub where-in : (n : Node) (ns : List Node) (f : ℕ → ℕ) → 1 ≤ f 0 → idsWhere (n ∷ ns) f ≡ n .id ∷ idsWhere ns (λ b. f (suc b))
+unfolding idsWhere
+where-in n ns f h =
+    ap (λ (t : Bool). cond t (idsWhere ns (λ b. f (suc b))) (n .id ∷ idsWhere ns (λ b. f (suc b)))) (ne-eqb (f 0) 0 (λ e. omega arith))
+
+-- Functions that agree on the nodes give the same ids.
+pub where-cong : (ns : List Node) (f g : ℕ → ℕ) → ((b : ℕ) → b < length ns → f b ≡ g b) → idsWhere ns f ≡ idsWhere ns g
+unfolding idsWhere
+where-cong [] f g h = refl
+where-cong (n ∷ ns) f g h =
+    ap₂ (λ (v : ℕ) (r : List ℕ). cond (eqb v 0) r (n .id ∷ r)) (h 0 (omega arith))
+    (where-cong ns (λ b. f (suc b)) (λ b. g (suc b)) (λ b l. h (suc b) (omega arith)))
 
 -- It names nodes of the cluster alone.
 pub where-known : (ns : List Node) (f : ℕ → ℕ) (i : ℕ) → mem i (idsWhere ns f) ≡ true → mem i (idsOf ns) ≡ true

@@ -1,21 +1,19 @@
 -- The ids of the nodes of a mask: the first of them is that of the least node, and the others are those of the mask without it.
 -- Assumes nothing.
 use Prim.Native.Nat.{ℕ, zero, suc, _+_, _-_, _≤_, _<_, min}
-use mathlib.Core.Path.{_≡_, refl, sym, ap, ap₂, _∙_}
+use mathlib.Core.Path.{_≡_, refl, sym, ap, _∙_}
 use mathlib.Core.List.{List, [], _∷_}
-use mathlib.Core.Bool.{Bool, cond}
 use mathlib.Core.Logic.{⊎-elim}
 use native.Mathlib.Omega.{arith}
-use lib.Dec.{eqb}
 use lib.ListN.{length, drop, getD, List·getD-eq-default}
 use lib.Seq.{drop-drop, getD-drop}
-use borrow.Author.Tests.{eq-eqb, ne-eqb}
 use Rattle.sums.specs.TermsSums.{sumTo}
 use Rattle.sums.proofs.Sum.{lt-or-ge, sum-first}
 use Rattle.sets.specs.ModelBits.{bit, withoutOf, leastOf}
 use Rattle.sets.proofs.Laws.{bit-zero, bit-without, bit-without-same, bit-without-other, least-before, least-at}
 use Rattle.cluster.specs.Terms.{mostNodes, noNode}
 use Rattle.incidence.specs.ModelIncidence.{idsWhere}
+use Rattle.incidence.proofs.TieRows.{where-out, where-in, where-cong}
 use Rattle.incidence.proofs.Columns.{cell-column}
 use Rattle.cluster.specs.declared.Node.{Node}
 use Rattle.masks.specs.ModelMasks.{idCells}
@@ -28,26 +26,6 @@ past-id ns b h = ap (λ (n : Node). n .id) (List·getD-eq-default ns noNode h)
 pub id-cell : (ns : List Node) (ids : List ℕ) (b : ℕ) → length ns ≤ mostNodes → ids ≡ idCells ns → b < length ns → getD ids b 0 ≡ getD ns b noNode .id
 unfolding idCells
 id-cell ns ids b few e h = ap (λ (l : List ℕ). getD l b 0) e ∙ cell-column (λ i. getD ns i noNode .id) (length ns) b few h
-
--- A node at which f is 0 is left out,
-where-out : (n : Node) (ns : List Node) (f : ℕ → ℕ) → f 0 ≡ 0 → idsWhere (n ∷ ns) f ≡ idsWhere ns (λ b. f (suc b))
-unfolding idsWhere
-where-out n ns f e =
-    ap (λ (t : Bool). cond t (idsWhere ns (λ b. f (suc b))) (n .id ∷ idsWhere ns (λ b. f (suc b)))) (eq-eqb (f 0) 0 e)
-
--- and any other is taken.
-where-in : (n : Node) (ns : List Node) (f : ℕ → ℕ) → 1 ≤ f 0 → idsWhere (n ∷ ns) f ≡ n .id ∷ idsWhere ns (λ b. f (suc b))
-unfolding idsWhere
-where-in n ns f h =
-    ap (λ (t : Bool). cond t (idsWhere ns (λ b. f (suc b))) (n .id ∷ idsWhere ns (λ b. f (suc b)))) (ne-eqb (f 0) 0 (λ e. omega arith))
-
--- Functions that agree on the nodes give the same ids.
-pub where-cong : (ns : List Node) (f g : ℕ → ℕ) → ((b : ℕ) → b < length ns → f b ≡ g b) → idsWhere ns f ≡ idsWhere ns g
-unfolding idsWhere
-where-cong [] f g h = refl
-where-cong (n ∷ ns) f g h =
-    ap₂ (λ (v : ℕ) (r : List ℕ). cond (eqb v 0) r (n .id ∷ r)) (h 0 (omega arith))
-    (where-cong ns (λ b. f (suc b)) (λ b. g (suc b)) (λ b l. h (suc b) (omega arith)))
 
 -- A function that is 0 on the nodes gives no ids.
 pub where-none : (ns : List Node) (f : ℕ → ℕ) → ((b : ℕ) → b < length ns → f b ≡ 0) → idsWhere ns f ≡ []
