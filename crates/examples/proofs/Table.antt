@@ -3,7 +3,7 @@
 use Prim.Native.Nat.{ℕ, suc, _≤_}
 use mathlib.Core.Path.{_≡_, refl, sym, ap₂, _∙_}
 use mathlib.Core.Bool.{Bool, true, false, not, _&&_, _||_, false≢true}
-use mathlib.Core.Logic.{⊎-elim}
+use mathlib.Core.Logic.{_⊎_, ⊎-elim}
 use mathlib.Core.List.{List, [], _∷_}
 use native.Mathlib.Omega.{arith}
 use lib.Dec.{leb, eqb}
@@ -11,23 +11,14 @@ use borrow.Author.Tests.{leb-true, eqb-true, eq-eqb, not-true}
 use Rattle.sums.specs.TermsSums.{sumTo, one-if}
 use Rattle.sums.proofs.Sum.{lt-or-ge}
 use Rattle.cluster.specs.Terms.{usable, takes, Topology, idsOf, mem, risingFrom, rising, different, zonesNamed, Layout, copiesIn, ValidAt, onlyIn, sent}
+use Rattle.cluster.specs.TermsFirst.{Before}
 use Rattle.sums.proofs.Tests.{both}
-use Rattle.examples.specs.TermsExamples.{Rows, HasRows, Expected, no-layout, planned, Comes, Example, Holds, table, EveryHolds, Table}
-use Rattle.examples.specs.ModelExamples.{every, some, implies, choices, before, layoutsOf, candidates, rowTest, nodeTest, validTest, acceptedTest, formerRowTest, formerTest, sameRow, sameLayout, rowsTest, nearest, agrees, outcomeTest, passes}
+use Rattle.examples.specs.TermsExamples.{Expected, no-layout, planned, Comes, Example, Holds, table, EveryHolds, Table}
+use Rattle.examples.specs.ModelExamples.{every, implies, choices, before, layoutsOf, candidates, rowTest, nodeTest, validTest, acceptedTest, formerRowTest, formerTest, sameRow, sameLayout, rowBeforeTest, beforeTest, nearest, agrees, outcomeTest, passes}
 use Rattle.examples.proofs.Listing.{candidate}
-use Rattle.examples.proofs.Testing.{test-valid, valid-test, valid-below, test-accepted, test-former, test-rows}
+use Rattle.examples.proofs.Testing.{test-valid, valid-test, valid-below, test-accepted, test-former, test-before}
 
 -- ---- tests
-
--- Where one of a list passes, there is one that does.
-some-one : {A : Type 0} (f : A → Bool) (l : List A) → some f l ≡ true → (x : A) × (f x ≡ true)
-unfolding some
-some-one f [] h = absurd (false≢true h)
-some-one {A} f (x ∷ xs) h = go (f x) refl (some-one f xs) h
-  where
-    go : (b : Bool) → f x ≡ b → (some f xs ≡ true → (y : A) × (f y ≡ true)) → b || some f xs ≡ true → (y : A) × (f y ≡ true)
-    go true e rest q = (x, e)
-    go false e rest q = rest q
 
 -- A test that fails does not hold.
 fails : (b : Bool) → not b ≡ true → b ≡ true → ⊥
@@ -53,55 +44,57 @@ unfolding nearest
 valid-nearest t F s d L v e = ap₂ _&&_ (valid-test t L s v) (eq-eqb (sent t L F) d e)
 
 -- What a layout that agrees is held to.
-agreed : (t : Topology) (F : Layout) (s d : ℕ) (rows : Rows) (L : Layout) → agrees t F s d rows L ≡ true
+agreed : (t : Topology) (F : Layout) (s d : ℕ) (M L : Layout) → agrees t F s d M L ≡ true
     → (not (validTest t L (suc s)) ≡ true)
     × (implies (validTest t L s) (leb d (sent t L F)) ≡ true)
-    × (implies (nearest t F s d L) (rowsTest rows L) ≡ true)
+    × (implies (nearest t F s d L) (sameLayout M L || beforeTest M L) ≡ true)
 unfolding agrees
-agreed t F s d rows L h =
+agreed t F s d M L h =
     let a = both (not (validTest t L (suc s))) _ h in
-    let b = both (implies (validTest t L s) (leb d (sent t L F))) (implies (nearest t F s d L) (rowsTest rows L)) (a .1) in
+    let b = both (implies (validTest t L s) (leb d (sent t L F))) (implies (nearest t F s d L) (sameLayout M L || beforeTest M L)) (a .1) in
     (a .0, b .0, b .1)
 
 -- ---- the outcome
 
 -- Where all candidates agree, every valid layout does: the ids of the cluster rise, so it is a candidate.
-module _ (t : Topology) (F : Layout) (s d : ℕ) (rows : Rows) (u : rising (idsOf (t .nodes)) ≡ true)
-    (h : every (agrees t F s d rows) (candidates t) ≡ true) where
-  all-agree : (L : Layout) (s′ : ℕ) → ValidAt t L s′ → agrees t F s d rows L ≡ true
-  all-agree L s′ v = candidate t L s′ u v (agrees t F s d rows) h
+module _ (t : Topology) (F : Layout) (s d : ℕ) (M : Layout) (u : rising (idsOf (t .nodes)) ≡ true)
+    (h : every (agrees t F s d M) (candidates t) ≡ true) where
+  all-agree : (L : Layout) (s′ : ℕ) → ValidAt t L s′ → agrees t F s d M L ≡ true
+  all-agree L s′ v = candidate t L s′ u v (agrees t F s d M) h
 
   -- A layout valid at a larger size is valid at s + 1, where none is.
   none-larger : (L : Layout) (s′ : ℕ) → ValidAt t L s′ → s′ ≤ s
   none-larger L s′ v =
       ⊎-elim
-      (λ l. absurd (fails (validTest t L (suc s)) (agreed t F s d rows L (all-agree L s′ v) .0)
+      (λ l. absurd (fails (validTest t L (suc s)) (agreed t F s d M L (all-agree L s′ v) .0)
       (valid-test t L (suc s) (valid-below t L (suc s) s′ (omega arith) (omega arith) v))))
       (λ l. l) (lt-or-ge s s′)
 
   none-nearer : (L : Layout) → ValidAt t L s → d ≤ sent t L F
   none-nearer L v =
       leb-true d (sent t L F)
-      (then (validTest t L s) (leb d (sent t L F)) (agreed t F s d rows L (all-agree L s v) .1) (valid-test t L s v))
+      (then (validTest t L s) (leb d (sent t L F)) (agreed t F s d M L (all-agree L s v) .1) (valid-test t L s v))
 
-  nearest-rows : (L : Layout) → ValidAt t L s → sent t L F ≡ d → HasRows rows L
-  nearest-rows L v e =
-      test-rows rows L
-      (then (nearest t F s d L) (rowsTest rows L) (agreed t F s d rows L (all-agree L s v) .2) (valid-nearest t F s d L v e))
+  none-before : (L : Layout) → ValidAt t L s → sent t L F ≡ d → (M ≡ L) ⊎ Before M L
+  none-before L v e =
+      test-before M L
+      (then (nearest t F s d L) (sameLayout M L || beforeTest M L) (agreed t F s d M L (all-agree L s v) .2) (valid-nearest t F s d L v e))
 
 -- The outcome that passes comes about.
 pub test-comes : (t : Topology) (F : Layout) (o : Expected) → rising (idsOf (t .nodes)) ≡ true → outcomeTest t F o ≡ true → Comes t F o
 unfolding outcomeTest
 test-comes t F no-layout u h = λ L v. fails (validTest t L 1) (candidate t L 1 u v (λ M. not (validTest t M 1)) h) (valid-test t L 1 v)
-test-comes t F (planned s d rows) u h =
-    let a = both (some (nearest t F s d) (candidates t)) (every (agrees t F s d rows) (candidates t)) h in
-    let w = some-one (nearest t F s d) (candidates t) (a .0) in
-    let v = nearest-valid t F s d (w .0) (w .1) in
+test-comes t F (planned s d M) u h =
+    let a = both (nearest t F s d M) (every (agrees t F s d M) (candidates t)) h in
+    let v = nearest-valid t F s d M (a .0) in
     record {
-      size = record { reached = (w .0, v .0); largest = none-larger t F s d rows u (a .1) };
-      reached = (w .0, v .0, v .1);
-      least = none-nearer t F s d rows u (a .1);
-      has-rows = nearest-rows t F s d rows u (a .1);
+      size = record { reached = (M, v .0); largest = none-larger t F s d M u (a .1) };
+      sends = v .1;
+      first = record {
+        valid = v .0;
+        nearest = λ L w. omega (arith, v .1, none-nearer t F s d M u (a .1) L w);
+        first = λ L w e. none-before t F s d M u (a .1) L w (e ∙ v .1);
+      };
     }
 
 -- ---- the table
@@ -128,8 +121,8 @@ all-hold (e ∷ es) h = let a = both (passes e) (every passes es) h in (passes-h
 -- The test of the whole table, by computing.
 pub table-passes : every passes table ≡ true
 unfolding
-    every some implies choices before layoutsOf candidates rowTest nodeTest validTest acceptedTest formerRowTest formerTest sameRow sameLayout
-    rowsTest nearest agrees outcomeTest passes sumTo one-if idsOf mem risingFrom different zonesNamed copiesIn usable takes onlyIn sent
+    every implies choices before layoutsOf candidates rowTest nodeTest validTest acceptedTest formerRowTest formerTest sameRow sameLayout
+    rowBeforeTest beforeTest nearest agrees outcomeTest passes sumTo one-if idsOf mem risingFrom different zonesNamed copiesIn usable takes onlyIn sent
 table-passes = refl
 
 -- The paper's table: every starred example holds, of the terms.

@@ -1,9 +1,9 @@
--- The tests mean the terms: validity, both ways; acceptance, former layouts and named rows, from the test to the term.
+-- The tests mean the terms: validity, both ways; acceptance, former layouts and the order, from the test to the term.
 -- Assumes nothing.
 use Prim.Native.Nat.{ℕ, zero, suc, _≤_, _<_}
 use mathlib.Core.Path.{_≡_, refl, ap, ap₂, _∙_}
-use mathlib.Core.Bool.{Bool, true, _&&_, false≢true}
-use mathlib.Core.Logic.{⊎-elim}
+use mathlib.Core.Bool.{Bool, true, false, _&&_, _||_, false≢true}
+use mathlib.Core.Logic.{_⊎_, inl, inr, ⊎-elim}
 use mathlib.Core.List.{List, [], _∷_}
 use native.Mathlib.Nat.{mul-le-mul-left}
 use native.Mathlib.Omega.{arith}
@@ -13,10 +13,10 @@ use borrow.Author.Tests.{ltb-true, lt-ltb, leb-true, le-leb, eqb-true, eq-eqb}
 use Rattle.cluster.proofs.Taking.{takes-held}
 use Rattle.cluster.specs.Terms.{mostBits, mostCopies, mostNodes, Topology, partitions, noNode, nodeAt, idsOf, mem, rising, zonesOf, Layout, row, copiesIn, ValidRow, ValidAt, IsFormer}
 use Rattle.cluster.specs.TermsReading.{Accepted}
+use Rattle.cluster.specs.TermsFirst.{RowBefore, Before}
 use Rattle.sums.proofs.Tests.{both}
 use Rattle.cluster.proofs.Lists.{mem-head, mem-tail, mem-none, mem-cases}
-use Rattle.examples.specs.TermsExamples.{Rows, unnamed, named, HasRows}
-use Rattle.examples.specs.ModelExamples.{every, rowTest, nodeTest, validTest, acceptedTest, formerRowTest, formerTest, sameRow, sameLayout, rowsTest}
+use Rattle.examples.specs.ModelExamples.{every, rowTest, nodeTest, validTest, acceptedTest, formerRowTest, formerTest, sameRow, sameLayout, rowBeforeTest, beforeTest}
 
 -- ---- tests over a list
 
@@ -135,8 +135,9 @@ test-former t F h =
       few = λ p l. leb-true (length (row F p)) mostCopies (each p l .1);
     }
 
--- ---- the rows that are named
+-- ---- the same
 
+-- Rows that pass are equal ..
 same-row : (r q : List ℕ) → sameRow r q ≡ true → r ≡ q
 unfolding sameRow
 same-row [] [] h = refl
@@ -146,6 +147,7 @@ same-row (x ∷ xs) (y ∷ ys) h =
     let a = both (eqb x y) (sameRow xs ys) h in
     ap₂ (λ (i : ℕ) (l : List ℕ). i ∷ l) (eqb-true x y (a .0)) (same-row xs ys (a .1))
 
+-- .. and so are layouts.
 same-layout : (L M : Layout) → sameLayout L M ≡ true → L ≡ M
 unfolding sameLayout
 same-layout [] [] h = refl
@@ -155,7 +157,33 @@ same-layout (r ∷ rs) (q ∷ qs) h =
     let a = both (sameRow r q) (sameLayout rs qs) h in
     ap₂ (λ (i : List ℕ) (l : Layout). i ∷ l) (same-row r q (a .0)) (same-layout rs qs (a .1))
 
-pub test-rows : (rows : Rows) (L : Layout) → rowsTest rows L ≡ true → HasRows rows L
-unfolding rowsTest
-test-rows unnamed L h = tt
-test-rows (named M) L h = same-layout L M h
+-- ---- the order
+
+-- One of two tests holds.
+either : (a b : Bool) → a || b ≡ true → (a ≡ true) ⊎ (b ≡ true)
+either true b h = inl refl
+either false b h = inr h
+
+-- A row that passes comes before the other ..
+row-before : (r q : List ℕ) → rowBeforeTest r q ≡ true → RowBefore r q
+unfolding rowBeforeTest RowBefore
+row-before [] q h = absurd (false≢true h)
+row-before (x ∷ xs) [] h = absurd (false≢true h)
+row-before (x ∷ xs) (y ∷ ys) h =
+    ⊎-elim (λ a. inl (ltb-true x y a))
+    (λ a. let b = both (eqb x y) (rowBeforeTest xs ys) a in inr (eqb-true x y (b .0), row-before xs ys (b .1)))
+    (either (ltb x y) (eqb x y && rowBeforeTest xs ys) h)
+
+-- .. and so does a layout.
+before-layout : (L M : Layout) → beforeTest L M ≡ true → Before L M
+unfolding beforeTest Before
+before-layout [] M h = absurd (false≢true h)
+before-layout (r ∷ rs) [] h = absurd (false≢true h)
+before-layout (r ∷ rs) (q ∷ qs) h =
+    ⊎-elim (λ a. inl (row-before r q a))
+    (λ a. let b = both (sameRow r q) (beforeTest rs qs) a in inr (same-row r q (b .0), before-layout rs qs (b .1)))
+    (either (rowBeforeTest r q) (sameRow r q && beforeTest rs qs) h)
+
+-- A layout that passes is the other or comes before it.
+pub test-before : (L M : Layout) → sameLayout L M || beforeTest L M ≡ true → (L ≡ M) ⊎ Before L M
+test-before L M h = ⊎-elim (λ a. inl (same-layout L M a)) (λ a. inr (before-layout L M a)) (either (sameLayout L M) (beforeTest L M) h)

@@ -8,7 +8,7 @@ use lib.Dec.{ltb, leb, eqb}
 use lib.ListN.{length}
 use Rattle.cluster.specs.Terms.{takes, mostBits, mostCopies, mostNodes, Topology, partitions, idsOf, mem, rising, zonesOf, Layout, copiesIn, sent}
 use Rattle.cluster.specs.declared.Node.{Node}
-use Rattle.examples.specs.TermsExamples.{Rows, unnamed, named, Expected, no-layout, planned, Example}
+use Rattle.examples.specs.TermsExamples.{Expected, no-layout, planned, Example}
 
 -- ---- tests over a list
 
@@ -16,11 +16,6 @@ use Rattle.examples.specs.TermsExamples.{Rows, unnamed, named, Expected,
 unfoldable pub every : {A : Type 0} → (A → Bool) → List A → Bool
 every f [] = true
 every f (x ∷ xs) = f x && every f xs
-
--- A test holds of one of a list.
-unfoldable pub some : {A : Type 0} → (A → Bool) → List A → Bool
-some f [] = false
-some f (x ∷ xs) = f x || some f xs
 
 -- The second test is asked only where the first holds.
 unfoldable pub implies : Bool → Bool → Bool
@@ -95,10 +90,16 @@ sameLayout [] (q ∷ qs) = false
 sameLayout (r ∷ rs) [] = false
 sameLayout (r ∷ rs) (q ∷ qs) = sameRow r q && sameLayout rs qs
 
--- HasRows.
-unfoldable pub rowsTest : Rows → Layout → Bool
-rowsTest unnamed L = true
-rowsTest (named M) L = sameLayout L M
+-- RowBefore, and Before.
+unfoldable pub rowBeforeTest : List ℕ → List ℕ → Bool
+rowBeforeTest [] r = false
+rowBeforeTest (x ∷ xs) [] = false
+rowBeforeTest (x ∷ xs) (y ∷ ys) = ltb x y || (eqb x y && rowBeforeTest xs ys)
+
+unfoldable pub beforeTest : Layout → Layout → Bool
+beforeTest [] M = false
+beforeTest (r ∷ rs) [] = false
+beforeTest (r ∷ rs) (q ∷ qs) = rowBeforeTest r q || (sameRow r q && beforeTest rs qs)
 
 -- ---- the outcome
 
@@ -106,16 +107,16 @@ rowsTest (named M) L = sameLayout L M
 unfoldable pub nearest : Topology → Layout → ℕ → ℕ → Layout → Bool
 nearest t F s d L = validTest t L s && eqb (sent t L F) d
 
--- A layout is not valid at a larger size; valid at the size it sends no less than named; and where it sends so few, it has the rows named.
-unfoldable pub agrees : Topology → Layout → ℕ → ℕ → Rows → Layout → Bool
-agrees t F s d rows L =
+-- A layout is not valid at a larger size; valid at the size it sends no less than M does; and where it sends as few, it is M or comes after it.
+unfoldable pub agrees : Topology → Layout → ℕ → ℕ → Layout → Layout → Bool
+agrees t F s d M L =
     not (validTest t L (suc s))
-    && (implies (validTest t L s) (leb d (sent t L F)) && implies (nearest t F s d L) (rowsTest rows L))
+    && (implies (validTest t L s) (leb d (sent t L F)) && implies (nearest t F s d L) (sameLayout M L || beforeTest M L))
 
--- Comes: one candidate is what the example says, and all agree with it.
+-- Comes: the layout that the example names is valid and sends what it says, and all candidates agree with it.
 unfoldable pub outcomeTest : Topology → Layout → Expected → Bool
 outcomeTest t F no-layout = every (λ (L : Layout). not (validTest t L 1)) (candidates t)
-outcomeTest t F (planned s d rows) = some (nearest t F s d) (candidates t) && every (agrees t F s d rows) (candidates t)
+outcomeTest t F (planned s d M) = nearest t F s d M && every (agrees t F s d M) (candidates t)
 
 -- An example passes.
 unfoldable pub passes : Example → Bool
