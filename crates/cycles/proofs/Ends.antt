@@ -3,7 +3,7 @@
 -- Assumes nothing.
 use Prim.Native.Nat.{ℕ, zero, suc, _+_, _-_, _*_, _≤_, _<_, _^_, max}
 use mathlib.Core.Path.{_≡_, refl, sym, ap, ap₂, _∙_, subst}
-use mathlib.Core.Bool.{Bool, true, false, cond, _&&_}
+use mathlib.Core.Bool.{Bool, true, false, cond, _&&_, true≢false}
 use mathlib.Core.List.{List}
 use mathlib.Core.Logic.{⊎-elim}
 use native.Mathlib.Nat.{sub-zero}
@@ -21,12 +21,12 @@ use Rattle.cells.proofs.Cells.{put-cong}
 use Rattle.sets.specs.ModelBits.{maskBits, bit, memberOf, leastOf}
 use Rattle.sets.proofs.Laws.{bit-zero, member-true, member-false, bit-true, bit-false, bit-with, least-some, least-at}
 use Rattle.exchange.specs.ModelLevels as levels
-use Rattle.exchange.specs.ModelLevels.{Graph, Outcome, Potential, Cycle, fell, back, way, closes, search-from, outcome, cycleLength}
-use Rattle.exchange.proofs.Levels.{from-node}
+use Rattle.exchange.specs.ModelLevels.{Graph, Outcome, Potential, Cycle, fell, back, way, closes, search-from, outcome, cycleLength, IsPotential}
+use Rattle.exchange.proofs.Levels.{from-node, dist-le}
 use Rattle.sums.proofs.Tests.{true-or-false}
-use Rattle.exchange.proofs.Search.{open-next, Closing, closing, way-next, way-stays, back-next, back-fell, back-node}
+use Rattle.exchange.proofs.Search.{open-next, Closing, closing, way-next, way-stays, back-next, back-fell, back-node, outcome-potential}
 use Rattle.sums.proofs.First.{first-lt, first-cong, first-is-none, first-some, first-none, first-cases}
-use Rattle.cycles.specs.ModelFound.{endLength, endWalk}
+use Rattle.cycles.specs.ModelFound.{endLength, endWalk, Levelled}
 use Rattle.levels.specs.ModelTurns.{Settled}
 use Rattle.cycles.specs.ModelTrails.{behind, returned, closer, trail, trailLength}
 use Rattle.cycles.proofs.States.{State, Next}
@@ -210,6 +210,36 @@ module _ {G : Graph} {k set mask : ℕ} {next table dist next₀ ways table₀ r
 -- The row that a part of the table shows.
 pub part-row : (i v : ℕ) (l : List ℕ) → v < mostNodes → getD (take (i + mostNodes - i) (drop i l)) v 0 ≡ getD l (i + v) 0
 part-row i v l h = getD-take (i + mostNodes - i) (drop i l) v 0 (omega arith) ∙ getD-drop i l v 0
+
+-- The level of a potential.
+level-of : Outcome → ℕ
+level-of (Potential k) = k
+level-of (Cycle k v) = 0
+
+-- Whether an outcome is a cycle.
+is-cycle : Outcome → Bool
+is-cycle (Potential k) = false
+is-cycle (Cycle k v) = true
+
+module _ (G : Graph) (o : Outcome) (k : ℕ) {mask : ℕ} {dist next ways table : List ℕ} (st : State G k mask dist next ways table) where
+  level-low : (v : ℕ) → v < G .N → getD dist v 0 ≤ G .N * G .C
+  level-low v l = omega (arith, st .dists v l, dist-le G k v)
+
+  -- The distances where a search ends with a potential.
+  pub levelled-still : o ≡ Potential k → Levelled G o dist
+  unfolding level-of
+  levelled-still e =
+      (level-low, λ j q v l. let z : k ≡ j = ap level-of (sym e ∙ q) in st .dists v l ∙ ap (λ (i : ℕ). levels.dist G i v) z)
+
+  -- The distances where it ends with a cycle.
+  pub levelled-closed : (j v : ℕ) → o ≡ Cycle j v → Levelled G o dist
+  unfolding is-cycle
+  levelled-closed j v e = (level-low, λ i q w l. absurd (true≢false (ap is-cycle (sym e ∙ q))))
+
+-- Where a search ends with a potential, its distances are one.
+pub levelled-potential : (G : Graph) → 1 ≤ G .N → (cells : List ℕ) → Levelled G (outcome G) cells → (k : ℕ) → outcome G ≡ Potential k → IsPotential G (λ v. getD cells v 0)
+levelled-potential G s cells h k e u v lu lv a =
+    omega (arith, outcome-potential G k s e .1 u v lu lv a, h .1 k e u lu, h .1 k e v lv)
 
 -- What a search answers that ends with a potential.
 pub ends-still : (G : Graph) (o : Outcome) (k : ℕ) (walk₀ walk : List ℕ) → o ≡ Potential k → walk ≡ walk₀ → (0 ≡ endLength G o) × (walk ≡ endWalk G o walk₀)

@@ -1,13 +1,14 @@
 -- What a search for a negative cycle answers: the length of the cycle, 0 where there is none, and the walk around it.
 -- Assumes nothing.
-use Prim.Native.Nat.{ℕ, _+_}
+use Prim.Native.Nat.{ℕ, _+_, _*_, _≤_, _<_}
+use mathlib.Core.Path.{_≡_}
 use mathlib.Core.Bool.{Bool, cond, _&&_}
 use mathlib.Core.List.{List}
 use lib.Dec.{leb}
-use lib.ListN.{length}
+use lib.ListN.{length, getD}
 use Rattle.cluster.specs.Terms.{mostNodes}
 use Rattle.cells.specs.ModelCells.{put}
-use Rattle.exchange.specs.ModelLevels.{Graph, Outcome, Potential, Cycle, back, outcome, cycleLength}
+use Rattle.exchange.specs.ModelLevels.{Graph, Outcome, Potential, Cycle, dist, back, outcome, cycleLength}
 use Rattle.levels.specs.ModelGraph.{arcCells, graphOf}
 
 -- The cells of a walk: the nodes of a cycle, and its first one again.
@@ -27,6 +28,10 @@ endLength G (Cycle k v) = cycleLength G k v
 unfoldable pub endWalk : Graph → Outcome → List ℕ → List ℕ
 endWalk G (Potential k) walk = walk
 endWalk G (Cycle k v) walk = put 0 (back G k v) (cycleLength G k v + 1) walk
+
+-- The cells hold distances of a level, and where a search ended with a potential, that potential.
+abbrev pub Levelled : Graph → Outcome → List ℕ → Type 0
+Levelled G o cells = ((v : ℕ) → v < G .N → getD cells v 0 ≤ G .N * G .C) × ((k : ℕ) → o ≡ Potential k → (v : ℕ) → v < G .N → getD cells v 0 ≡ dist G k v)
 
 -- The length of the cycle that is found.
 unfoldable pub foundLength : List ℕ → ℕ → List ℕ → ℕ

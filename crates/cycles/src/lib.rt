@@ -6,10 +6,10 @@ ghost use lib.ListN.{length, getD};
 ghost use Rattle.cells.specs.ModelCells.{put};
 ghost use Rattle.cluster.specs.Terms.{mostNodes};
 ghost use Rattle.sets.specs.ModelBits.{bit, memberOf};
-ghost use Rattle.exchange.specs.ModelLevels.{outcome};
+ghost use Rattle.exchange.specs.ModelLevels.{Potential, outcome, IsPotential};
 ghost use Rattle.levels.specs.ModelGraph.{arcCells, tableCells, graphOf};
 ghost use Rattle.levels.specs.ModelTurns.{Settled, Nodes};
-ghost use Rattle.cycles.specs.ModelFound.{walkCells, endLength, endWalk, foundLength, foundWalk};
+ghost use Rattle.cycles.specs.ModelFound.{walkCells, endLength, endWalk, Levelled, foundLength, foundWalk};
 ghost use Rattle.cycles.specs.ModelTrails.{behind, closer, trail, trailLength};
 use cluster::Cluster;
 
@@ -58,10 +58,16 @@ fn trace(table: &[u8], k: u32, v: u32, walk: &mut [u32]) -> u32
     t
 }
 
+// How a search ended: the length of the cycle, 0 where there is none, and the distances of the last level that was reached with no cycle.
+struct Searched {
+    length: u32,
+    levels: [u32; Cluster::NODES],
+}
+
 // The search, level by level.
-fn search(arcs: &[u32], n: u32, walk: &mut [u32]) -> u32
+fn search(arcs: &[u32], n: u32, walk: &mut [u32]) -> Searched
     requires { ⌜ (1 ≤ n) × (n ≤ mostNodes) × (arcCells ≤ length (now arcs)) × (walkCells ≤ length (now walk)) ⌝ }
-    ensures { λ r. ⌜ (r ≡ endLength (graphOf (now (arcs .entry)) n) (outcome (graphOf (now (arcs .entry)) n))) × (now (walk .exit) ≡ endWalk (graphOf (now (arcs .entry)) n) (outcome (graphOf (now (arcs .entry)) n)) (now (walk .entry))) ⌝ }
+    ensures { λ r. ⌜ ((r .length ≡ endLength (graphOf (now (arcs .entry)) n) (outcome (graphOf (now (arcs .entry)) n))) × (now (walk .exit) ≡ endWalk (graphOf (now (arcs .entry)) n) (outcome (graphOf (now (arcs .entry)) n)) (now (walk .entry)))) × Levelled (graphOf (now (arcs .entry)) n) (outcome (graphOf (now (arcs .entry)) n)) (r .levels) ⌝ }
 {
     let mut dist = [n; Cluster::NODES];
     let mut next = [n; Cluster::NODES];
@@ -76,19 +82,29 @@ fn search(arcs: &[u32], n: u32, walk: &mut [u32]) -> u32
     while k < n {
         let fell = levels::descend(arcs, n, k, mask, &dist, &mut next, &mut table, &mut atmost);
         if fell == 0 {
-            return 0;
+            return Searched {
+                length: 0,
+                levels: dist,
+            };
         }
         let a = ((k + 1) * levels::NODES) as usize;
         let v = close(n, fell, &table[a..a + Cluster::NODES], &way, &mut grown);
         if v < n {
-            return trace(&table, k + 1, v, walk);
+            let length = trace(&table, k + 1, v, walk);
+            return Searched {
+                length,
+                levels: dist,
+            };
         }
         dist = next;
         way = grown;
         mask = fell;
         k += 1;
     }
-    0
+    Searched {
+        length: 0,
+        levels: dist,
+    }
 }
 
 // Searches the graph of arcs on n nodes for a simple negative cycle: its length, and the walk back around it in walk, whose first node comes again
@@ -108,5 +124,17 @@ pub fn find(arcs: &[u32], n: u32, walk: &mut [u32]) -> u32
     if walk.len() < WALK {
         return 0;
     }
-    search(arcs, n, walk)
+    let searched = search(arcs, n, walk);
+    searched.length
+}
+
+// The distances of the last level of a search of the graph of arcs on n nodes: a potential, where there is no negative cycle.
+pub fn levels(arcs: &[u32], n: u32) -> [u32; Cluster::NODES]
+    requires { ⌜ (1 ≤ n) × (n ≤ mostNodes) × (arcCells ≤ length (now arcs)) ⌝ }
+    ensures { λ r. ⌜ (length r ≡ mostNodes) × ((v : ℕ) → v < n → getD r v 0 ≤ n) × ((k : ℕ) → outcome (graphOf (now (arcs .entry)) n) ≡ Potential k → IsPotential (graphOf (now (arcs .entry)) n) (λ v. getD r v 0)) ⌝ }
+{
+    let mut walk = [0u32; WALK];
+    let searched = search(arcs, n, &mut walk);
+    let levels = searched.levels;
+    levels
 }

@@ -55,7 +55,7 @@ returns-5 c =
     let few = le-leb (a .n) mostNodes (omega arith) in
     let arcs = le-leb arcCells (length (a .arcs .now)) (omega arith) in
     let walk = le-leb walkCells (length (a .walk .now)) (omega arith) in
-    (simp (some, few, arcs, walk) (s .search .ensures .0), simp (some, few, arcs, walk) (s .search .ensures .1))
+    (simp (some, few, arcs, walk) (s .search .ensures .0 .0), simp (some, few, arcs, walk) (s .search .ensures .0 .1))
 
 pub find-spec : {M : Type 1} → statement M
 find-spec =

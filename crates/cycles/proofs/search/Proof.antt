@@ -8,14 +8,14 @@ use mathlib.Core.List.{List}
 use lib.ListN.{length, take, drop, replicate, getD-replicate}
 use Rattle.cluster.specs.Terms.{mostNodes}
 use Rattle.sets.specs.ModelBits.{bit}
-use Rattle.exchange.specs.ModelLevels.{Cycle, outcome, search-from}
+use Rattle.exchange.specs.ModelLevels.{Potential, Cycle, outcome, search-from}
 use Rattle.levels.specs.ModelGraph.{tableCells, arcCells, graphOf}
 use Rattle.cycles.specs.ModelFound.{walkCells, endWalk}
 use Rattle.levels.specs.ModelTurns.{Settled, AtMost}
 use Rattle.cycles.specs.ModelTrails.{behind, closer}
 use Rattle.levels.proofs.Offers.{stand-start}
 use Rattle.cycles.proofs.States.{State, state-start, state-room, state-next}
-use Rattle.cycles.proofs.Ends.{Turning, part-row, ends-still, ends-closed, search-spent, search-start, closer-le, search-still, row-node, search-on, state-on, search-closed, trail-closes, trail-node, trail-walk, trail-length}
+use Rattle.cycles.proofs.Ends.{Turning, part-row, ends-still, ends-closed, levelled-still, levelled-closed, search-spent, search-start, closer-le, search-still, row-node, search-on, state-on, search-closed, trail-closes, trail-node, trail-walk, trail-length}
 use Rattle.cycles.proofs.Rows.{level-lt, level-less, level-up, level-next, level-fits, row-fits, row-fits-64, row-end-fits, row-inside, row-length, row-ends, length-enough, none-closer}
 use Rattle.cycles.proofs.search.Statement.{statement}
 use Rattle.cycles.proofs.search.Tie as tie
@@ -123,7 +123,8 @@ returns c =
     let l = d .before .before .before .before .before .before in
     let a = l .before .before .before .before .args in
     let G = graphOf (a .arcs .now) (a .n) in
-    ends-still G (outcome G) (l .loop .k) (a .walk .now) (l .loop .walk) (l .loop .inv .10 ∙ search-still (turn d) (c .if1 .taken)) (l .loop .inv .4)
+    let e : outcome G ≡ Potential (l .loop .k) = l .loop .inv .10 ∙ search-still (turn d) (c .if1 .taken) in
+    (ends-still G (outcome G) (l .loop .k) (a .walk .now) (l .loop .walk) e (l .loop .inv .4), levelled-still G (outcome G) (l .loop .k) (l .loop .inv .11) e)
 
 add-a : tie.Need-add-a Inv-loop μ-loop
 add-a c = level-fits (c .before .before .before .before .before .before .before .before .before .before .loop .k) (low (c .before .before .before .before .before .before .before .before .before))
@@ -197,9 +198,11 @@ returns-2 c =
     let v = k .close .result in
     let i = k .close .ensures .0 in
     let h = t .before .before .before .if2 .taken in
-    ends-closed G (outcome G) (suc (l .loop .k)) v (t .trace .result) (a .walk .now) (t .trace .last .1 .1 .1 .0)
-    (l .loop .inv .10 ∙ search-closed (turn d) v i h (k .before .before .before .before .before .if1 .left) (d .descend .ok)) (t .trace .ensures .0 ∙ trail-length (turn d) v i h)
-    (t .trace .ensures .1 ∙ (trail-walk (turn d) v i h (l .loop .walk) ∙ ap (λ (w : List ℕ). endWalk G (Cycle (suc (l .loop .k)) v) w) (l .loop .inv .4)))
+    let e : outcome G ≡ Cycle (suc (l .loop .k)) v = l .loop .inv .10 ∙ search-closed (turn d) v i h (k .before .before .before .before .before .if1 .left) (d .descend .ok) in (
+      ends-closed G (outcome G) (suc (l .loop .k)) v (t .trace .result) (a .walk .now) (t .trace .last .1 .1 .1 .0) e (t .trace .ensures .0 ∙ trail-length (turn d) v i h)
+          (t .trace .ensures .1 ∙ (trail-walk (turn d) v i h (l .loop .walk) ∙ ap (λ (w : List ℕ). endWalk G (Cycle (suc (l .loop .k)) v) w) (l .loop .inv .4))),
+      levelled-closed G (outcome G) (l .loop .k) (l .loop .inv .11) (suc (l .loop .k)) v e,
+    )
 
 add-k : tie.Need-add-k Inv-loop μ-loop
 add-k c = level-fits (c .before .before .before .before .before .before .before .before .before .before .before .before .before .before .before .before .before .loop .k) (low (c .before .before .before .before .before .before .before .before .before .before .before .before .before .before .before .before))
@@ -246,7 +249,8 @@ returns-3 c =
     let l = c .before in
     let a = l .before .before .before .before .args in
     let G = graphOf (a .arcs .now) (a .n) in
-    ends-still G (outcome G) (l .loop .k) (a .walk .now) (l .loop .walk) (l .loop .inv .10 ∙ search-spent G (l .loop .k) (c .loop-test .left)) (l .loop .inv .4)
+    let e : outcome G ≡ Potential (l .loop .k) = l .loop .inv .10 ∙ search-spent G (l .loop .k) (c .loop-test .left) in
+    (ends-still G (outcome G) (l .loop .k) (a .walk .now) (l .loop .walk) e (l .loop .inv .4), levelled-still G (outcome G) (l .loop .k) (l .loop .inv .11) e)
 
 pub search-spec : {M : Type 1} → statement M
 search-spec =
