@@ -3,18 +3,18 @@
 -- Assumes nothing.
 use Prim.Native.Nat.{ℕ, suc, _+_, _-_, _*_, _^_, _≤_, _<_}
 use mathlib.Core.Path.{_≡_, refl, sym, ap, ap₂, _∙_, subst}
-use mathlib.Core.Bool.{Bool, true, _&&_, not, and-eq-true-iff, true≢false}
+use mathlib.Core.Bool.{Bool, true, true≢false}
 use mathlib.Core.List.{List}
 use mathlib.Core.Logic.{inl, inr, ⊎-elim}
 use native.Mathlib.Omega.{arith}
-use lib.Dec.{eqb, ltb}
+use lib.Dec.{ltb}
 use lib.ListN.{length, getD}
-use borrow.Author.Tests.{eqb-true, eq-eqb, ltb-true, not-true}
+use borrow.Author.Tests.{ltb-true}
 use Rattle.sums.specs.TermsSums.{everyTo}
 use Rattle.sums.proofs.Sum.{lt-or-ge, sum-cong}
 use Rattle.sums.proofs.Tests.{both, every-at}
-use Rattle.sets.specs.ModelBits.{bit, memberOf, belowOf, bitsAt}
-use Rattle.sets.proofs.Laws.{bit-le, member-true, member-false, bit-true, bit-false}
+use Rattle.sets.specs.ModelBits.{belowOf, bitsAt}
+use Rattle.sets.proofs.Laws.{bit-le, member-true, bit-true}
 use Rattle.exchange.specs.ModelRow.{Within, Exchange, copies}
 use Rattle.exchange.specs.ModelLevels.{Cycle, back, cycleLength, outcome, IsCycle}
 use Rattle.exchange.specs.ModelCircuit.{cost, Allowed, Better}
@@ -30,34 +30,12 @@ use Rattle.swaps.specs.ModelSwaps.{targetsOf}
 use Rattle.swaps.specs.ModelMates.{Mates}
 use Rattle.swaps.proofs.Fitting.{target-valid, valid-target}
 use Rattle.levels.specs.ModelGraph.{graphOf, arcOf, weightOf}
-use Rattle.walks.specs.ModelWalks.{okOf, suitsOf, suitsAt, witnessOf, roomAt, renewedAt, renewed, standsAt, stands}
+use Rattle.walks.specs.ModelWalks.{okOf, suitsAt, witnessOf, roomAt, renewedAt, renewed, standsAt, stands}
+use Rattle.walks.proofs.Suiting.{suits-has, has-suits}
 use Rattle.walks.proofs.Renewing.{nextFrom, renewed-row, renewed-store, stands-row, stands-store}
 use Rattle.freeing.specs.ModelFreed.{freedOf}
 use Rattle.exchanging.proofs.Exchanging.{walked-bit, walked-small}
 use Rattle.circuits.specs.ModelCircuits.{cycleOf, turnedOf}
-
--- ---- the test of a partition
-
-module _ (mates : List ℕ) (all z row old w u v : ℕ) where
-  -- What a partition that suits has.
-  suits-has : suitsOf mates all z row old w u v ≡ true
-      → (bit row u ≡ 1) × (bit row v ≡ 0) × (1 + bit old u ≡ w + bit old v) × (memberOf (targetsOf mates all z row u) v ≡ true)
-  unfolding suitsOf
-  suits-has e =
-      let last = and-eq-true-iff (memberOf row u && not (memberOf row v) && eqb (1 + bit old u) (w + bit old v)) (memberOf (targetsOf mates all z row u) v) .0 e in
-      let third = and-eq-true-iff (memberOf row u && not (memberOf row v)) (eqb (1 + bit old u) (w + bit old v)) .0 (last .0) in
-      let both = and-eq-true-iff (memberOf row u) (not (memberOf row v)) .0 (third .0) in (
-        member-true row u (both .0),
-        member-false row v (not-true (memberOf row v) (both .1)),
-        eqb-true (1 + bit old u) (w + bit old v) (third .1),
-        last .1,
-      )
-
-  -- A partition that has it suits.
-  has-suits : bit row u ≡ 1 → bit row v ≡ 0 → 1 + bit old u ≡ w + bit old v → memberOf (targetsOf mates all z row u) v ≡ true
-      → suitsOf mates all z row old w u v ≡ true
-  unfolding suitsOf
-  has-suits a b c d = rw (bit-true row u a, bit-false row v b, eq-eqb (1 + bit old u) (w + bit old v) c, d)
 
 -- ---- a walk by itself
 

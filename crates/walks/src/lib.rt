@@ -84,7 +84,7 @@ fn sift(
 }
 
 // The first partition from `start` on with the exchange of u for v at the weight w. A node past the last is in no row.
-fn first(
+pub fn first(
     rows: &[u32],
     tight: &[u32],
     held: &[u32],
@@ -308,7 +308,7 @@ pub fn gains(y: &[u32], q: &[u32], i: u32, j: u32, former: &[u32], partitions: u
 }
 
 // Whether node u has fewer copies in the rows than its cap. A node past the last has none.
-fn room(rows: &[u32], held: &[u32], partitions: usize, caps: &[u32], u: u32) -> bool
+pub fn room(rows: &[u32], held: &[u32], partitions: usize, caps: &[u32], u: u32) -> bool
     requires { ⌜ (partitions ≤ bufferRows) × Held (now rows) partitions (now held) ⌝ }
     ensures { λ r. ⌜ r ≡ roomAt (now (rows .entry)) partitions (now (caps .entry)) u ⌝ }
 {
