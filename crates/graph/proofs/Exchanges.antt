@@ -85,7 +85,7 @@ module _ (arcs : List ℕ) (u v : ℕ) where
       weight (suc (suc h)) l e = ⊎-elim (λ w. omega arith) (λ w. ⊎-elim (λ x. omega arith) (λ x. omega arith) w) first-set
 
   -- Where there is an arc, the set of its weight has v.
-  within-arc : arcOf arcs u v ≡ 1 → (weightOf arcs u v < 3) × (within (weightOf arcs u v) ≡ 1)
+  pub within-arc : arcOf arcs u v ≡ 1 → (weightOf arcs u v < 3) × (within (weightOf arcs u v) ≡ 1)
   within-arc e =
       ⊎-elim (λ w. (omega arith, ap within (w .1) ∙ w .0))
       (λ w. ⊎-elim (λ x. (omega arith, ap within (x .2) ∙ x .1)) (λ x. (omega arith, ap within (x .2) ∙ omega (arith, arc-sets))) w) first-set

@@ -34,19 +34,22 @@ use Rattle.steps.specs.ModelSteps.{State, arcsIn, cycleIn, foundIn, soug
 -- ---- the walk to turn next
 
 module _ (former : List ℕ) (P : ℕ) (mates caps : List ℕ) (n z : ℕ) (rows : List ℕ) where
+  -- The masks of the graph, over the set of all nodes.
+  pub the-arcs : (all : ℕ) → all ≡ belowOf n → (arcs : List ℕ) → arcs ≡ arcsOf rows former P mates caps all z (replicate arcCells 0)
+      → arcs ≡ arcsIn former P mates caps n z rows
+  unfolding arcsIn
+  the-arcs all e-all arcs e = e ∙ ap (λ (x : ℕ). arcsOf rows former P mates caps x z (replicate arcCells 0)) e-all
+
   -- The cycle that is found in the graph, as a walk.
-  pub found-walk : (all : ℕ) → all ≡ belowOf n → (u : Walk) (arcs nodes : List ℕ) (m : ℕ) → arcs ≡ arcsOf rows former P mates caps all z (replicate arcCells 0)
+  pub found-walk : (all : ℕ) → all ≡ belowOf n → (u : Walk) (arcs nodes : List ℕ) (m : ℕ) → arcs ≡ arcsIn former P mates caps n z rows
       → m ≡ foundLength arcs n (replicate walkCells 0) → nodes ≡ foundWalk arcs n (replicate walkCells 0)
       → Same (cycleOf rows former P mates arcs all z nodes m) u → Same (foundIn former P mates caps n z rows) u
-  unfolding foundIn cycleIn arcsIn
+  unfolding foundIn cycleIn
   found-walk all e-all u arcs nodes m e-arcs e-m e-nodes s =
       subst (λ (v : Walk). Same v u)
       ((λ i. cycleOf rows former P mates arcs all z (e-nodes i) (e-m i))
-      ∙ (λ i. cycleOf rows former P mates (the-arcs i) (e-all i) z (foundWalk (the-arcs i) n (replicate walkCells 0)) (foundLength (the-arcs i) n (replicate walkCells 0))))
+      ∙ (λ i. cycleOf rows former P mates (e-arcs i) (e-all i) z (foundWalk (e-arcs i) n (replicate walkCells 0)) (foundLength (e-arcs i) n (replicate walkCells 0))))
       s
-    where
-      the-arcs : arcs ≡ arcsOf rows former P mates caps (belowOf n) z (replicate arcCells 0)
-      the-arcs = e-arcs ∙ ap (λ (x : ℕ). arcsOf rows former P mates caps x z (replicate arcCells 0)) e-all
 
   module _ (all : ℕ) (e-all : all ≡ belowOf n) (w u : Walk) (b : Bool) (e : b ≡ stands rows former P mates all z caps w) where
     -- Whether the last walk stands.

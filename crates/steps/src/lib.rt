@@ -11,13 +11,52 @@ ghost use Rattle.swaps.specs.ModelSwaps.{Tight};
 ghost use Rattle.holders.specs.ModelHolders.{Held};
 ghost use Rattle.walks.specs.ModelWalks.{walkIn};
 ghost use Rattle.graph.specs.ModelKept.{Kept};
-ghost use Rattle.steps.specs.ModelSteps.{foundIn, soughtIn, steppedIn};
+ghost use Rattle.steps.specs.ModelSteps.{arcsIn, foundIn, soughtIn, steppedIn};
 use cluster::Cluster;
 
 // What a step leaves: how many arcs the walk in y and q has, and the leaves of rows of which nothing is kept.
 pub struct Left {
     pub len: usize,
     pub stale: u64,
+}
+
+// The masks of the exchange graph of the rows. `kept` holds what the leaves of rows allow that are not stale, and then what all allow.
+pub fn arcs(
+    rows: &[u32],
+    tight: &[u32],
+    held: &[u32],
+    former: &[u32],
+    partitions: usize,
+    mates: &[u32],
+    caps: &[u32],
+    nodes: u32,
+    z: u32,
+    stale: u64,
+    kept: &mut [u32],
+) -> [u32; levels::ARCS]
+    requires { ⌜ (partitions ≤ bufferRows) × Kept (now rows) (now former) partitions (now mates) (belowOf nodes) z (bit stale) (now kept)
+        × Tight (now mates) z (now rows) partitions (now tight) × Held (now rows) partitions (now held) ⌝ }
+    ensures { λ r. ⌜ (r ≡ arcsIn (now (former .entry)) partitions (now (mates .entry)) (now (caps .entry)) nodes z (now (rows .entry)))
+        × Kept (now (rows .entry)) (now (former .entry)) partitions (now (mates .entry)) (belowOf nodes) z (bit 0) (now (kept .exit)) ⌝ }
+{
+    let all = sets::below(nodes);
+    let room = holders::room(rows, partitions, held, caps, Cluster::NODES as u32);
+    let mut arcs = [0u32; levels::ARCS];
+    graph::build(
+        rows,
+        tight,
+        former,
+        partitions,
+        mates,
+        caps,
+        room,
+        all,
+        z,
+        stale,
+        kept,
+        &mut arcs,
+    );
+    arcs
 }
 
 // The walk of a cycle of the exchange graph into y and q. Its length is answered, 0 where there is none. `kept` holds what the leaves of rows allow that
@@ -46,21 +85,18 @@ fn search(
         × Kept (now (rows .entry)) (now (former .entry)) partitions (now (mates .entry)) (belowOf nodes) z (bit 0) (now (kept .exit)) ⌝ }
 {
     let all = sets::below(nodes);
-    let room = holders::room(rows, partitions, held, caps, Cluster::NODES as u32);
-    let mut arcs = [0u32; levels::ARCS];
-    graph::build(
+    let arcs = arcs(
         rows,
         tight,
+        held,
         former,
         partitions,
         mates,
         caps,
-        room,
-        all,
+        nodes,
         z,
         stale,
         kept,
-        &mut arcs,
     );
     let mut walk = [0u32; cycles::WALK];
     let m = cycles::find(&arcs, nodes, &mut walk) as usize;

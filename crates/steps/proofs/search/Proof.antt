@@ -1,12 +1,9 @@
 -- `steps::search` meets its contract. Assumes nothing.
-use Prim.Native.Nat.{ℕ, _≤_}
-use mathlib.Core.Path.{sym, subst}
+use Prim.Native.Nat.{_≤_}
 use native.Mathlib.Omega.{arith}
-use Rattle.sets.specs.ModelBits.{bit}
 use Rattle.cluster.specs.Terms.{mostNodes}
-use Rattle.graph.specs.ModelKept.{Kept}
 use Rattle.walks.specs.ModelWalks.{walkIn}
-use Rattle.steps.proofs.Steps.{room-bit, found-walk, found-few}
+use Rattle.steps.proofs.Steps.{found-walk, found-few}
 use borrow.Author.Needs.{needs}
 use Rattle.steps.proofs.search.Statement.{statement}
 use Rattle.steps.proofs.search.Tie as tie
@@ -14,25 +11,8 @@ use Rattle.steps.proofs.search.Tie as tie
 below-requires : tie.Need-below-requires
 below-requires c κs = search needs
 
-cast-room : tie.Need-cast-room
-cast-room c = search needs
-
-room-requires : tie.Need-room-requires
-room-requires c κs = search needs
-
-slice-aggregate-build : tie.Need-slice-aggregate-build
-slice-aggregate-build c = search needs
-
-build-requires : tie.Need-build-requires
-build-requires c κs =
-    let r = c .before .before in
-    let s = r .before .before .before .before .before .before .before .before .before .before .before .before in
-    let a = s .args in (
-      s .pre .2,
-      s .pre .4,
-      λ u h. room-bit (a .rows .now) (a .partitions) (a .caps .now) (r .room .result) (r .room .ensures) u h,
-      subst (λ (x : ℕ). Kept (a .rows .now) (a .former .now) (a .partitions) (a .mates .now) x (a .z) (bit (a .stale)) (a .kept .now)) (sym (r .before .below .ensures)) (s .pre .3),
-    )
+arcs-requires : tie.Need-arcs-requires
+arcs-requires c κs = search needs
 
 slice-aggregate-find : tie.Need-slice-aggregate-find
 slice-aggregate-find c = search needs
@@ -55,7 +35,7 @@ slice-aggregate-load-2 c = search needs
 load-requires : tie.Need-load-requires
 load-requires c κs =
     let f = c .before .before .before .before .before in
-    let s = f .before .before .before .before .before .before .before .before .before .before .before .before .before .before .before .before .before .before .before .before .before in
+    let s = f .before .before .before .before .before .before .before .before .before .before .before .before .before .before .before .before .before .before in
     let few : f .find .result ≤ mostNodes = found-few _ _ _ (f .find .result) (f .find .ensures .0) in
     (omega (arith, few, s .pre .0), omega (arith, few, s .pre .1), search needs, s .pre .2, s .pre .4, s .pre .5, s .pre .6)
 
@@ -72,15 +52,15 @@ returns : tie.Need-returns
 returns c =
     let l = c .before .before .before .before in
     let f = l .before .before .before .before .before .before in
-    let g = f .before .before .before .before .before .before in
-    let b = g .before .before .before .before in
+    let g = f .before .before .before .before .before in
+    let b = g .before .before in
     let a = b .before .before .before .before .before .before .before .before .before .before .before .args in (
       found-few _ _ _ (f .find .result) (f .find .ensures .0),
       search needs,
       search needs,
-      found-walk (a .former .now) (a .partitions) (a .mates .now) (a .caps .now) (a .nodes) (a .z) (a .rows .now) (b .below .result) (b .below .ensures) (walkIn (f .find .result) (l .load .last .0) (l .load .last .1 .0)) _ _ (f .find .result) (g .build .ensures .0)
+      found-walk (a .former .now) (a .partitions) (a .mates .now) (a .caps .now) (a .nodes) (a .z) (a .rows .now) (b .below .result) (b .below .ensures) (walkIn (f .find .result) (l .load .last .0) (l .load .last .1 .0)) _ _ (f .find .result) (g .arcs .ensures .0)
           (f .find .ensures .0) (f .find .ensures .1) (l .load .ensures .2),
-      subst (λ (x : ℕ). Kept (a .rows .now) (a .former .now) (a .partitions) (a .mates .now) x (a .z) (bit 0) (g .build .last .1 .1 .1 .1 .1 .1 .1 .1 .1 .1 .0)) (b .below .ensures) (g .build .ensures .1),
+      g .arcs .ensures .1,
     )
 
 pub search-spec : {M : Type 1} → statement M
@@ -88,10 +68,7 @@ search-spec =
     tie.close
     (tie.spec
     below-requires
-    cast-room
-    room-requires
-    slice-aggregate-build
-    build-requires
+    arcs-requires
     slice-aggregate-find
     slice-aggregate-find-2
     find-requires
