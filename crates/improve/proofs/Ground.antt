@@ -146,7 +146,7 @@ module _ {P N R Z : ℕ} {zone cap : ℕ → ℕ} {former mates caps : List ℕ}
     the-graph = witness-graph P N R Z zone cap any (λ p b. refl) rows former mates (G .zones) (g .small) (g .within) arcs exchanges room there
 
     -- There is a node, since there are copies.
-    some : 1 ≤ N
+    pub some : 1 ≤ N
     unfolding sumTo
     some = ⊎-elim (λ l. absurd (none (omega arith) (g .within .rows 0 (G .partitions .0) .size))) (λ h. h) (lt-or-ge N 1)
       where
@@ -171,7 +171,7 @@ module _ {P N R Z : ℕ} {zone cap : ℕ → ℕ} {former mates caps : List ℕ}
         go (Cycle k v) h = (k, v, h)
 
     -- .. and where none is, with a potential.
-    found-none : cycleIn former P mates caps N Z rows ≡ 0 → (k : ℕ) × (outcome graph ≡ Potential k)
+    pub found-none : cycleIn former P mates caps N Z rows ≡ 0 → (k : ℕ) × (outcome graph ≡ Potential k)
     unfolding endLength
     found-none e = go (outcome graph) refl
       where
@@ -261,7 +261,7 @@ module _ {P N R Z : ℕ} {zone cap : ℕ → ℕ} {former mates caps : List ℕ}
             found-round (s .rows) (h .good) (w .0) (w .1) (w .2)
 
     -- Where there is none, no cycle was found.
-    sought-none : improvesIn former P mates caps N Z s ≡ false → cycleIn former P mates caps N Z (s .rows) ≡ 0
+    pub sought-none : improvesIn former P mates caps N Z s ≡ false → cycleIn former P mates caps N Z (s .rows) ≡ 0
     unfolding improvesIn soughtIn foundIn
     sought-none = go (stands (s .rows) former P mates (belowOf N) Z caps (s .last)) refl
       where

@@ -4,26 +4,28 @@ ghost use Prim.Native.Nat.{_≤_};
 ghost use lib.ListN.{length, replicate};
 ghost use Rattle.cluster.specs.Terms.{bufferRows};
 ghost use Rattle.cycles.specs.ModelFound.{walkCells};
+ghost use Rattle.sets.specs.ModelBits.{bit, belowOf};
 ghost use Rattle.swaps.specs.ModelSwaps.{Tight};
 ghost use Rattle.holders.specs.ModelHolders.{Held};
-ghost use Rattle.graph.specs.ModelKept.{keptCells};
+ghost use Rattle.graph.specs.ModelKept.{keptCells, Kept};
 ghost use Rattle.improve.specs.ModelImprove.{ranIn};
-use cluster::Cluster;
 use steps::Left;
 
-// How a run ended: whether nothing is left to improve, and how many improvements were made.
+// How a run ended: whether nothing is left to improve, how many improvements were made, and the leaves of rows of which nothing is kept.
 pub struct Ended {
     pub finished: bool,
     pub improvements: u32,
+    pub stale: u64,
 }
 
 // How a run ended.
-fn verdict(finished: bool, improvements: u32) -> Ended
-    ensures { λ r. ⌜ (r .finished ≡ finished) × (r .improvements ≡ improvements) ⌝ }
+fn verdict(finished: bool, improvements: u32, stale: u64) -> Ended
+    ensures { λ r. ⌜ (r .finished ≡ finished) × (r .improvements ≡ improvements) × (r .stale ≡ stale) ⌝ }
 {
     Ended {
         finished,
         improvements,
+        stale,
     }
 }
 
@@ -53,7 +55,10 @@ fn go(
         × (r .finished
         ≡ ranIn (now (former .entry)) partitions (now (mates .entry)) (now (caps .entry)) nodes z allowance (now (rows .entry)) .finished)
         × (r .improvements
-        ≡ ranIn (now (former .entry)) partitions (now (mates .entry)) (now (caps .entry)) nodes z allowance (now (rows .entry)) .steps) ⌝ }
+        ≡ ranIn (now (former .entry)) partitions (now (mates .entry)) (now (caps .entry)) nodes z allowance (now (rows .entry)) .steps)
+        × (length (now (rows .exit)) ≡ length (now (rows .entry)))
+        × Tight (now (mates .entry)) z (now (rows .exit)) partitions (now (tight .exit)) × Held (now (rows .exit)) partitions (now (held .exit))
+        × Kept (now (rows .exit)) (now (former .entry)) partitions (now (mates .entry)) (belowOf nodes) z (bit (r .stale)) (now (kept .exit)) ⌝ }
 {
     let mut last = Left {
         len: 0,
@@ -80,17 +85,21 @@ fn go(
             kept,
         );
         if last.len == 0 {
-            return verdict(true, done as u32);
+            return verdict(true, done as u32, last.stale);
         }
         done += 1;
     }
-    verdict(false, allowance)
+    verdict(false, allowance, last.stale)
 }
 
-// The run from the rows in hand, with an allowance of improvements. `kept` is room for what the rows allow; it may hold anything.
+// The run from the rows in hand, with an allowance of improvements. `kept` is room for what the rows allow; it may hold anything, and holds what the
+// leaves of rows allow that are not stale after the run.
 pub fn run(
     rows: &mut [u32],
+    tight: &mut [u32],
+    held: &mut [u32],
     former: &[u32],
+    had: &[u32],
     partitions: usize,
     mates: &[u32],
     caps: &[u32],
@@ -99,30 +108,28 @@ pub fn run(
     allowance: u32,
     kept: &mut [u32],
 ) -> Ended
-    requires { ⌜ (partitions ≤ bufferRows) × (partitions ≤ length (now rows)) × (length (now kept) ≡ keptCells) ⌝ }
+    requires { ⌜ (partitions ≤ bufferRows) × (partitions ≤ length (now rows)) × (length (now kept) ≡ keptCells)
+        × Tight (now mates) z (now rows) partitions (now tight) × Held (now rows) partitions (now held) × Held (now former) partitions (now had) ⌝ }
     ensures { λ r. ⌜ (now (rows .exit)
         ≡ ranIn (now (former .entry)) partitions (now (mates .entry)) (now (caps .entry)) nodes z allowance (now (rows .entry)) .state .rows)
         × (r .finished
         ≡ ranIn (now (former .entry)) partitions (now (mates .entry)) (now (caps .entry)) nodes z allowance (now (rows .entry)) .finished)
         × (r .improvements
-        ≡ ranIn (now (former .entry)) partitions (now (mates .entry)) (now (caps .entry)) nodes z allowance (now (rows .entry)) .steps) ⌝ }
+        ≡ ranIn (now (former .entry)) partitions (now (mates .entry)) (now (caps .entry)) nodes z allowance (now (rows .entry)) .steps)
+        × (length (now (rows .exit)) ≡ length (now (rows .entry)))
+        × Tight (now (mates .entry)) z (now (rows .exit)) partitions (now (tight .exit)) × Held (now (rows .exit)) partitions (now (held .exit))
+        × Kept (now (rows .exit)) (now (former .entry)) partitions (now (mates .entry)) (belowOf nodes) z (bit (r .stale)) (now (kept .exit)) ⌝ }
 {
     let mut y = [0u32; cycles::WALK];
     let mut q = [0u32; cycles::WALK];
-    let mut tight = [0u32; Cluster::PARTITIONS];
-    swaps::tighten(mates, z, rows, partitions, &mut tight);
-    let mut held = [0u32; holders::CELLS];
-    holders::fill(rows, partitions, &mut held);
-    let mut had = [0u32; holders::CELLS];
-    holders::fill(former, partitions, &mut had);
     go(
         &mut y,
         &mut q,
         rows,
-        &mut tight,
-        &mut held,
+        tight,
+        held,
         former,
-        &had,
+        had,
         partitions,
         mates,
         caps,

@@ -2,19 +2,22 @@
 -- answer and the cells are those of the definition.
 -- Assumes nothing.
 use Prim.Native.Nat.{ℕ, _-_, _*_, _≤_, _<_}
-use mathlib.Core.Path.{_≡_, sym, ap, _∙_, subst}
-use mathlib.Core.Bool.{Bool, true}
+use mathlib.Core.Path.{_≡_, refl, sym, ap, _∙_, subst}
+use mathlib.Core.Bool.{Bool, true, false}
 use mathlib.Core.List.{List, _++_}
 use native.Mathlib.Omega.{arith}
 use native.Mathlib.Nat.{mul-le-mul}
 use lib.ListN.{length, drop, replicate, length-replicate}
 use borrow.Author.Tests.{le-ltb, le-leb}
-use Rattle.sets.specs.ModelBits.{maskOf}
+use Rattle.sets.specs.ModelBits.{bitsAt, maskOf}
 use Rattle.sets.proofs.Laws.{mask-cong}
 use Rattle.cells.proofs.Cells.{tab-cong}
+use Rattle.exchange.specs.ModelRow.{weigh}
+use Rattle.exchange.proofs.Agreeing.{SameLayout}
+use Rattle.ties.specs.ModelOrder.{firstOf}
 use Rattle.cluster.specs.Terms.{bufferRows, layoutCells, mostCopies, Topology, topology, partitions, Layout, rowsIn, cellsOf, rowAt, idsIn, faultOf}
-use Rattle.cluster.specs.TermsReading.{Accepted, Fits32}
-use Rattle.incidence.specs.ModelIncidence.{bitsOf, incidence, zoneCells}
+use Rattle.cluster.specs.TermsReading.{Accepted}
+use Rattle.incidence.specs.ModelIncidence.{zoneIndex, capAt, bitsOf, incidence, zoneCells}
 use Rattle.cluster.specs.declared.Cluster.{Cluster}
 use Rattle.cluster.proofs.Accepting.{few-partitions, accepted}
 use Rattle.cell_rows.proofs.CellLayouts.{row-rowsIn}
@@ -26,11 +29,12 @@ use Rattle.improve.specs.ModelRun.{Ran}
 use Rattle.agreement.specs.ModelAgreement.{agreementIn, sharedIn}
 use Rattle.steps.specs.ModelSteps.{State}
 use Rattle.improve.specs.ModelImprove.{ranIn}
-use Rattle.planning.specs.ModelPlan.{formerMasks, dealtAt, startRows, ranFrom, layoutRows, sentRows, planFrom, planOf}
+use Rattle.planning.specs.ModelPlan.{matesOf, formerMasks, dealtAt, startRows, ranFrom, layoutRows, sentRows, firstBits, answerBits, planFrom, planOf}
 use Rattle.planner.specs.TermsPlan.{planIn, answered}
 use Rattle.planner.specs.declared.Planned.{Planned}
-use Rattle.improve.proofs.Ground.{run-good}
-use Rattle.planning.proofs.Machines.{GoodRows, start-good, fm-long, ground, measure}
+use Rattle.improve.proofs.Ground.{Ground, Good, run-good}
+use Rattle.planning.proofs.Grounds.{GoodRows, start-good, ground-over, fm-long, ground, measure}
+use Rattle.planning.proofs.Rows.{finished-bits, stopped-bits, rows-first, rows-share}
 
 -- ---- the numbers of a cluster without fault
 
@@ -43,118 +47,181 @@ pub shared-is : (rows before : List ℕ) (P x : ℕ) → P ≤ bufferRows → P 
 unfolding sharedIn
 shared-is rows before P x a b c e = e ∙ simp (le-ltb bufferRows P a, le-ltb (length rows) P b, le-ltb (length before) P c)
 
--- ---- the run
+module _ (c : Cluster) (e : faultOf c ≡ 0) where
+  abbrev t : Topology
+  t = topology c
 
--- The rows that code deals are the dealt rows, and there is one for each partition.
-module _ (c : Cluster) (size : ℕ) (rows dealt : List ℕ) (e : faultOf c ≡ 0) (e-rows : rows ≡ replicate bufferRows 0) (e-dealt : dealt ≡ dealtIn c size rows) where
-  the-dealt : dealt ≡ dealtAt (topology c) size
-  the-dealt =
-      e-dealt
-      ∙ (ap (dealtIn c size) e-rows
-      ∙ deal-in c size (replicate bufferRows 0) e (omega (arith, few-partitions (c .bits) (accepted c e .bits), length-replicate {A = ℕ} bufferRows 0)))
+  acc : Accepted t
+  acc = accepted c e
 
-  pub dealt-fits : (P : ℕ) → P ≡ partitions (topology c) → (P ≤ bufferRows) × (P ≤ length dealt)
-  dealt-fits P eP =
-      let few : P ≤ bufferRows = omega (arith, eP, few-partitions (c .bits) (accepted c e .bits)) in
-      (few, omega (arith, few, ap length the-dealt, deal-length (topology c) size (replicate bufferRows 0), length-replicate {A = ℕ} bufferRows 0))
+  -- ---- the run
 
--- The run from the dealt rows, with the numbers and cells that code makes of the cluster.
-module _ (c : Cluster) (size P n : ℕ) (before rows zones mates caps dealt : List ℕ) (a : ℕ) (e : faultOf c ≡ 0) (eP : P ≡ partitions (topology c))
-    (en : n ≡ nodesOf (topology c)) (e-rows : rows ≡ replicate bufferRows 0) (e-dealt : dealt ≡ dealtIn c size rows) (e-zones : zones ≡ zoneCells (topology c))
-    (e-mates : mates ≡ mateCells zones n) (e-caps : caps ≡ capCells (topology c) size)
-  where
-    pub run-is : ranIn before P mates caps n (c .redundancy) a dealt ≡ ranFrom (topology c) size before (dealtAt (topology c) size) a
-    unfolding ranFrom
-    run-is = λ i. ranIn before (eP i) (the-mates i) (e-caps i) (en i) (c .redundancy) a (the-dealt c size rows dealt e e-rows e-dealt i)
-      where
-        the-mates : mates ≡ mateCells (zoneCells (topology c)) (nodesOf (topology c))
-        the-mates = e-mates ∙ (λ i. mateCells (e-zones i) (en i))
+  -- The rows that code deals are the dealt rows, and there is one for each partition.
+  module _ (size : ℕ) (rows dealt : List ℕ) (e-rows : rows ≡ replicate bufferRows 0) (e-dealt : dealt ≡ dealtIn c size rows) where
+    the-dealt : dealt ≡ dealtAt t size
+    the-dealt =
+        e-dealt
+        ∙ (ap (dealtIn c size) e-rows
+        ∙ deal-in c size (replicate bufferRows 0) e (omega (arith, few-partitions (t .bits) (acc .bits), length-replicate {A = ℕ} bufferRows 0)))
 
--- ---- the answer
+    pub dealt-fits : (P : ℕ) → P ≡ partitions t → (P ≤ bufferRows) × (P ≤ length dealt)
+    dealt-fits P eP =
+        let few : P ≤ bufferRows = omega (arith, eP, few-partitions (t .bits) (acc .bits)) in
+        (few, omega (arith, few, ap length the-dealt, deal-length t size (replicate bufferRows 0), length-replicate {A = ℕ} bufferRows 0))
 
-module _ (c : Cluster) (former : List ℕ) (a size P : ℕ) (before rows : List ℕ) (e : faultOf c ≡ 0)
-    (formed : rowsFormed former (partitions (topology c)) ≡ true) (es : size ≡ sizeOf (topology c)) (large : 1 ≤ size)
-    (eP : P ≡ partitions (topology c)) (eb : before ≡ masksRead (topology c .nodes) former P (replicate bufferRows 0))
-    (er : rows ≡ ranFrom (topology c) size before (dealtAt (topology c) size) a .state .rows) (low : Fits32 (topology c))
-  where
-    abbrev t : Topology
-    t = topology c
+  -- The run from the dealt rows, with the numbers and cells that code makes of the cluster.
+  module _ (size P n : ℕ) (before rows zones mates caps dealt : List ℕ) (a : ℕ) (es : size ≡ sizeOf t) (eP : P ≡ partitions t) (en : n ≡ nodesOf t)
+      (e-rows : rows ≡ replicate bufferRows 0) (e-dealt : dealt ≡ dealtIn c size rows) (e-zones : zones ≡ zoneCells t) (e-mates : mates ≡ mateCells zones n)
+      (e-caps : caps ≡ capCells t size)
+    where
+      the-mates : mates ≡ matesOf t
+      the-mates = e-mates ∙ (λ i. mateCells (e-zones i) (en i))
 
-    abbrev F : Layout
-    F = rowsIn (partitions t) former
+      the-caps : caps ≡ capCells t (sizeOf t)
+      the-caps = e-caps ∙ ap (capCells t) es
 
-    acc : Accepted t
-    acc = accepted c e
+      the-start : dealt ≡ startRows t
+      unfolding startRows
+      the-start = the-dealt size rows dealt e-rows e-dealt ∙ ap (dealtAt t) es
 
-    has-size : 1 ≤ sizeOf t
-    has-size = omega (arith, es)
+      -- How a run from these rows ended: it made these improvements, finished or not, and left these rows, ordered where it finished.
+      abbrev Ended : Bool → ℕ → List ℕ → ℕ → ℕ → List ℕ → List ℕ → List ℕ → Type 0
+      Ended f s new P n mates caps start =
+          let r = ranIn before P mates caps n (c .redundancy) a start in
+          (f ≡ r .finished) × (s ≡ r .steps) × (length new ≡ length start) × (f ≡ false → new ≡ r .state .rows)
+          × (f ≡ true → (R : ℕ) (zone cap : ℕ → ℕ) → Ground P n R (c .redundancy) zone cap before mates caps → Good P n R (c .redundancy) zone cap start
+          → Good P n R (c .redundancy) zone cap new × SameLayout P n (bitsAt new)
+          (firstOf P n R (c .redundancy) zone cap (bitsAt before) (weigh P n (bitsAt before) (bitsAt (r .state .rows)))))
 
-    -- The masks read are those of the former layout.
-    mask-is : (p : ℕ) → p < partitions t → rowMask (t .nodes) former p ≡ maskOf (incidence t F p) (nodesOf t)
-    unfolding incidence
-    mask-is p l =
-        let w = formed-each former (partitions t) p formed l in
-        mask-bits (t .nodes) former p (acc .ids) (w .0) (w .1)
-        ∙ mask-cong (bitsOf (t .nodes) (idsIn (rowAt former p))) (incidence t F p) (nodesOf t)
-        (λ b k. ap (λ (r : List ℕ). bitsOf (t .nodes) r b) (sym (row-rowsIn (partitions t) former p l)))
+      module _ (large : 1 ≤ size) (long : partitions t ≤ length before) (f : Bool) (s : ℕ) (new : List ℕ) where
+        abbrev ran-on : Ran State
+        ran-on = ranFrom t (sizeOf t) before (startRows t) a
 
-    before-is : before ≡ formerMasks t F
-    unfolding masksRead formerMasks
-    before-is =
-        eb
-        ∙ (ap (λ (n : ℕ). masksRead (t .nodes) former n (replicate bufferRows 0)) eP
-        ∙ (simp (le-leb (partitions t) bufferRows (few-partitions (t .bits) (acc .bits)), length-replicate {A = ℕ} bufferRows 0)
-        (ap (λ (l : List ℕ). l ++ drop (partitions t) (replicate bufferRows 0))
-        (tab-cong (λ p. rowMask (t .nodes) former p) (λ p. maskOf (incidence t F p) (nodesOf t)) (partitions t) mask-is))))
+        start : GoodRows t (startRows t)
+        start = start-good t acc (omega (arith, es))
 
-    abbrev ran : Ran State
-    ran = ranFrom t (sizeOf t) (formerMasks t F) (startRows t) a
+        -- What such a run leaves are good rows with the bits that are answered.
+        abbrev Answers : Type 0
+        Answers =
+            (f ≡ ran-on .finished) × (s ≡ ran-on .steps) × GoodRows t new
+            × SameLayout (partitions t) (nodesOf t) (bitsAt new) (answerBits t (sizeOf t) before f (ran-on .state .rows))
 
-    ran-is : ranFrom t size before (dealtAt t size) a ≡ ran
-    unfolding startRows
-    ran-is = λ i. ranFrom t (es i) (before-is i) (dealtAt t (es i)) a
+        at-the-start : Ended f s new (partitions t) (nodesOf t) (matesOf t) (capCells t (sizeOf t)) (startRows t) → Answers
+        unfolding ranFrom firstBits
+        at-the-start o = go f refl
+          where
+            go : (b : Bool) → f ≡ b → Answers
+            go true z =
+                let w = o .4 z (t .replication) (zoneIndex t) (capAt t (sizeOf t)) (ground-over t acc before long) start in (
+                  o .0,
+                  o .1,
+                  w .0,
+                  subst (SameLayout (partitions t) (nodesOf t) (bitsAt new)) (sym (finished-bits t (sizeOf t) before f (ran-on .state .rows) z)) (w .1),
+                )
+            go false z = (
+              o .0,
+              o .1,
+              subst (GoodRows t) (sym (o .3 z)) (run-good (ground-over t acc before long) (startRows t) start a .good),
+              subst (SameLayout (partitions t) (nodesOf t) (bitsAt new)) (sym (stopped-bits t (sizeOf t) before f (ran-on .state .rows) z))
+                  (λ p l b k. ap (λ (x : List ℕ). bitsAt x p b) (o .3 z)),
+            )
 
-    rows-are : rows ≡ ran .state .rows
-    rows-are = er ∙ ap (λ (r : Ran State). r .state .rows) ran-is
+        pub answers : Ended f s new P n mates caps dealt → Answers
+        answers o =
+            at-the-start (subst (λ (X : Type 0). X) (λ i. Ended f s new (eP i) (en i) (the-mates i) (the-caps i) (the-start i)) o)
 
-    good : GoodRows t rows
-    unfolding ranFrom
-    good = subst (GoodRows t) (sym rows-are) (run-good (ground t acc F) (startRows t) (start-good t acc has-size) a .good)
+  -- ---- the answer
 
-    agreement-is : agreementIn rows before P ≡ agreementIn rows (formerMasks t F) (partitions t)
-    agreement-is = λ i. agreementIn rows (before-is i) (eP i)
+  -- The former rows that code reads are those of the former layout.
+  module _ (former : List ℕ) (P : ℕ) (before : List ℕ) (formed : rowsFormed former (partitions t) ≡ true) (eP : P ≡ partitions t)
+      (eb : before ≡ masksRead (t .nodes) former P (replicate bufferRows 0))
+    where
+      abbrev F : Layout
+      F = rowsIn (partitions t) former
 
-    -- What counting asks for is there.
-    pub countable : (c .replication ≤ mostCopies) × (P ≤ bufferRows) × (P ≤ length before) × (P ≤ length rows)
-        × (agreementIn rows before P ≤ c .replication * P)
-    countable = (
-      acc .replication .1,
-      omega (arith, eP, few-partitions (t .bits) (acc .bits)),
-      omega (arith, eP, ap length before-is, fm-long t acc F),
-      omega (arith, eP, good .long),
-      omega (arith, agreement-is, ap (λ (n : ℕ). c .replication * n) eP, measure t acc F rows good),
-    )
+      mask-is : (p : ℕ) → p < partitions t → rowMask (t .nodes) former p ≡ maskOf (incidence t F p) (nodesOf t)
+      unfolding incidence
+      mask-is p l =
+          let w = formed-each former (partitions t) p formed l in
+          mask-bits (t .nodes) former p (acc .ids) (w .0) (w .1)
+          ∙ mask-cong (bitsOf (t .nodes) (idsIn (rowAt former p))) (incidence t F p) (nodesOf t)
+          (λ b k. ap (λ (r : List ℕ). bitsOf (t .nodes) r b) (sym (row-rowsIn (partitions t) former p l)))
 
-    -- The answer is that of the definition.
-    pub answer-is : (d : ℕ) → d ≡ c .replication * P - agreementIn rows before P → (f : Bool) → f ≡ ranFrom t size before (dealtAt t size) a .finished
-        → (s : ℕ) → s ≡ ranFrom t size before (dealtAt t size) a .steps
-        → _≡_ {A = Planned} (record { refusal = 0; size = size; sent = d; finished = f; improvements = s }) (answered (planIn c former a))
-    unfolding planOf planFrom sentRows ranFrom ranIn
-    answer-is d ed f ef s es′ =
-        λ i. record { refusal = 0; size = es i; sent = sends i; finished = (ef ∙ ap (λ (r : Ran State). r .finished) ran-is) i; improvements = (es′ ∙ ap (λ (r : Ran State). r .steps) ran-is) i }
-      where
-        sends : d ≡ sentRows t F (ran .state .rows)
-        sends =
-            ed
-            ∙ ((λ i. c .replication * eP i - agreement-is i)
-            ∙ ap (λ (l : List ℕ). c .replication * partitions t - agreementIn l (formerMasks t F) (partitions t)) rows-are)
+      before-is : before ≡ formerMasks t F
+      unfolding masksRead formerMasks
+      before-is =
+          eb
+          ∙ (ap (λ (n : ℕ). masksRead (t .nodes) former n (replicate bufferRows 0)) eP
+          ∙ (simp (le-leb (partitions t) bufferRows (few-partitions (t .bits) (acc .bits)), length-replicate {A = ℕ} bufferRows 0)
+          (ap (λ (l : List ℕ). l ++ drop (partitions t) (replicate bufferRows 0))
+          (tab-cong (λ p. rowMask (t .nodes) former p) (λ p. maskOf (incidence t F p) (nodesOf t)) (partitions t) mask-is))))
 
-    -- The cells written are those of its layout.
-    pub cells-are : (cells : List ℕ) → layoutCells ≤ length cells
-        → cellsWritten (t .nodes) rows P cells ≡ cellsOf (planIn c former a .layout) ++ drop layoutCells cells
-    unfolding planOf planFrom layoutRows ranFrom ranIn
-    cells-are cells whole =
-        ap (λ (n : ℕ). cellsWritten (t .nodes) rows n cells) eP
-        ∙ (written-layout t rows cells (few-partitions (t .bits) (acc .bits)) (good .long) whole
-        (λ p l. omega (arith, good .within .rows p l .size, acc .replication .1))
-        ∙ ap (λ (l : List ℕ). cellsOf (layoutRows t l) ++ drop layoutCells cells) rows-are)
+      -- There is one for each partition.
+      pub before-long : partitions t ≤ length before
+      before-long = omega (arith, ap length before-is, fm-long t acc F)
+
+      -- The run from them ended in these rows, ordered where it is finished.
+      module _ (a size : ℕ) (es : size ≡ sizeOf t) (large : 1 ≤ size) (f : Bool) (ef : f ≡ ranFrom t (sizeOf t) before (startRows t) a .finished)
+          (new : List ℕ) (good : GoodRows t new)
+          (bits : SameLayout (partitions t) (nodesOf t) (bitsAt new)
+          (answerBits t (sizeOf t) before f (ranFrom t (sizeOf t) before (startRows t) a .state .rows)))
+        where
+          abbrev ran : Ran State
+          ran = ranFrom t (sizeOf t) (formerMasks t F) (startRows t) a
+
+          ran-is : ranFrom t (sizeOf t) before (startRows t) a ≡ ran
+          ran-is = ap (λ (l : List ℕ). ranFrom t (sizeOf t) l (startRows t) a) before-is
+
+          finished-is : f ≡ ran .finished
+          finished-is = ef ∙ ap (λ (r : Ran State). r .finished) ran-is
+
+          reached-good : GoodRows t (ran .state .rows)
+          unfolding ranFrom
+          reached-good = run-good (ground t acc F) (startRows t) (start-good t acc (omega (arith, es))) a .good
+
+          answered-bits : SameLayout (partitions t) (nodesOf t) (bitsAt new) (answerBits t (sizeOf t) (formerMasks t F) (ran .finished) (ran .state .rows))
+          answered-bits =
+              subst (SameLayout (partitions t) (nodesOf t) (bitsAt new))
+              (λ i. answerBits t (sizeOf t) (before-is i) (finished-is i) (ran-is i .state .rows)) bits
+
+          agreement-is : agreementIn new before P ≡ agreementIn new (formerMasks t F) (partitions t)
+          agreement-is = λ i. agreementIn new (before-is i) (eP i)
+
+          -- What counting asks for is there.
+          pub countable : (c .replication ≤ mostCopies) × (P ≤ bufferRows) × (P ≤ length before) × (P ≤ length new)
+              × (agreementIn new before P ≤ c .replication * P)
+          countable = (
+            acc .replication .1,
+            omega (arith, eP, few-partitions (t .bits) (acc .bits)),
+            omega (arith, eP, before-long),
+            omega (arith, eP, good .long),
+            omega (arith, agreement-is, ap (λ (n : ℕ). c .replication * n) eP, measure t acc F new good),
+          )
+
+          sends : (d : ℕ) → d ≡ c .replication * P - agreementIn new before P → d ≡ sentRows t F (ran .state .rows)
+          unfolding sentRows
+          sends d ed =
+              ed
+              ∙ ((λ i. c .replication * eP i - agreement-is i)
+              ∙ ap (λ (n : ℕ). c .replication * partitions t - n)
+              (rows-share t acc F (ran .state .rows) reached-good (ran .finished) new answered-bits (good .long) (good .small)))
+
+          -- The answer is that of the definition, and the cells written of the rows are those of its layout.
+          pub settled : (d : ℕ) → d ≡ c .replication * P - agreementIn new before P → (s : ℕ) → s ≡ ranFrom t (sizeOf t) before (startRows t) a .steps
+              → (cells : List ℕ) → layoutCells ≤ length cells
+              → (_≡_ {A = Planned} (record { refusal = 0; size = size; sent = d; finished = f; improvements = s }) (answered (planIn c former a)))
+              × (cellsWritten (t .nodes) new P cells ≡ cellsOf (planIn c former a .layout) ++ drop layoutCells cells)
+          unfolding planOf planFrom layoutRows ranFrom ranIn
+          settled d ed s e-steps cells whole = (
+            λ i. record {
+              refusal = 0;
+              size = es i;
+              sent = sends d ed i;
+              finished = finished-is i;
+              improvements = (e-steps ∙ ap (λ (r : Ran State). r .steps) ran-is) i;
+            },
+            ap (λ (n : ℕ). cellsWritten (t .nodes) new n cells) eP
+                ∙ (written-layout t new cells (few-partitions (t .bits) (acc .bits)) (good .long) whole
+                (λ p l. omega (arith, good .within .rows p l .size, acc .replication .1))
+                ∙ ap (λ (l : Layout). cellsOf l ++ drop layoutCells cells) (rows-first t F (startRows t) a new answered-bits)),
+          )

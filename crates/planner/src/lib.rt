@@ -32,8 +32,8 @@ fn refused(number: u32) -> Planned
     }
 }
 
-// The plan of a cluster: the largest size, and a layout of that size that sends the fewest copies, or as few as the allowance of
-// improvements brings it to. The assignment takes the layout. The run works in the scratch, all of which is zeroed at the end.
+// The plan of a cluster: the largest size, and the first of the layouts of that size that send the fewest copies, or one that sends as few as the
+// allowance of improvements brings it to. The assignment takes the layout. The run works in the scratch, all of which is zeroed at the end.
 pub fn plan(
     c: Cluster,
     former: &[u32],

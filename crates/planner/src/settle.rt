@@ -7,17 +7,20 @@ ghost use lib.ListN.{length, drop, replicate};
 ghost use Rattle.cluster.specs.Terms.{bufferRows, layoutCells, mostCopies, topology, partitions, cellsOf, faultOf};
 ghost use Rattle.masks.specs.ModelMasks.{rowsFormed};
 ghost use Rattle.cluster.specs.TermsReading.{Fits32};
-ghost use Rattle.sizing.specs.ModelSizing.{sizeOf};
+ghost use Rattle.sets.specs.ModelBits.{bitsAt};
+ghost use Rattle.exchange.proofs.Agreeing.{SameLayout};
+ghost use Rattle.sizing.specs.ModelSizing.{nodesOf, sizeOf};
 ghost use Rattle.graph.specs.ModelKept.{keptCells};
 ghost use Rattle.agreement.specs.ModelAgreement.{agreementIn};
-ghost use Rattle.planning.specs.ModelPlan.{dealtAt, ranFrom};
+ghost use Rattle.planning.specs.ModelPlan.{startRows, ranFrom, answerBits};
+ghost use Rattle.planning.proofs.Grounds.{GoodRows};
 ghost use Rattle.planner.specs.TermsPlan.{planIn, answered};
 use super::Planned;
 use cluster::Cluster;
-use improve::Ended;
 use incidence::zones;
+use ordering::Ended;
 
-// The run from the beginning dealt at the size. `before` holds the former rows as masks; `kept` is room for the run.
+// The run from the beginning dealt at the size, ordered where it is finished. `before` holds the former rows as masks; `kept` is room for the run.
 pub(crate) fn improved(
     c: Cluster,
     size: u32,
@@ -26,10 +29,13 @@ pub(crate) fn improved(
     rows: &mut [u32],
     kept: &mut [u32],
 ) -> Ended
-    requires { ⌜ (faultOf c ≡ 0) × (now rows ≡ replicate bufferRows 0) × (length (now kept) ≡ keptCells) ⌝ }
-    ensures { λ r. ⌜ (now (rows .exit) ≡ ranFrom (topology c) size (now (before .entry)) (dealtAt (topology c) size) allowance .state .rows)
-        × (r .finished ≡ ranFrom (topology c) size (now (before .entry)) (dealtAt (topology c) size) allowance .finished)
-        × (r .improvements ≡ ranFrom (topology c) size (now (before .entry)) (dealtAt (topology c) size) allowance .steps)
+    requires { ⌜ (faultOf c ≡ 0) × (size ≡ sizeOf (topology c)) × (1 ≤ size) × (partitions (topology c) ≤ length (now before))
+        × (now rows ≡ replicate bufferRows 0) × (length (now kept) ≡ keptCells) ⌝ }
+    ensures { λ r. ⌜ (r .finished ≡ ranFrom (topology c) (sizeOf (topology c)) (now (before .entry)) (startRows (topology c)) allowance .finished)
+        × (r .improvements ≡ ranFrom (topology c) (sizeOf (topology c)) (now (before .entry)) (startRows (topology c)) allowance .steps)
+        × GoodRows (topology c) (now (rows .exit)) × SameLayout (partitions (topology c)) (nodesOf (topology c)) (bitsAt (now (rows .exit)))
+        (answerBits (topology c) (sizeOf (topology c)) (now (before .entry)) (r .finished)
+        (ranFrom (topology c) (sizeOf (topology c)) (now (before .entry)) (startRows (topology c)) allowance .state .rows))
         × Fits32 (topology c) ⌝ }
 {
     let partitions = cluster::partitions(c.bits);
@@ -38,7 +44,7 @@ pub(crate) fn improved(
     let zones = zones::zones(c);
     let mates = sizing::mates(zones, count);
     let caps = sizing::caps(c, size);
-    improve::run(
+    ordering::run(
         rows,
         before,
         partitions,

@@ -1,43 +1,29 @@
--- The states of planning are a machine that improves layouts, from any good first rows: the cluster is a ground of improvements, and the pairs that
--- rows share with the former ones tell how many copies their layout sends.
+-- The states of planning are a machine that improves layouts, from any good first rows.
 -- Assumes nothing.
-use Prim.Native.Nat.{ℕ, _+_, _*_, _^_, _≤_, _<_}
-use mathlib.Core.Path.{_≡_, refl, sym, ap, _∙_, subst}
+use Prim.Native.Nat.{ℕ, _+_, _*_, _≤_, _<_}
+use mathlib.Core.Path.{_≡_, ap, _∙_}
 use mathlib.Core.Bool.{true, false}
 use mathlib.Core.List.{List, []}
 use native.Mathlib.Omega.{arith}
 use native.Mathlib.Nat.{mul-le-mul}
-use lib.ListN.{length, drop, replicate, length-replicate, length-append, List·getD-append}
-use lib.Pow.{pow-pos}
 use Rattle.cluster.proofs.Accepting.{few-partitions}
-use Rattle.sums.specs.TermsSums.{one-if, tab}
-use Rattle.sets.specs.ModelBits.{bit, bitsAt, maskOf}
-use Rattle.sets.proofs.Laws.{mask-lt, bit-maskOf}
-use Rattle.cells.proofs.Cells.{length-tab, getD-tab}
-use Rattle.exchange.specs.ModelRow.{weigh}
-use Rattle.exchange.proofs.Agreeing.{weigh-cong, within-cong}
-use Rattle.cluster.specs.Terms.{bufferRows, Topology, partitions, nodeAt, mem, Layout, row, ValidAt, sent}
+use Rattle.sums.specs.TermsSums.{one-if}
+use Rattle.cluster.specs.Terms.{Topology, partitions, nodeAt, mem, Layout, row, ValidAt, sent}
 use Rattle.cluster.specs.TermsReading.{mostImprovements, Accepted, Fits32}
-use Rattle.incidence.specs.ModelIncidence.{zoneIndex, capAt, incidence, zoneCells}
-use Rattle.incidence.proofs.TieZones.{zone-below}
-use Rattle.incidence.proofs.TieSending.{incidence-le, sent-law}
-use Rattle.incidence.proofs.TieLayouts.{sent-bits, within-of-valid, valid-of-within}
-use Rattle.incidence.proofs.Columns.{cell-column}
-use Rattle.sizing.specs.ModelSizing.{nodesOf, capCells, sizeOf, dealtBits, dealtRows}
-use Rattle.sizing.proofs.Sizes.{size-is, beginning-within}
-use Rattle.sizing.proofs.Reading.{mates-hold, deal-length, deal-cell, deal-bit}
-use Rattle.agreement.specs.ModelAgreement.{agreementIn}
+use Rattle.incidence.specs.ModelIncidence.{incidence}
+use Rattle.incidence.proofs.TieSending.{sent-law}
+use Rattle.incidence.proofs.TieLayouts.{within-of-valid}
+use Rattle.sizing.specs.ModelSizing.{nodesOf, sizeOf}
+use Rattle.sizing.proofs.Sizes.{size-is}
 use Rattle.steps.specs.ModelSteps.{State}
 use Rattle.improve.specs.ModelImprove.{begun, ranIn}
-use Rattle.improve.proofs.Ground.{Ground, Good, GoodState, agreement-weighs, begun-good, next-good, next-gains, none-heavier, none-former, run-finishes}
-use Rattle.planning.specs.ModelPlan.{matesOf, formerMasks, startRows, layoutRows, sentRows, layoutAt, sentAt, improvesAt, nextAt}
+use Rattle.improve.proofs.Ground.{begun-good, next-good, next-gains, none-heavier, none-former, run-finishes}
+use Rattle.planning.specs.ModelPlan.{sentRows, sentAt, improvesAt, nextAt, answerLayout}
 use Rattle.planning.proofs.Rules.{Machine}
+use Rattle.planning.proofs.Grounds.{GoodRows, GoodAt, fm-bit, same-weight, ground, measure, sent-is}
+use Rattle.planning.proofs.Firsts.{answer-valid, answer-sent, answer-first}
 
--- Rows of nodes of the cluster, within the caps at its size.
-abbrev pub GoodRows : Topology → List ℕ → Type 0
-GoodRows t = Good (partitions t) (nodesOf t) (t .replication) (t .redundancy) (zoneIndex t) (capAt t (sizeOf t))
-
-module _ (t : Topology) (acc : Accepted t) where
+module _ (t : Topology) (acc : Accepted t) (F : Layout) where
   abbrev P : ℕ
   P = partitions t
 
@@ -47,121 +33,52 @@ module _ (t : Topology) (acc : Accepted t) where
   abbrev R : ℕ
   R = t .replication
 
-  -- The dealt rows are good.
-  pub start-good : 1 ≤ sizeOf t → GoodRows t (startRows t)
-  unfolding startRows
-  start-good some =
-      let long : P ≤ length {A = ℕ} (replicate bufferRows 0) = omega (arith, few-partitions (t .bits) (acc .bits), length-replicate {A = ℕ} bufferRows 0) in
+  -- Where a state cannot be improved, no layout sends less.
+  none-less : (s : State) → GoodAt t acc F s → improvesAt t F s ≡ false → (L : Layout) → ValidAt t L (sizeOf t) → sentAt t F s ≤ sent t L F
+  none-less s g e L v =
+      omega (
+        arith,
+        sent-is t acc F (s .rows) (g .good),
+        measure t acc F (s .rows) (g .good),
+        none-heavier (ground t acc F) s g e (incidence t L) (within-of-valid t (acc .ids) L (sizeOf t) v),
+        same-weight t acc F (incidence t L),
+        sent-law t L F (acc .ids) (v .rows),
+      )
+
+  -- Without former copies nothing is to be improved.
+  blank : (s : State) → GoodAt t acc F s → ((p : ℕ) → p < P → row F p ≡ []) → (improvesAt t F s ≡ false) × (sentAt t F s ≡ R * P)
+  unfolding incidence mem one-if sentRows
+  blank s g h =
+      let w = none-former (ground t acc F) s g (λ p b l k. fm-bit t acc F p l b k ∙ ap (λ (r : List ℕ). one-if (mem (nodeAt t b .id) r)) (h p l)) in
+      (w .0, omega (arith, w .1))
+
+  -- One improvement saves as many copies as there are nodes at most ..
+  bounded : (s : State) → GoodAt t acc F s → improvesAt t F s ≡ true → sentAt t F s ≤ sentAt t F (nextAt t F s) + N
+  bounded s g e =
+      let n = next-good (ground t acc F) s g e .good in
+      omega (arith, next-gains (ground t acc F) s g e .1, sent-is t acc F (s .rows) (g .good), measure t acc F (s .rows) (g .good), sent-is t acc F _ n, measure t acc F _ n)
+
+  -- .. and one at least.
+  falls : (s : State) → GoodAt t acc F s → improvesAt t F s ≡ true → sentAt t F (nextAt t F s) + 1 ≤ sentAt t F s
+  falls s g e =
+      let n = next-good (ground t acc F) s g e .good in
+      omega (arith, next-gains (ground t acc F) s g e .0, sent-is t acc F (s .rows) (g .good), measure t acc F (s .rows) (g .good), sent-is t acc F _ n, measure t acc F _ n)
+
+  -- From good first rows the states of planning are a machine that improves layouts.
+  pub machine : Fits32 t → 1 ≤ sizeOf t → (start : List ℕ) → GoodRows t start
+      → Machine t F (sizeOf t) (improvesAt t F) (nextAt t F) (answerLayout t F) (sentAt t F) (begun start) (GoodAt t acc F)
+  unfolding ranIn
+  machine low large start g =
       record {
-        long = omega (arith, long, deal-length t (sizeOf t) (replicate bufferRows 0));
-        small = λ p l. subst (λ (x : ℕ). x < 2 ^ N) (sym (deal-cell t (sizeOf t) (replicate bufferRows 0) long p l)) (mask-lt (dealtBits t (sizeOf t) p) N);
-        within =
-            within-cong P N (dealtBits t (sizeOf t)) (bitsAt (dealtRows t (sizeOf t) (replicate bufferRows 0)))
-            (λ p l b k. sym (deal-bit t (sizeOf t) (replicate bufferRows 0) long p l b k)) R (t .redundancy) (zoneIndex t) (capAt t (sizeOf t))
-            (beginning-within t acc (sizeOf t) some (omega arith));
+        sized = size-is t acc low large;
+        starts = begun-good (ground t acc F) start g;
+        stays = next-good (ground t acc F);
+        valid = λ f x h. unfold answerLayout in answer-valid t acc F (x .rows) (h .good) large f;
+        measured = λ f x h. unfold answerLayout in answer-sent t acc F (x .rows) (h .good) f;
+        first = λ x h. unfold answerLayout in answer-first t acc F (x .rows) (h .good);
+        falls = falls;
+        bounded = bounded;
+        nearest = none-less;
+        enough = run-finishes (ground t acc F) start g mostImprovements (mul-le-mul (few-partitions (t .bits) (acc .bits)) (acc .replication .1));
+        blank = blank (begun start) (begun-good (ground t acc F) start g);
       }
-
-  -- ---- a former layout
-
-  module _ (F : Layout) where
-    abbrev fm : List ℕ
-    fm = formerMasks t F
-
-    pub fm-long : P ≤ length fm
-    unfolding formerMasks
-    fm-long =
-        omega (
-          arith,
-          length-append (tab (λ p. maskOf (incidence t F p) N) P) (drop P (replicate bufferRows 0)),
-          length-tab (λ p. maskOf (incidence t F p) N) P,
-        )
-
-    -- The bits of the former rows.
-    fm-bit : (p : ℕ) → p < P → (b : ℕ) → b < N → bitsAt fm p b ≡ incidence t F p b
-    unfolding formerMasks
-    fm-bit p l b k =
-        ap (λ (x : ℕ). bit x b)
-        (List·getD-append (tab (λ p. maskOf (incidence t F p) N) P) (drop P (replicate bufferRows 0)) 0 p
-        (omega (arith, length-tab (λ p. maskOf (incidence t F p) N) P))
-        ∙ getD-tab (λ p. maskOf (incidence t F p) N) P p 0 l)
-        ∙ bit-maskOf (incidence t F p) N b k (incidence-le t F p b)
-
-    -- The former rows weigh as the former layout does.
-    same-weight : (S : ℕ → ℕ → ℕ) → weigh P N (bitsAt fm) S ≡ weigh P N (incidence t F) S
-    same-weight S = weigh-cong P N (bitsAt fm) (incidence t F) S S fm-bit (λ p l b k. refl)
-
-    -- The cluster and its former layout are a ground of improvements.
-    pub ground : Ground P N R (t .redundancy) (zoneIndex t) (capAt t (sizeOf t)) fm (matesOf t) (capCells t (sizeOf t))
-    unfolding capCells
-    ground =
-        record {
-          partitions = (pow-pos (t .bits), few-partitions (t .bits) (acc .bits));
-          copied = acc .replication .0;
-          zones = record { few = acc .few; inside = zone-below t; mate = mates-hold t (acc .few) (zoneCells t) (matesOf t) refl refl };
-          capped = λ b l. cell-column (capAt t (sizeOf t)) N b (acc .few) l;
-          rows = fm-long;
-        }
-
-    -- Good rows, and what a run keeps of its last walk.
-    abbrev pub GoodAt : State → Type 0
-    GoodAt = GoodState P N R (t .redundancy) (zoneIndex t) (capAt t (sizeOf t)) fm
-
-    -- ---- what rows send
-
-    -- What is sent and the pairs shared make up all copies.
-    pub measure : (rows : List ℕ) → GoodRows t rows → sent t (layoutRows t rows) F + agreementIn rows fm P ≡ R * P
-    unfolding layoutRows
-    measure rows g = omega (arith, agreement-weighs ground rows g, same-weight (bitsAt rows), sent-bits t (acc .ids) (bitsAt rows) F (g .within .rows))
-
-    sent-is : (rows : List ℕ) → GoodRows t rows → sentRows t F rows ≡ sent t (layoutRows t rows) F
-    unfolding sentRows
-    sent-is rows g = omega (arith, measure rows g)
-
-    -- Where a state cannot be improved, no layout sends less.
-    none-less : (s : State) → GoodAt s → improvesAt t F s ≡ false → (L : Layout) → ValidAt t L (sizeOf t) → sentAt t F s ≤ sent t L F
-    none-less s g e L v =
-        omega (
-          arith,
-          sent-is (s .rows) (g .good),
-          measure (s .rows) (g .good),
-          none-heavier ground s g e (incidence t L) (within-of-valid t (acc .ids) L (sizeOf t) v),
-          same-weight (incidence t L),
-          sent-law t L F (acc .ids) (v .rows),
-        )
-
-    -- Without former copies nothing is to be improved.
-    blank : (s : State) → GoodAt s → ((p : ℕ) → p < P → row F p ≡ []) → (improvesAt t F s ≡ false) × (sentAt t F s ≡ R * P)
-    unfolding incidence mem one-if sentRows
-    blank s g h =
-        let w = none-former ground s g (λ p b l k. fm-bit p l b k ∙ ap (λ (r : List ℕ). one-if (mem (nodeAt t b .id) r)) (h p l)) in
-        (w .0, omega (arith, w .1))
-
-    -- One improvement saves as many copies as there are nodes at most ..
-    bounded : (s : State) → GoodAt s → improvesAt t F s ≡ true → sentAt t F s ≤ sentAt t F (nextAt t F s) + N
-    bounded s g e =
-        let n = next-good ground s g e .good in
-        omega (arith, next-gains ground s g e .1, sent-is (s .rows) (g .good), measure (s .rows) (g .good), sent-is _ n, measure _ n)
-
-    -- .. and one at least.
-    falls : (s : State) → GoodAt s → improvesAt t F s ≡ true → sentAt t F (nextAt t F s) + 1 ≤ sentAt t F s
-    falls s g e =
-        let n = next-good ground s g e .good in
-        omega (arith, next-gains ground s g e .0, sent-is (s .rows) (g .good), measure (s .rows) (g .good), sent-is _ n, measure _ n)
-
-    -- From good first rows the states of planning are a machine that improves layouts.
-    pub machine : Fits32 t → 1 ≤ sizeOf t → (start : List ℕ) → GoodRows t start
-        → Machine t F (sizeOf t) (improvesAt t F) (nextAt t F) (layoutAt t) (sentAt t F) (begun start) GoodAt
-    unfolding ranIn
-    machine low large start g =
-        record {
-          sized = size-is t acc low large;
-          starts = begun-good ground start g;
-          stays = next-good ground;
-          valid = λ x h. unfold layoutRows in valid-of-within t (acc .ids) (bitsAt (x .rows)) (sizeOf t) large (h .good .within);
-          measured = λ x h. sent-is (x .rows) (h .good);
-          falls = falls;
-          bounded = bounded;
-          nearest = none-less;
-          enough = run-finishes ground start g mostImprovements (mul-le-mul (few-partitions (t .bits) (acc .bits)) (acc .replication .1));
-          blank = blank (begun start) (begun-good ground start g);
-        }

@@ -1,12 +1,14 @@
--- Demand 3, in the terms of document 01 and request 2026-01 alone: what is claimed of the answers of planning at all allowances together.
+-- Demand 3, in the terms of document 01 and requests 2026-01 and 2026-03 alone: what is claimed of the answers of planning at all allowances together.
 -- Assumes nothing.
 use Prim.Native.Nat.{ℕ, suc, _+_, _*_, _≤_, _<_, min}
 use mathlib.Core.Path.{_≡_}
 use mathlib.Core.Bool.{Bool, true, false}
 use mathlib.Core.List.{[]}
+use mathlib.Core.Logic.{_⊎_}
 use lib.ListN.{length}
 use Rattle.cluster.specs.TermsReading.{mostImprovements}
 use Rattle.cluster.specs.Terms.{Topology, partitions, Layout, row, ValidAt, IsSize, IsFormer, sent, distance}
+use Rattle.cluster.specs.TermsFirst.{Before}
 
 -- "The answer is layout, size, distance, verdict and improvements"; since 2026-01 "Planning's answer .., now `sent`, shall hold the number of pairs in
 -- the new layout and not in the former one".
@@ -21,6 +23,8 @@ pub record Answer : Type 0 where
 -- count"); "improvements are the smallest allowance that finishes, and a larger allowance gives the very same answer".
 pub record Finished (t : Topology) (F : Layout) (plan : ℕ → Answer) (a : ℕ) : Type 0 where
   pub nearest : (L : Layout) → ValidAt t L (plan a .size) → plan a .sent ≤ sent t L F
+  -- "A finished run shall answer the first of them: compare rows from partition 0, ids from the left, smaller id first."
+  pub first : (L : Layout) → ValidAt t L (plan a .size) → sent t L F ≡ plan a .sent → (plan a .layout ≡ L) ⊎ Before (plan a .layout) L
   pub finishes : plan (plan a .improvements) .finished ≡ true
   pub smallest : (b : ℕ) → plan b .finished ≡ true → plan a .improvements ≤ b
   pub larger : (b : ℕ) → a ≤ b → plan b ≡ plan a

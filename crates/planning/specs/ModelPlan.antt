@@ -1,14 +1,17 @@
 -- The run of planning over row masks: the walk that was turned last, where it stands again in the rows, else the cycle found in the graph of the
--- rows; the exchanges of that walk; until there is none or the allowance is spent. Nobody has to believe this file: the theorem of proofs/Demands.antt says in the paper's terms what it achieves.
+-- rows; the exchanges of that walk; until there is none or the allowance is spent; and, where there is none, the first of the layouts that are as near.
+-- Nobody has to believe this file: the theorem of proofs/Demands.antt says in the paper's terms what it achieves.
 -- Assumes nothing.
 use Prim.Native.Nat.{ℕ, _-_, _*_}
-use mathlib.Core.Bool.{Bool}
+use mathlib.Core.Bool.{Bool, cond}
 use mathlib.Core.List.{List, _++_}
 use lib.ListN.{drop, replicate}
 use Rattle.sets.specs.ModelBits.{bitsAt, maskOf}
 use Rattle.sums.specs.TermsSums.{tab}
+use Rattle.exchange.specs.ModelRow.{weigh}
+use Rattle.ties.specs.ModelOrder.{firstOf}
 use Rattle.cluster.specs.Terms.{bufferRows, Topology, partitions, Layout}
-use Rattle.incidence.specs.ModelIncidence.{incidence, layoutOf, zoneCells}
+use Rattle.incidence.specs.ModelIncidence.{zoneIndex, capAt, incidence, layoutOf, zoneCells}
 use Rattle.sizing.specs.ModelSizing.{nodesOf, mateCells, capCells, sizeOf, dealtRows}
 use Rattle.agreement.specs.ModelAgreement.{agreementIn}
 use Rattle.steps.specs.ModelSteps.{State, improvesIn, nextIn}
@@ -43,9 +46,6 @@ unfoldable pub sentRows : Topology → Layout → List ℕ → ℕ
 sentRows t F rows = t .replication * partitions t - agreementIn rows (formerMasks t F) (partitions t)
 
 -- The same of a state of the run.
-abbrev pub layoutAt : Topology → State → Layout
-layoutAt t s = layoutRows t (s .rows)
-
 abbrev pub sentAt : Topology → Layout → State → ℕ
 sentAt t F s = sentRows t F (s .rows)
 
@@ -61,7 +61,21 @@ ranFrom t s before rows a = ranIn before (partitions t) (matesOf t) (capCells t 
 
 -- ---- the answer
 
-module _ {A : Type 0} (improves : A → Bool) (next : A → A) (lay : A → Layout) (sends : A → ℕ) (s : ℕ) (start : A) where
+-- The first of the layouts within the caps of a size that share as many copies with the former rows `before` as these rows do, as 0/1 rows.
+unfoldable pub firstBits : Topology → ℕ → List ℕ → List ℕ → ℕ → ℕ → ℕ
+firstBits t s before rows =
+    firstOf (partitions t) (nodesOf t) (t .replication) (t .redundancy) (zoneIndex t) (capAt t s) (bitsAt before)
+    (weigh (partitions t) (nodesOf t) (bitsAt before) (bitsAt rows))
+
+-- The 0/1 rows that are answered where a run has reached these rows: where it finished, the first that share as much.
+unfoldable pub answerBits : Topology → ℕ → List ℕ → Bool → List ℕ → ℕ → ℕ → ℕ
+answerBits t s before finished rows = cond finished (firstBits t s before rows) (bitsAt rows)
+
+-- Their layout, at the cluster's size.
+unfoldable pub answerLayout : Topology → Layout → Bool → State → Layout
+answerLayout t F finished s = layoutOf t (answerBits t (sizeOf t) (formerMasks t F) finished (s .rows))
+
+module _ {A : Type 0} (improves : A → Bool) (next : A → A) (lay : Bool → A → Layout) (sends : A → ℕ) (s : ℕ) (start : A) where
   -- How the run with an allowance ended.
   abbrev pub ended : ℕ → Ran A
   ended a = run improves next a start
@@ -70,13 +84,14 @@ module _ {A : Type 0} (improves : A → Bool) (next : A → A) (lay : A → Layo
   abbrev pub reached : ℕ → A
   reached a = ended a .state
 
-  -- The answer with an allowance, s the size, `lay` the layout that a state stands for and `sends` the copies that it sends.
+  -- The answer with an allowance, s the size, `lay` the layout that is answered where a run finished, or did not, in a state, and `sends` the copies
+  -- that a state sends.
   abbrev pub answerAt : ℕ → Answer
-  answerAt a = record { layout = lay (reached a); size = s; sent = sends (reached a); finished = ended a .finished; improvements = ended a .steps }
+  answerAt a = record { layout = lay (ended a .finished) (reached a); size = s; sent = sends (reached a); finished = ended a .finished; improvements = ended a .steps }
 
 -- The answer of planning from any first rows.
 unfoldable pub planFrom : Topology → Layout → List ℕ → ℕ → Answer
-planFrom t F rows = answerAt (improvesAt t F) (nextAt t F) (layoutAt t) (sentAt t F) (sizeOf t) (begun rows)
+planFrom t F rows = answerAt (improvesAt t F) (nextAt t F) (answerLayout t F) (sentAt t F) (sizeOf t) (begun rows)
 
 -- The answer of planning, of the nodes in use, the first P former rows and the allowance alone: the run from the beginning.
 unfoldable pub planOf : Topology → Layout → ℕ → Answer

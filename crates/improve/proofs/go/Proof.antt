@@ -93,7 +93,7 @@ returns c =
     let d =
     run-finished (a .former .now) (a .partitions) (a .mates .now) (a .caps .now) (a .nodes) (a .z) (a .allowance) (a .rows .now) (k .loop .done) (k .loop .rows) (walkIn (k .loop .last .len) (k .loop .y) (k .loop .q)) (k .loop .inv .6 l) (s .step .last .1 .1 .1 .0) (walkIn (s .step .result .len) (s .step .last .0) (s .step .last .1 .0)) l
     (s .step .ensures .3) (s .step .ensures .4) (c .before .if1 .taken) in
-    (d .0, c .verdict .ensures .0 ∙ d .1, c .verdict .ensures .1 ∙ d .2)
+    (d .0, c .verdict .ensures .0 ∙ d .1, c .verdict .ensures .1 ∙ d .2, search needs, s .step .ensures .6, s .step .ensures .7, rw (c .verdict .ensures .2) (s .step .ensures .5))
 
 add-done : tie.Need-add-done Inv-loop μ-loop
 add-done c = let k = c .before .before .before .before .before .before .before .before .before .before .before .before .before .before .before .before .before .before .before .before .before .before in omega (arith, k .loop .inv .11, c .before .before .before .before .before .before .before .before .before .before .before .before .before .before .before .before .before .before .before .before .before .loop-test .taken)
@@ -149,7 +149,7 @@ returns-2 : tie.Need-returns-2 Inv-loop μ-loop
 returns-2 c =
     let k = c .before .before in
     let d = k .loop .inv .7 (omega (arith, c .before .loop-test .left)) in
-    (d .0, c .verdict2 .ensures .0 ∙ d .1, c .verdict2 .ensures .1 ∙ d .2)
+    (d .0, c .verdict2 .ensures .0 ∙ d .1, c .verdict2 .ensures .1 ∙ d .2, k .loop .inv .2, k .loop .inv .9, k .loop .inv .10, rw (c .verdict2 .ensures .2) (k .loop .inv .8))
 
 pub go-spec : {M : Type 1} → statement M
 go-spec =

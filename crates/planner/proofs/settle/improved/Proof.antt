@@ -1,20 +1,18 @@
 use borrow.Author.Needs.{needs}
 use native.Mathlib.Omega.{arith}
-use mathlib.Core.Path.{_≡_, sym, ap, _∙_}
+use mathlib.Core.Path.{_≡_, sym, _∙_}
 use lib.ListN.{length}
 use Rattle.sizing.proofs.Reading.{caps-in}
 use Rattle.cells.proofs.Cells.{length-of-map}
 use Rattle.cluster.specs.Terms.{mostNodes, partitions, topology}
 use Rattle.cluster.proofs.Accepting.{partitions-in-range, accepted, few-nodes, nodes-count}
 use Rattle.sizing.specs.ModelSizing.{nodesOf}
-use Rattle.improve.specs.ModelRun.{Ran}
-use Rattle.steps.specs.ModelSteps.{State}
-use Rattle.planner.proofs.Settling.{run-is, dealt-fits}
+use Rattle.planner.proofs.Settling.{dealt-fits, answers}
 use Rattle.planner.proofs.settle.improved.Statement.{statement}
 use Rattle.planner.proofs.settle.improved.Tie as tie
 use Rattle.planner.proofs.settle.improved.Reads as reads
 use Rattle.planner.proofs.settle.improved.Lts as lts
-use Rattle.improve.proofs.run.Reads as run-reads
+use Rattle.ordering.proofs.run.Reads as run-reads
 use Rattle.sizing.proofs.caps.Reads as caps-reads
 use Rattle.sizing.proofs.deal.Reads as deal-reads
 use Rattle.sizing.proofs.mates.Reads as mates-reads
@@ -59,8 +57,8 @@ cast-run c = let s = c .before .before .before .before .before .before .before .
 run-requires : tie.Need-run-requires
 run-requires c κs =
     let s = c .before .before .before .before .before .before .before .before .before .before .before .before .before .before .before in
-    let d = dealt-fits (s .args .c) (s .args .size) (s .args .rows .now) _ (s .pre .0) (s .pre .1) (c .before .before .before .before .before .before .before .before .before .deal .ensures) _ (rows (c .before .before .before .before .before .before .before .before .before .before .before)) in
-    (d .0, d .1, s .pre .2)
+    let d = dealt-fits (s .args .c) (s .pre .0) (s .args .size) (s .args .rows .now) _ (s .pre .4) (c .before .before .before .before .before .before .before .before .before .deal .ensures) _ (rows (c .before .before .before .before .before .before .before .before .before .before .before)) in
+    (d .0, d .1, s .pre .5)
 
 same-length : tie.Need-same-length
 same-length c = search needs
@@ -70,17 +68,14 @@ same-length-2 c = search needs
 
 returns : tie.Need-returns
 returns c =
-    let s = c .before .before .before .before .before .before .before .before .before .before .before .before .before .before .before .before .before .before .before .before in
-    let r = c .before .before .before .before .run .ensures in
-    let q =
-    run-is (s .args .c) (s .args .size) _ _ (s .args .before .now) (s .args .rows .now) _ _ _ _ (s .args .allowance) (s .pre .0)
-    (rows (c .before .before .before .before .before .before .before .before .before .before .before .before .before .before .before .before)) (used s) (s .pre .1) (c .before .before .before .before .before .before .before .before .before .before .before .before .before .before .deal .ensures) (c .before .before .before .before .before .before .before .before .before .before .before .zones .ensures)
-    (c .before .before .before .before .before .before .before .before .before .before .mates .ensures) (c .before .before .before .before .before .before .before .before .before .caps .ensures .0 ∙ caps-in (s .args .c) (s .args .size) (accepted (s .args .c) (s .pre .0) .bits)) in (
-      r .0 ∙ ap (λ (x : Ran State). x .state .rows) q,
-      r .1 ∙ ap (λ (x : Ran State). x .finished) q,
-      r .2 ∙ ap (λ (x : Ran State). x .steps) q,
-      c .before .before .before .before .before .before .before .before .before .caps .ensures .1,
-    )
+    let k = c .before .before .before .before in
+    let m = k .before .before .before .before .before in
+    let s = k .before .before .before .before .before .before .before .before .before .before .before .before .before .before .before .before in
+    let w =
+    answers (s .args .c) (s .pre .0) (s .args .size) _ _ (s .args .before .now) (s .args .rows .now) _ _ _ _ (s .args .allowance) (s .pre .1) (rows (k .before .before .before .before .before .before .before .before .before .before .before .before)) (used s)
+    (s .pre .4) (k .before .before .before .before .before .before .before .before .before .before .deal .ensures) (k .before .before .before .before .before .before .before .zones .ensures) (k .before .before .before .before .before .before .mates .ensures)
+    (m .caps .ensures .0 ∙ caps-in (s .args .c) (s .args .size) (accepted (s .args .c) (s .pre .0) .bits)) (s .pre .2) (s .pre .3) (k .run .result .finished)
+    (k .run .result .improvements) _ (k .run .ensures) in (w .0, w .1, w .2, w .3, m .caps .ensures .1)
 
 pub improved-spec : {M : Type 1} → statement M
 improved-spec =

@@ -2,7 +2,7 @@ use borrow.Author.Needs.{needs}
 use mathlib.Core.Path.{_≡_, _∙_}
 use Rattle.cluster.specs.Terms.{topology, partitions}
 use Rattle.cluster.proofs.Accepting.{partitions-in-range, accepted}
-use Rattle.planner.proofs.Settling.{countable, answer-is, cells-are}
+use Rattle.planner.proofs.Settling.{before-long, countable, settled}
 use Rattle.planner.proofs.settle.settle.Statement.{statement}
 use Rattle.planner.proofs.settle.settle.Tie as tie
 use Rattle.planner.proofs.settle.settle.Reads as reads
@@ -33,7 +33,15 @@ slice-aggregate-improved-2 : tie.Need-slice-aggregate-improved-2
 slice-aggregate-improved-2 c = search needs
 
 improved-requires : tie.Need-improved-requires
-improved-requires c κs = search needs
+improved-requires c κs =
+    let s = c .before .before .before .before .before .before .before .before .before .before in (
+      s .pre .0,
+      s .pre .3,
+      s .pre .4,
+      before-long (s .args .c) (s .pre .0) (s .args .former .now) _ _ (s .pre .2) (rows (c .before .before .before .before .before .before)) (c .before .before .before .before .read-masks .ensures),
+      search needs,
+      s .pre .5,
+    )
 
 slice-aggregate-write-cells : tie.Need-slice-aggregate-write-cells
 slice-aggregate-write-cells c = search needs
@@ -49,9 +57,10 @@ slice-aggregate-sent-2 c = search needs
 
 sent-requires : tie.Need-sent-requires
 sent-requires c κs =
-    let s = c .before .before .before .before .before .before .before .before .before .before .before .before .before .before .before .before .before .before .before .before .before in
-    countable (s .args .c) (s .args .former .now) (s .args .allowance) (s .args .size) _ _ _ (s .pre .0) (s .pre .2) (s .pre .3) (s .pre .4)
-    (rows (c .before .before .before .before .before .before .before .before .before .before .before .before .before .before .before .before .before)) (c .before .before .before .before .before .before .before .before .before .before .before .before .before .before .before .read-masks .ensures) (c .before .before .before .before .before .before .before .before .before .before .improved .ensures .0) (c .before .before .before .before .before .before .before .before .before .before .improved .ensures .3)
+    let i = c .before .before .before .before .before .before .before .before .before .before in
+    let s = i .before .before .before .before .before .before .before .before .before .before .before in
+    countable (s .args .c) (s .pre .0) (s .args .former .now) _ _ (s .pre .2) (rows (i .before .before .before .before .before .before .before)) (i .before .before .before .before .before .read-masks .ensures) (s .args .allowance) (s .args .size)
+    (s .pre .3) (s .pre .4) _ (i .improved .ensures .0) _ (i .improved .ensures .2) (i .improved .ensures .3)
 
 same-length : tie.Need-same-length
 same-length c = search needs
@@ -61,15 +70,15 @@ same-length-2 c = search needs
 
 returns : tie.Need-returns
 returns c =
-    let s = c .before .before .before .before .before .before .before .before .before .before .before .before .before .before .before .before .before .before .before .before .before .before in
-    let i = c .before .before .before .before .before .before .before .before .before .before .before .improved in (
-      answer-is (s .args .c) (s .args .former .now) (s .args .allowance) (s .args .size) _ _ _ (s .pre .0) (s .pre .2) (s .pre .3) (s .pre .4)
-          (rows (c .before .before .before .before .before .before .before .before .before .before .before .before .before .before .before .before .before .before)) (c .before .before .before .before .before .before .before .before .before .before .before .before .before .before .before .before .read-masks .ensures) (c .before .before .before .before .before .before .before .before .before .before .before .improved .ensures .0) (c .before .before .before .before .before .before .before .before .before .before .before .improved .ensures .3)
-          (c .sent .result) (c .sent .ensures) (i .result .finished) (i .ensures .1) (i .result .improvements) (i .ensures .2),
-      c .before .before .before .before .before .write-cells .ensures
-          ∙ cells-are (s .args .c) (s .args .former .now) (s .args .allowance) (s .args .size) _ _ _ (s .pre .0) (s .pre .2) (s .pre .3) (s .pre .4)
-          (rows (c .before .before .before .before .before .before .before .before .before .before .before .before .before .before .before .before .before .before)) (c .before .before .before .before .before .before .before .before .before .before .before .before .before .before .before .before .read-masks .ensures) (c .before .before .before .before .before .before .before .before .before .before .before .improved .ensures .0) (c .before .before .before .before .before .before .before .before .before .before .before .improved .ensures .3) (s .args .assignment .now) (s .pre .1),
-      i .ensures .3,
+    let i = c .before .before .before .before .before .before .before .before .before .before .before in
+    let s = i .before .before .before .before .before .before .before .before .before .before .before in
+    let w =
+    settled (s .args .c) (s .pre .0) (s .args .former .now) _ _ (s .pre .2) (rows (i .before .before .before .before .before .before .before)) (i .before .before .before .before .before .read-masks .ensures) (s .args .allowance) (s .args .size)
+    (s .pre .3) (s .pre .4) _ (i .improved .ensures .0) _ (i .improved .ensures .2) (i .improved .ensures .3) (c .sent .result) (c .sent .ensures)
+    (i .improved .result .improvements) (i .improved .ensures .1) (s .args .assignment .now) (s .pre .1) in (
+      w .0,
+      c .before .before .before .before .before .write-cells .ensures ∙ w .1,
+      i .improved .ensures .4,
     )
 
 pub settle-spec : {M : Type 1} → statement M
