@@ -1,12 +1,13 @@
 //! The method of the proved planner, written plainly and unverified, as quick as we could make it:
-//! dealing, then exchange graphs, levels, cycles and splits. It is what the proved planner's speed
-//! is held to.
+//! dealing, then exchange graphs, levels, cycles and splits, and in the end the first of the nearest
+//! layouts. It is what the proved planner's speed is held to.
 //!
 //! What a turn leaves as it was is not computed again: the exchange graph is kept by parts, and only
 //! those parts are made anew whose rows have changed.
 
 mod arcs;
 mod circuit;
+mod first;
 pub(crate) mod ground;
 mod held;
 mod search;
@@ -15,13 +16,16 @@ use crate::dealing::{caps_at, deal, size, zones};
 use crate::records::{read_masks, Numbers, Refused};
 use crate::{Cluster, Layout};
 use circuit::Circuit;
-use ground::{members, Ground};
+use first::Order;
+use ground::{members, Ground, PARTITIONS};
 use held::Held;
+use search::{Found, Levels};
 
 /// What comes after a turn.
 #[derive(Clone, Copy, Debug, PartialEq, Eq)]
 pub enum Path {
-    /// Each improvement is found by a search. It may come to another of the nearest layouts.
+    /// Each improvement is found by a search. It may come to another of the nearest layouts, and is then
+    /// ordered to the same one.
     Searched,
     /// What is left of a cycle is turned again as long as other rows allow its exchanges at their
     /// costs, and a search is made only where they do not: the proved planner's path.
@@ -35,13 +39,14 @@ pub struct Planned {
     pub rows: Vec<u32>,
 }
 
-/// A run: its rows, and the cycle turned last.
+/// A run: its rows, the cycle turned last, and the levels of the search that found none.
 struct Run {
     size: u32,
     ground: Ground,
     held: Held,
     path: Path,
     last: Option<Circuit>,
+    levels: Option<Levels>,
 }
 
 impl Run {
@@ -59,6 +64,7 @@ impl Run {
             held: Held::none(),
             path,
             last: None,
+            levels: None,
         });
         let Run { ground, held, .. } = &mut *run;
         held.fill(ground, &deal(c, &zone, &caps));
@@ -68,8 +74,13 @@ impl Run {
     /// A cycle that gains, with a partition for each of its arcs.
     fn circuit(&mut self) -> Option<Circuit> {
         let graph = self.held.graph(&self.ground);
-        let walk = search::cycle(&self.ground, &graph)?;
-        Some(Circuit::new(&self.ground, &self.held, &graph, walk))
+        match search::search(&self.ground, &graph) {
+            Found::Cycle(walk) => Some(Circuit::new(&self.ground, &self.held, &graph, walk)),
+            Found::None(levels) => {
+                self.levels = Some(levels);
+                None
+            }
+        }
     }
 
     /// Looks for the next cycle to turn; whether there is one.
@@ -112,6 +123,17 @@ impl Run {
         }
         (allowance, !self.look())
     }
+
+    /// The whole run with so many improvements at most; where it is finished, its rows are those of
+    /// the first of the nearest layouts. How many improvements it took, and whether it is finished.
+    fn go(&mut self, allowance: u32) -> (u32, bool) {
+        let (improvements, finished) = self.improve_all(allowance);
+        if finished {
+            let levels = self.levels.take().expect("the last search found none");
+            Order::new(&self.ground, &mut self.held, &levels).settle();
+        }
+        (improvements, finished)
+    }
 }
 
 /// The former rows as sets of the nodes that are still there.
@@ -126,13 +148,25 @@ fn masks(c: &Cluster, former: &Layout) -> Vec<u32> {
 /// The plan of a cluster; nothing where no layout is valid at size 1.
 pub fn plan(c: &Cluster, former: &Layout, allowance: u32, path: Path) -> Option<Planned> {
     let mut run = Run::begin(c, &masks(c, former), path)?;
-    let (improvements, finished) = run.improve_all(allowance);
+    let (improvements, finished) = run.go(allowance);
     Some(Planned {
         size: run.size,
         finished,
         improvements,
         rows: run.held.rows[..c.partitions()].to_vec(),
     })
+}
+
+/// The layout of a run that goes to its end from another beginning, a layout valid at the size.
+pub fn finished_from(c: &Cluster, former: &Layout, beginning: &Layout) -> Layout {
+    let run = Run::begin(c, &masks(c, former), Path::Repeated);
+    let mut run = run.expect("a layout exists");
+    let mut rows = [0; PARTITIONS];
+    rows[..c.partitions()].copy_from_slice(&masks(c, beginning));
+    run.held = Held::none();
+    run.held.fill(&run.ground, &rows);
+    run.go(u32::MAX);
+    layout(c, &run.held.rows[..c.partitions()])
 }
 
 /// The plan of a cluster record, as the C function gives it: its numbers, and its rows in 2,048
@@ -146,7 +180,7 @@ pub fn plan_record(
     let (c, former) = read_masks(record)?;
     let partitions = c.partitions();
     let mut run = Run::begin(&c, &former[..partitions], path).ok_or((9, 0))?;
-    let (improvements, finished) = run.improve_all(allowance);
+    let (improvements, finished) = run.go(allowance);
     let rows = &run.held.rows[..partitions];
     let pairs = rows.iter().zip(&former);
     let sent = pairs.map(|(row, old)| (row & !old).count_ones()).sum();

@@ -9,6 +9,7 @@ pub mod listing;
 pub mod random;
 pub mod records;
 pub mod report;
+pub mod tied;
 
 /// One storage box.
 #[derive(Clone, Copy, Debug, PartialEq, Eq)]

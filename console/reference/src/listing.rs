@@ -1,4 +1,5 @@
-//! The size of a small cluster, and the layouts valid at it, by listing all its layouts.
+//! The size of a small cluster, the layouts valid at it and the first of the nearest, by listing all its
+//! layouts.
 
 use crate::{distance, sent, Cluster, Layout};
 
@@ -9,6 +10,28 @@ pub struct Listed {
     pub least_sent: usize,
     pub least_distance: usize,
     pub layouts: usize,
+    /// How many of them send the fewest copies.
+    pub nearest: usize,
+    /// The first of those: rows compared from partition 0, ids from the left, the smaller first.
+    pub first: Layout,
+}
+
+impl Listed {
+    /// One layout more, valid at the size.
+    fn add(&mut self, layout: &Layout, former: &Layout) {
+        self.layouts += 1;
+        self.least_distance = self.least_distance.min(distance(layout, former));
+        let copies = sent(layout, former);
+        if copies < self.least_sent {
+            (self.least_sent, self.nearest) = (copies, 0);
+        }
+        if copies == self.least_sent {
+            if self.nearest == 0 || *layout < self.first {
+                self.first.clone_from(layout);
+            }
+            self.nearest += 1;
+        }
+    }
 }
 
 /// All rows of the cluster: R different nodes in at least Z zones, as node indices.
@@ -79,8 +102,8 @@ pub fn each_valid(c: &Cluster, size: u64, mut f: impl FnMut(&Layout)) {
     });
 }
 
-/// The size of the cluster, and the fewest copies sent and the least distance of a layout valid at
-/// it.
+/// The size of the cluster, the fewest copies sent and the least distance of a layout valid at it, and
+/// the first of those that send so few.
 pub fn list(c: &Cluster, former: &Layout) -> Option<Listed> {
     let rows = rows(c);
     let mut size = 0;
@@ -95,11 +118,9 @@ pub fn list(c: &Cluster, former: &Layout) -> Option<Listed> {
         least_sent: usize::MAX,
         least_distance: usize::MAX,
         layouts: 0,
+        nearest: 0,
+        first: Layout::new(),
     };
-    each_valid(c, size, |layout| {
-        found.layouts += 1;
-        found.least_sent = found.least_sent.min(sent(layout, former));
-        found.least_distance = found.least_distance.min(distance(layout, former));
-    });
+    each_valid(c, size, |layout| found.add(layout, former));
     Some(found)
 }

@@ -58,8 +58,8 @@ fn is_nearest(c: &Cluster, former: &Layout, listed: &Listed, size: u64, layout: 
     );
 }
 
-/// The method of exchanges comes to one of the nearest layouts on either path, and from the record
-/// to the same as from the cluster.
+/// The method of exchanges comes to the first of the nearest layouts on either path, and from the
+/// record to the same as from the cluster.
 fn exchanges_agree(c: &Cluster, former: &Layout, listed: Option<&Listed>) {
     let record = cluster_record(c, former);
     for path in [Path::Searched, Path::Repeated] {
@@ -73,6 +73,7 @@ fn exchanges_agree(c: &Cluster, former: &Layout, listed: Option<&Listed>) {
         };
         let layout = exchanges::layout(c, &planned.rows);
         is_nearest(c, former, listed, planned.size.into(), &layout);
+        assert_eq!(layout, listed.first, "{c:?} {former:?}");
         assert!(planned.finished);
         let numbers = by_record.expect("a layout exists");
         assert_eq!(numbers.size, planned.size);

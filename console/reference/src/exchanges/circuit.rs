@@ -9,8 +9,8 @@ use super::search::Walk;
 /// partitions.
 #[derive(Clone, Copy)]
 pub struct Circuit {
-    walk: Walk,
-    partitions: [u16; NODES],
+    pub walk: Walk,
+    pub partitions: [u16; NODES],
 }
 
 impl Circuit {
@@ -30,7 +30,7 @@ impl Circuit {
     }
 
     /// The nodes that arc i goes from and to.
-    fn arc(&self, i: usize) -> (usize, usize) {
+    pub fn arc(&self, i: usize) -> (usize, usize) {
         let nodes = &self.walk.nodes;
         (nodes[i + 1] as usize % NODES, nodes[i] as usize % NODES)
     }

@@ -109,4 +109,14 @@ impl Ground {
             free & (self.mates[a] | !zones.nodes)
         }
     }
+
+    /// The nodes of the row that may give way to node b, which it lacks.
+    pub fn sources(&self, row: u32, zones: Zones, b: usize) -> u32 {
+        if zones.spare || !has(zones.nodes, b) {
+            return row;
+        }
+        let in_company = |a: &usize| self.mates[*a] & row & !(1 << a) != 0;
+        let others = members(row & !self.mates[b]).filter(in_company);
+        others.fold(row & self.mates[b], |all, a| all | 1 << a)
+    }
 }

@@ -56,9 +56,19 @@ impl Held {
         graph
     }
 
+    /// The nodes that may take the place of node a in the row of p.
+    pub fn targets(&self, g: &Ground, p: usize, a: usize) -> u32 {
+        g.targets(self.rows[p], self.zones[p], a)
+    }
+
+    /// The nodes that may give way to node b in the row of p.
+    pub fn sources(&self, g: &Ground, p: usize, b: usize) -> u32 {
+        g.sources(self.rows[p], self.zones[p], b)
+    }
+
     /// Whether the row of p allows node u to give way to node v.
     pub fn allows(&self, g: &Ground, p: usize, u: usize, v: usize) -> bool {
-        has(g.targets(self.rows[p], self.zones[p], u), v)
+        has(self.targets(g, p, u), v)
     }
 
     /// The first partition, from one on, in which u can give way to v at the weight; the number of

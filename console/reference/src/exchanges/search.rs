@@ -2,6 +2,7 @@
 
 use super::arcs::Graph;
 use super::ground::{has, members, Ground, NODES};
+use std::ops::RangeInclusive;
 
 /// The nodes of a cycle and the first one again: arc i goes from node i + 1 to node i.
 #[derive(Clone, Copy)]
@@ -13,6 +14,31 @@ pub struct Walk {
 /// Sets of nodes by distance. All nodes begin at the distance N + 1, and fall by 1 at most on each
 /// level, so that none comes below 2.
 type ByDistance = [u32; NODES + 3];
+
+/// Where the nodes stand in the end: no arc leads further down than its weight.
+pub struct Levels {
+    at_most: ByDistance,
+}
+
+impl Levels {
+    /// The distances at which nodes can stand.
+    pub fn range(g: &Ground) -> RangeInclusive<usize> {
+        2..=g.nodes + 1
+    }
+
+    /// The nodes at a distance.
+    pub fn at(&self, distance: usize) -> u32 {
+        self.at_most[distance] & !self.at_most[distance - 1]
+    }
+}
+
+/// What a search comes to.
+pub enum Found {
+    /// A simple negative cycle.
+    Cycle(Walk),
+    /// There is none.
+    None(Levels),
+}
 
 struct Search<'a> {
     graph: &'a Graph,
@@ -28,8 +54,8 @@ struct Search<'a> {
     way: [u32; NODES],
 }
 
-/// A simple negative cycle; nothing where there is none.
-pub fn cycle(g: &Ground, graph: &Graph) -> Option<Walk> {
+/// Searches the graph for a negative cycle.
+pub fn search(g: &Ground, graph: &Graph) -> Found {
     let begin = g.nodes + 1;
     let mut search = Search {
         graph,
@@ -43,13 +69,15 @@ pub fn cycle(g: &Ground, graph: &Graph) -> Option<Walk> {
     for level in 0..g.nodes {
         let fell = search.descend(g, level);
         if fell == 0 {
-            return None;
+            break;
         }
         if let Some(v) = search.close(level, fell) {
-            return Some(search.walk_back(level, v));
+            return Found::Cycle(search.walk_back(level, v));
         }
     }
-    None
+    Found::None(Levels {
+        at_most: search.at_most,
+    })
 }
 
 impl Search<'_> {
