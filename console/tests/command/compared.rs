@@ -33,8 +33,9 @@ fn a_layout_is_compared_with_itself() {
     assert!(done.out.contains(told), "{}", done.out);
 }
 
-/// The copies of each box before and after are those of the two plans, and a nearest plan sends no
-/// more than box 6 must get; 192 * 19,531 MB are 3,749 GB, 154 * 18,262 MB are 2,812 GB.
+/// The copies of each box before and after are those of the two plans. Box 6 gets 192 and box 3 six,
+/// which it gives up in other rows; 192 * 19,531 MB are 3,749 GB, 6 * 19,531 MB are 117 GB, 19 * 18,262
+/// MB are 346 GB, 154 * 18,262 MB are 2,812 GB.
 #[test]
 fn the_sample_is_compared_with_its_next_layout() {
     let folder = planned_home("compared-home");

@@ -51,9 +51,44 @@ fn the_first_plan_of_the_sample() {
     assert_eq!(folder.read("last").len(), 29 + 256 * (5 + 4 * 3));
 }
 
+/// The rows of a layout that was written: each followed by the number of the first partition after those
+/// that have it.
+fn row_groups(record: &[u8]) -> Vec<(Vec<u32>, usize)> {
+    let layout = dezghuri::Plan::from_record(record)
+        .expect("a layout")
+        .layout;
+    let mut groups: Vec<(Vec<u32>, usize)> = Vec::new();
+    for ((_, row), end) in layout.rows().zip(1..) {
+        match groups.last_mut() {
+            Some(last) if last.0 == row => last.1 = end,
+            _ => groups.push((row.to_vec(), end)),
+        }
+    }
+    groups
+}
+
+/// Any three boxes are in two zones or more, so all that counts is how many copies each still takes: no
+/// more than there are rows left, and one that takes as many is in all of them. Boxes 1 to 5 take 205,
+/// 102, 205, 102 and 154. Rows 1 2 3 can be had 102 times: then box 2 is full, and box 5 takes as many as
+/// there are rows left, 154. Rows 1 3 5 can be had until box 4 takes as many as are left: it takes 102,
+/// so 52 times. Boxes 1 and 3 then take 51 each, and box 1 comes first.
+#[test]
+fn the_first_plan_of_the_sample_has_the_first_rows() {
+    let rows = row_groups(&planned_home("first-rows").read("last"));
+    let known = [
+        (vec![1, 2, 3], 102),
+        (vec![1, 3, 5], 154),
+        (vec![1, 4, 5], 205),
+        (vec![3, 4, 5], 256),
+    ];
+    assert_eq!(rows, known);
+}
+
 /// At 19,531 MB the disks take 192 + 96 + 192 + 96 + 192 = 768 copies, 3,749,952 of 3,750,000 MB at
-/// boxes 1, 3 and 6. All 192 of box 6 are new to it, and the others hold more than they may, so no plan
-/// sends fewer than 192.
+/// boxes 1, 3 and 6. All 192 of box 6 are new to it. The 154 rows that box 5 was in have two copies
+/// left; 102 of them have one in box 4, which may hold 96, so six of these get two copies: 160 in all.
+/// Box 6 gets at most one in each of the 154, so 38 or more in the other rows: no plan sends fewer than
+/// 198.
 #[test]
 fn a_plan_after_a_box_was_replaced() {
     let folder = planned_home("next");
@@ -63,6 +98,29 @@ fn a_plan_after_a_box_was_replaced() {
     let shown = folder.call("show next.txt next");
     assert_eq!((shown.status, shown.err.as_str()), (0, ""));
     assert_eq!(shown.out, include_str!("show.txt"));
+}
+
+/// A plan that sends 198 copies leaves the rows as they were but for these: box 6 is in all that box 5 was
+/// in, in six of those box 4 gives way to another box, and in 38 of the rows 1 2 3 one box gives way to
+/// box 6. In the first such plan these are the last 38. Boxes 1, 2 and 3 hold 13, 6 and 13 more than they
+/// may, and one more for each copy that they get for box 4. Since 1 2 6 comes before 1 3 6, and that before
+/// 2 3 6, box 3 gives up most: it gets all six, and gives up 19. It gets them in the first rows that were
+/// 1 4 5, since 1 3 6 comes before 1 4 6.
+#[test]
+fn the_plan_after_a_box_was_replaced_has_the_first_rows() {
+    let folder = planned_home("next-rows");
+    let done = folder.call("plan next.txt --former last --out next");
+    assert_eq!((done.status, done.err.as_str()), (0, ""));
+    let known = [
+        (vec![1, 2, 3], 102 - 38),
+        (vec![1, 2, 6], 102 - 38 + 19),
+        (vec![1, 3, 6], 102 - 38 + 19 + 6),
+        (vec![2, 3, 6], 102),
+        (vec![1, 3, 6], 154 + 6),
+        (vec![1, 4, 6], 205),
+        (vec![3, 4, 6], 256),
+    ];
+    assert_eq!(row_groups(&folder.read("next")), known);
 }
 
 /// The README's sample is that plan, under other names.

@@ -50,8 +50,8 @@ fn a_plan_after_a_loss_is_an_object() {
     let object = read(&done.out);
     assert_eq!(object.get("rows").list().len(), 256);
     assert_eq!(object.get("gone").line(), r#"[{"copies":154,"id":5}]"#);
-    assert_eq!(object.get("sent").line(), "192");
-    assert_eq!(object.get("sent_mb").line(), "3749952");
+    assert_eq!(object.get("sent").line(), "198");
+    assert_eq!(object.get("sent_mb").line(), "3867138");
     assert_eq!(object.get("out"), &Value::Null);
     let small = "copies 1\nzones 1\nbits 1\nbox 1 a 9\nbox 2 a 9\n";
     folder.write("small.txt", small);

@@ -274,7 +274,7 @@ fn bars_and_map_agree_with_the_tables() {
     bars_add_up(&page, &BTreeMap::from(capacities), tb(4));
     map_agrees_with_table(&page);
     let told = "3 copies of everything, in at least 2 zones. Each partition may grow to 19,531 MB: \
-                4,999 GB in all. 192 copies (up to 3,749 GB) have to be sent, 38 dropped. No layout \
+                4,999 GB in all. 198 copies (up to 3,867 GB) have to be sent, 44 dropped. No layout \
                 of this size needs fewer.";
     assert_eq!(lead(&page), told);
 }

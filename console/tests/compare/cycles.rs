@@ -50,6 +50,7 @@ fn a_cycle_is_split_where_its_exchanges_would_spoil_a_row() {
     }
     let planned = lent::plan(&record, 2048, r).expect("a layout exists");
     assert_eq!(planned.sent as usize, listed.least_sent);
+    assert_eq!(planned.layout, listed.first);
 }
 
 /// A chain through 30 of 32 nodes, each step of which takes six arcs in the report's graph.

@@ -1,19 +1,23 @@
-//! Demands 2 and 3 at allowances 0, 1, 2 and on: against a listing of all layouts where there are
-//! few, against the report's method where there are many.
+//! Demands 2 and 3 at allowances 0, 1, 2 and on, with the first of the nearest layouts wherever a run
+//! is finished: against a listing of all layouts where there are few, against the report's method where
+//! there are many.
 
-use crate::clusters::{self, Kind, MEDIUM, SMALL};
+use crate::clusters::{self, MEDIUM, SMALL};
 use crate::lent::{self, Planned};
 use crate::{soak_factor, soak_seed};
 use reference::cells::cells_of;
 use reference::random::Random;
 use reference::records::cluster_record;
-use reference::{distance, is_valid, listing, report, sent, Cluster, Layout};
+use reference::{distance, exchanges, is_valid, listing, report, sent, tied, Cluster, Layout};
 
 /// What is known of a cluster and a former layout from elsewhere.
 struct Known {
     size: u64,
     least_sent: usize,
     least_distance: usize,
+    first: Layout,
+    /// Whether other layouts than the first are as near.
+    is_tied: bool,
 }
 
 /// A cluster with its former layout, and what is known of them.
@@ -75,7 +79,7 @@ impl Case<'_> {
 
     /// Plans, and checks what holds at every allowance: the layout is valid at the cluster's size
     /// and at no larger one, sends as many copies as named, and is one of those that send the fewest,
-    /// which are the nearest, just when it is finished.
+    /// which are the nearest, just when it is finished; it is then the first of them.
     fn answer(&self, allowance: u16, r: &mut Random) -> Planned {
         let planned = lent::plan(&self.record, allowance, r).expect("a layout exists");
         let (size, copies) = (u64::from(planned.size), planned.sent as usize);
@@ -85,6 +89,9 @@ impl Case<'_> {
         assert_eq!(copies == self.known.least_sent, planned.finished);
         let far = distance(&planned.layout, self.former);
         assert_eq!(far == self.known.least_distance, planned.finished);
+        if planned.finished {
+            assert_eq!(planned.layout, self.known.first, "allowance {allowance}");
+        }
         let cells = cells_of(&planned.layout);
         assert_eq!(
             lent::check(&self.record, &cells, planned.size, r),
@@ -96,12 +103,18 @@ impl Case<'_> {
         planned
     }
 
-    /// At allowance 0 the layout sends as many copies as the beginning, which another former layout
-    /// has too.
+    /// At allowance 0 the layout sends as many copies as the beginning, which all former layouts have
+    /// alike; it is the beginning itself where the run is stopped.
     fn begins_alike(&self, other: &Layout, first: &Planned, r: &mut Random) {
-        let beginning = lent::plan(&cluster_record(self.c, other), 0, r).expect("a layout exists");
-        let expected = sent(&beginning.layout, self.former);
-        assert_eq!(first.sent as usize, expected, "another beginning");
+        let mut at_0 = |former| lent::plan(&cluster_record(self.c, former), 0, r);
+        // With a former layout that is valid a run is finished at once only where it begins with it.
+        let beginning = at_0(&self.known.first).expect("a layout exists").layout;
+        let elsewhere = at_0(other).expect("a layout exists");
+        for (planned, former) in [(first, self.former), (&elsewhere, other)] {
+            let expected = sent(&beginning, former);
+            assert_eq!(planned.sent as usize, expected, "another beginning");
+            assert!(planned.finished || planned.layout == beginning);
+        }
     }
 }
 
@@ -123,27 +136,37 @@ impl Drop for ToldOnFailure<'_> {
     }
 }
 
-/// Tries so many of the clusters that are suited; what is known of each comes from `know`.
+/// A cluster, a former layout and another one.
+type Drawn = (Cluster, Layout, Layout);
+
+/// How many clusters were tried, and how many of them have a layout, improve, and have several nearest
+/// layouts.
+#[derive(Default)]
+struct Counts {
+    tried: u64,
+    planned: u64,
+    improved: u64,
+    tied: u64,
+}
+
+/// Tries so many clusters; what is known of each comes from `know`.
 fn try_clusters(
     seed: u64,
     cases: u64,
-    kind: Kind,
-    suited: impl Fn(&Cluster) -> bool,
+    draw: impl Fn(&mut Random) -> Drawn,
     know: impl Fn(&Cluster, &Layout) -> Option<Known>,
-) {
+) -> Counts {
     let mut r = Random::new(seed);
-    let (mut tried, mut planned, mut improved) = (0, 0, 0);
-    while tried < cases {
-        let (c, former, other) = clusters::case(kind, &mut r);
-        if !suited(&c) {
-            continue;
-        }
-        tried += 1;
+    let mut counts = Counts::default();
+    while counts.tried < cases {
+        let (c, former, other) = draw(&mut r);
+        counts.tried += 1;
         let _told = ToldOnFailure(&c, &former);
         match know(&c, &former) {
             None => refuses_all(&c, &former, &mut r),
             Some(known) => {
-                planned += 1;
+                counts.planned += 1;
+                counts.tied += u64::from(known.is_tied);
                 let record = cluster_record(&c, &former);
                 let case = Case {
                     c: &c,
@@ -151,42 +174,83 @@ fn try_clusters(
                     record,
                     known,
                 };
-                improved += u64::from(case.keeps_the_rules(&other, &mut r));
+                counts.improved += u64::from(case.keeps_the_rules(&other, &mut r));
             }
         }
     }
-    assert!(planned * 2 > tried, "too few of the clusters have a layout");
-    assert!(improved * 4 > planned, "too few of the layouts improve");
+    assert!(
+        counts.planned * 2 > counts.tried,
+        "too few of the clusters have a layout"
+    );
+    counts
+}
+
+/// What the listing of all layouts tells.
+fn listed(c: &Cluster, former: &Layout) -> Option<Known> {
+    listing::list(c, former).map(|listed| Known {
+        size: listed.size,
+        least_sent: listed.least_sent,
+        least_distance: listed.least_distance,
+        first: listed.first,
+        is_tied: listed.nearest > 1,
+    })
+}
+
+/// What the report's method tells, and of the first layout the plain program, from where that ends.
+fn by_report(c: &Cluster, former: &Layout) -> Option<Known> {
+    report::plan(c, former).map(|planned| {
+        let first = exchanges::finished_from(c, former, &planned.layout);
+        Known {
+            size: planned.size,
+            least_sent: sent(&planned.layout, former),
+            least_distance: distance(&planned.layout, former),
+            is_tied: first != planned.layout,
+            first,
+        }
+    })
 }
 
 /// Small clusters, against a listing of all their layouts.
 fn try_small(seed: u64, cases: u64) {
-    let few_layouts = |c: &Cluster| listing::effort(c) <= 10_000;
-    let listed = |c: &Cluster, former: &Layout| {
-        listing::list(c, former).map(|listed| Known {
-            size: listed.size,
-            least_sent: listed.least_sent,
-            least_distance: listed.least_distance,
-        })
+    let draw = |r: &mut Random| loop {
+        let drawn = clusters::case(SMALL, r);
+        if listing::effort(&drawn.0) <= 10_000 {
+            return drawn;
+        }
     };
-    try_clusters(seed, cases, SMALL, few_layouts, listed);
+    let counts = try_clusters(seed, cases, draw, listed);
+    let enough = counts.improved * 4 > counts.planned;
+    assert!(enough, "too few of the layouts improve");
+}
+
+/// Small clusters with several nearest layouts, against a listing of all.
+fn try_tied(seed: u64, cases: u64) {
+    let draw = |r: &mut Random| {
+        let (c, former) = tied::case(r);
+        let other = clusters::former(&c, r);
+        (c, former, other)
+    };
+    let counts = try_clusters(seed, cases, draw, listed);
+    let enough = counts.tied * 2 > counts.planned;
+    assert!(enough, "too few have several nearest layouts");
 }
 
 /// Larger clusters, against the report's method.
 fn try_larger(seed: u64, cases: u64) {
-    let by_report = |c: &Cluster, former: &Layout| {
-        report::plan(c, former).map(|planned| Known {
-            size: planned.size,
-            least_sent: sent(&planned.layout, former),
-            least_distance: distance(&planned.layout, former),
-        })
-    };
-    try_clusters(seed, cases, MEDIUM, |_| true, by_report);
+    let draw = |r: &mut Random| clusters::case(MEDIUM, r);
+    let counts = try_clusters(seed, cases, draw, by_report);
+    let enough = counts.improved * 4 > counts.planned && counts.tied * 4 > counts.planned;
+    assert!(enough, "too few of the layouts improve or are ordered");
 }
 
 #[test]
 fn small_clusters_against_all_their_layouts() {
     try_small(11, 20_000);
+}
+
+#[test]
+fn tied_clusters_against_all_their_layouts() {
+    try_tied(15, 20_000);
 }
 
 #[test]
@@ -198,6 +262,12 @@ fn larger_clusters_against_the_reports_method() {
 #[ignore = "make soak"]
 fn soak_small_clusters() {
     try_small(soak_seed(13), 20_000 * soak_factor());
+}
+
+#[test]
+#[ignore = "make soak"]
+fn soak_tied_clusters() {
+    try_tied(soak_seed(16), 20_000 * soak_factor());
 }
 
 #[test]

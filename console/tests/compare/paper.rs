@@ -1,5 +1,6 @@
 //! The table of examples of document 01, with the copies to be sent as change request 2026-01 has
-//! them, and the size of A as 2026-02 has it; the other examples keep theirs.
+//! them, the size of A as 2026-02 has it, and of several nearest layouts the first, as 2026-03 has it;
+//! the other examples keep theirs.
 
 use crate::lent::{self, Planned};
 use reference::cells::cells_of;
@@ -59,7 +60,7 @@ fn c_d_one_large_box_and_none() {
 }
 
 /// Of E both partitions go from node 2 to node 1. Of F each node takes one, so one of the two goes to
-/// node 2. What a node then drops does not count.
+/// node 2: the second, since node 1 comes first in row 0. What a node then drops does not count.
 #[test]
 fn e_f_size_before_nearness() {
     let e = cluster([1, 1, 1], &[(1, 1, 10), (2, 1, 4)]);
@@ -67,7 +68,9 @@ fn e_f_size_before_nearness() {
     assert_eq!((e.size, e.sent), (5, 2));
     assert_eq!(e.layout, [[1], [1]]);
     let f = cluster([1, 1, 1], &[(1, 1, 10), (2, 1, 10)]);
-    assert_eq!(outcome(&f, &[&[1], &[1]]), Ok((10, 1)));
+    let f = planned(&f, &[&[1], &[1]]).unwrap();
+    assert_eq!((f.size, f.sent), (10, 1));
+    assert_eq!(f.layout, [[1], [2]]);
 }
 
 #[test]
@@ -79,23 +82,25 @@ fn g_sizes_are_whole() {
     assert_eq!(g(8), Ok((2, 4)));
 }
 
-/// Of H the copy went with node 9, so it is sent to node 1. Of I both nodes have a copy, and one of
-/// them keeps it: nothing is sent.
+/// Of H the copy went with node 9, so it is sent to node 1. Of I both nodes have a copy, and the first
+/// of them keeps it: nothing is sent.
 #[test]
 fn h_i_gone_nodes_and_long_former_rows() {
     let h = cluster([0, 1, 1], &[(1, 1, 10)]);
     assert_eq!(outcome(&h, &[&[9]]), Ok((10, 1)));
     let i = cluster([0, 1, 1], &[(1, 1, 5), (2, 1, 5)]);
-    assert_eq!(outcome(&i, &[&[1, 2]]), Ok((5, 0)));
+    let i = planned(&i, &[&[1, 2]]).unwrap();
+    assert_eq!((i.size, i.sent), (5, 0));
+    assert_eq!(i.layout, [[1]]);
 }
 
-/// Of K node 4, in the other zone, has to get a copy; of L the row stays.
+/// Of K node 4, in the other zone, has to get a copy, and of the three nodes that have one the first
+/// two keep it; of L the row stays.
 #[test]
 fn k_l_zones_before_nearness() {
-    assert_eq!(
-        outcome(&cluster([0, 3, 2], &FOUR), &[&[1, 2, 3]]),
-        Ok((1, 1))
-    );
+    let k = planned(&cluster([0, 3, 2], &FOUR), &[&[1, 2, 3]]).unwrap();
+    assert_eq!((k.size, k.sent), (1, 1));
+    assert_eq!(k.layout, [[1, 2, 4]]);
     let l = planned(&cluster([0, 3, 1], &FOUR), &[&[1, 2, 3]]).unwrap();
     assert_eq!((l.size, l.sent), (9, 0));
     assert_eq!(l.layout, [[1, 2, 3]]);

@@ -1,6 +1,6 @@
 //! The plain program of the method beside the proved planner, at any allowance: on the path of the
 //! proved planner it gives the same rows and numbers; where it searches for each improvement, it
-//! comes to another of the nearest layouts.
+//! comes to another of the nearest layouts, and to the same first of them.
 
 use crate::clusters::{self, Kind, LARGE, MEDIUM, SMALL};
 use crate::lent::{self, Planned};
@@ -26,8 +26,9 @@ fn plain(record: &[u8], allowance: u16, path: Path) -> Result<Planned, (u32, u64
     }
 }
 
-/// The path on which each improvement is searched for ends as near, and stops only where it has to.
-fn ends_as_near(c: &Cluster, former: &Layout, allowance: u16, nearest: &Planned) {
+/// The path on which each improvement is searched for ends in the same layout, and stops only where it
+/// has to.
+fn ends_alike(c: &Cluster, former: &Layout, allowance: u16, nearest: &Planned) {
     let record = cluster_record(c, former);
     let stopped = plain(&record, allowance, Path::Searched).expect("a layout exists");
     let ended = plain(&record, u16::MAX, Path::Searched).expect("a layout exists");
@@ -35,6 +36,7 @@ fn ends_as_near(c: &Cluster, former: &Layout, allowance: u16, nearest: &Planned)
         (ended.size, ended.sent, ended.finished),
         (nearest.size, nearest.sent, true)
     );
+    assert_eq!(ended.layout, nearest.layout, "{c:?} {former:?}");
     for planned in [&stopped, &ended] {
         assert!(is_valid(c, &planned.layout, planned.size.into()));
         assert_eq!(sent(&planned.layout, former), planned.sent as usize);
@@ -64,7 +66,7 @@ fn try_paths(seed: u64, cases: u64, kind: Kind) {
         if let Ok(nearest) = plain(&record, u16::MAX, Path::Repeated) {
             planned += 1;
             improved += u64::from(nearest.improvements > 0);
-            ends_as_near(&c, &former, some, &nearest);
+            ends_alike(&c, &former, some, &nearest);
         }
     }
     assert!(improved * 4 > planned, "too few of the layouts improve");

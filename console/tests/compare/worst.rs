@@ -5,7 +5,7 @@ use dezghuri::ffi::LAYOUT_RECORD_BYTES;
 use reference::cells::cells_of;
 use reference::random::Random;
 use reference::records::{cluster_record, read_layout, Numbers};
-use reference::{capacity_for, is_valid, report, sent, Cluster, Layout, Node};
+use reference::{capacity_for, exchanges, is_valid, report, sent, Cluster, Layout, Node};
 use std::time::{Duration, Instant};
 
 /// A call on the largest cluster takes some milliseconds; this is far beyond.
@@ -63,6 +63,8 @@ fn ends(c: &Cluster, former: &Layout) {
     assert!(planned.finished && planned.improvements <= 2048);
     assert_eq!(planned.sent as usize, sent(&known.layout, former));
     assert_eq!(planned.sent as usize, sent(&planned.layout, former));
+    let first = exchanges::finished_from(c, former, &known.layout);
+    assert_eq!(planned.layout, first, "from where the report's method ends");
 }
 
 #[test]
@@ -80,19 +82,28 @@ fn the_largest_clusters_end() {
                 &largest(redundancy, zones, |b| u32::MAX - b),
                 &drawn(&mut r),
             );
+            ends(
+                &largest(redundancy, zones, |b| 5000 + 97 * b),
+                &vec![Vec::new(); 256],
+            );
         }
     }
 }
 
 /// All 2,048 copies are sent where there were none before, and where all former ones went with their
-/// nodes; a layout record takes that number.
+/// nodes; a layout record takes that number. All layouts are then nearest. In the first of them 64 rows
+/// have nodes 1 to 8, one of each zone, until these have all copies that they take; then come 64 rows
+/// of nodes 9 to 16, and so on.
 #[test]
 fn the_most_copies_are_sent_and_written() {
     let r = &mut Random::new(1);
     let c = largest(8, 8, just_enough);
+    let eight = |p: u32| (p / 64 * 8 + 1..=p / 64 * 8 + 8).collect();
+    let first: Layout = (0..256).map(eight).collect();
     for former in [vec![Vec::new(); 256], vec![(33..=40).collect(); 256]] {
         let planned = lent::plan(&cluster_record(&c, &former), 0, r).expect("a layout exists");
         assert_eq!((planned.sent, planned.finished), (2048, true));
+        assert_eq!(planned.layout, first);
         let numbers = Numbers {
             bits: 8,
             replication: 8,
