@@ -4,7 +4,8 @@
 //! All plan the same clusters in turn in one run, each from the bytes of the cluster's record, and
 //! have to send the same number of copies. "proved" is the planner through its C function. "plain" is
 //! the same method in `console/reference`, with all that makes it quick; it turns a cycle again as
-//! long as rows allow it, and "search" is the same program with a search for each improvement.
+//! long as rows allow it, and "search" is the same program with a search for each improvement. These
+//! three order what they come to: they answer the first of the nearest layouts, the others any.
 //! "report's" is the report's method as document 000 has it, with 4N + 1 rounds in every search for
 //! cycles, and "stopping" ends each search at the first round that shows a cycle or lowers nothing,
 //! which the report does not. A line is the median of several clusters of its kind, each column by
@@ -16,7 +17,13 @@
 //! interrupted; its time is what a call takes of the processor, as the system counts it, or by the
 //! clock where the system does not tell.
 //!
+//! What the ordering adds is seen beside a run that is stopped one improvement short of its end, and so
+//! orders nothing: run and ordering together are to take no more than twice as long, at the median of
+//! every kind. Without former copies all layouts are nearest, and there is little to a plan but its
+//! order: it is to take no more than 3 ms.
+//!
 //!     cargo bench --bench plan                     all tables (`make bench`)
+//!     cargo bench --bench plan -- ordering         the tables of what the ordering adds
 //!     cargo bench --bench plan -- proved           the proved planner's times alone
 //!     cargo bench --bench plan -- once worst       one call of proved, plain and search, to be counted
 //!
@@ -75,9 +82,10 @@ fn main() {
     let words: Vec<&str> = words.filter(|word| *word != "--bench").collect();
     match words[..] {
         [] => all_tables(),
+        ["ordering"] => ordering_tables(),
         ["proved"] => proved_alone(),
         ["once", name] => once(name),
-        _ => panic!("proved, once KIND, or nothing"),
+        _ => panic!("ordering, proved, once KIND, or nothing"),
     }
 }
 
@@ -109,6 +117,8 @@ fn all_tables() {
             by_lot(bits, 16, 3, 2, r)
         });
     }
+    println!();
+    ordering_tables();
 }
 
 fn head(name: &str) {
@@ -146,6 +156,101 @@ fn line(name: &str, case: impl Fn(&mut Random) -> Case) {
     );
 }
 
+/// What the ordering adds to a run, and what it takes where there are no former copies.
+fn ordering_tables() {
+    println!("microseconds for a run stopped one improvement short, and for a finished one that is ordered");
+    for (planner, plan) in PLANNERS {
+        let name = format!("{planner} (at most 2.00 times as long at the median)");
+        println!(
+            "{name:<55} {:>7} {:>8} {:>5} {:>6}",
+            "stopped", "finished", "times", "most"
+        );
+        for (name, what, case) in KINDS {
+            added_line(&format!("{name}: {what}"), &drawn(case), plan);
+        }
+        println!();
+    }
+    println!("microseconds for a plan without former copies");
+    println!(
+        "{:<55} {:>7} {:>8} {:>5} {:>6}",
+        "kind (at most 3000)", "proved", "most", "plain", "most"
+    );
+    for (name, what, case) in KINDS {
+        unformed_line(&format!("{name}: {what}"), &drawn(|r| unformed(case(r))));
+    }
+}
+
+/// A planner: the copies that it sends and its improvements, by an allowance.
+type Planner = fn(&mut Lent, &[u8], u16) -> (u32, u32);
+
+const PLANNERS: [(&str, Planner); 2] = [("proved", Lent::proved_plan), ("plain", Lent::plain_plan)];
+
+/// Times the runs of a kind that have an improvement, stopped and finished in turn.
+fn added_line(name: &str, cases: &[Case], plan: Planner) {
+    let mut lent = Lent::new();
+    let records = cases.iter().map(|(c, former)| cluster_record(c, former));
+    let with_allowance = |record: Vec<u8>| {
+        let (_, improvements) = plan(&mut lent, &record, dezghuri::ENOUGH);
+        let short = improvements.checked_sub(1)? as u16;
+        Some((record, short))
+    };
+    let runs: Vec<(Vec<u8>, u16)> = records.filter_map(with_allowance).collect();
+    let calls = [0, 1].map(|finished| {
+        move |lent: &mut Lent, (record, short): &(Vec<u8>, u16)| {
+            plan(lent, record, [*short, dezghuri::ENOUGH][finished]);
+        }
+    });
+    let times = in_turn(&runs, &calls);
+    let times_as_long: Vec<f64> = times.iter().map(|t| t[1] / t[0]).collect();
+    println!(
+        "{name:<55} {:>7.0} {:>8.0} {:>5.2} {:>6.2}",
+        median(times.iter().map(|t| t[0]).collect()),
+        median(times.iter().map(|t| t[1]).collect()),
+        median(times_as_long.clone()),
+        most(times_as_long),
+    );
+}
+
+/// Times both planners on the clusters of a kind.
+fn unformed_line(name: &str, cases: &[Case]) {
+    let records: Vec<Vec<u8>> = cases.iter().map(|(c, f)| cluster_record(c, f)).collect();
+    let calls = PLANNERS.map(|(_, plan)| {
+        move |lent: &mut Lent, record: &Vec<u8>| {
+            plan(lent, record, dezghuri::ENOUGH);
+        }
+    });
+    let times = in_turn(&records, &calls);
+    let column = |i: usize| times.iter().map(|t| t[i]).collect::<Vec<f64>>();
+    println!(
+        "{name:<55} {:>7.0} {:>8.0} {:>5.0} {:>6.0}",
+        median(column(0)),
+        most(column(0)),
+        median(column(1)),
+        most(column(1)),
+    );
+}
+
+/// For each of the runs the median of the times of two calls, which are made in turn, each on one run
+/// after the other.
+fn in_turn<T>(runs: &[T], calls: &[impl Fn(&mut Lent, &T); 2]) -> Vec<[f64; 2]> {
+    let mut lent = Lent::new();
+    let mut times: Vec<[Vec<f64>; 2]> = runs.iter().map(|_| Default::default()).collect();
+    for _ in 0..ROUNDS {
+        for (i, call) in calls.iter().enumerate() {
+            for (run, times) in runs.iter().zip(&mut times) {
+                by_clock(&mut times[i], || call(&mut lent, run));
+            }
+        }
+    }
+    times.into_iter().map(|times| times.map(median)).collect()
+}
+
+/// The cluster with nothing before.
+fn unformed((c, mut former): Case) -> Case {
+    former.iter_mut().for_each(Vec::clear);
+    (c, former)
+}
+
 /// The clusters of a kind.
 fn drawn(case: impl Fn(&mut Random) -> Case) -> Vec<Case> {
     (1..=CLUSTERS)
@@ -156,6 +261,10 @@ fn drawn(case: impl Fn(&mut Random) -> Case) -> Vec<Case> {
 fn median(mut values: Vec<f64>) -> f64 {
     values.sort_by(f64::total_cmp);
     values[values.len() / 2]
+}
+
+fn most(values: Vec<f64>) -> f64 {
+    values.into_iter().fold(0.0, f64::max)
 }
 
 /// A cluster with its record, and the times of the calls on it by method.
@@ -186,12 +295,16 @@ impl Timed<'_> {
     }
 
     fn call_proved(&mut self, lent: &mut Lent) {
-        self.made = by_clock(&mut self.proved, || lent.proved_plan(&self.record));
+        self.made = by_clock(&mut self.proved, || {
+            lent.proved_plan(&self.record, dezghuri::ENOUGH)
+        });
     }
 
     fn call_plain(&mut self, lent: &mut Lent) {
-        let sent = by_clock(&mut self.plain, || lent.plain_plan(&self.record));
-        assert_eq!(sent, self.made.0);
+        let made = by_clock(&mut self.plain, || {
+            lent.plain_plan(&self.record, dezghuri::ENOUGH)
+        });
+        assert_eq!(made, self.made);
     }
 
     fn call_search(&mut self, lent: &mut Lent) {
@@ -281,24 +394,24 @@ impl Lent {
     }
 
     /// The copies that the proved plan sends, and its improvements.
-    fn proved_plan(&mut self, record: &[u8]) -> (u32, u32) {
+    fn proved_plan(&mut self, record: &[u8], allowance: u16) -> (u32, u32) {
         let mut answer = [0; ffi::PLAN_ANSWER];
         let (cells, scratch) = (&mut self.cells, &mut self.scratch);
-        let refusal = ffi::plan(record, dezghuri::ENOUGH, cells, scratch, &mut answer);
+        let refusal = ffi::plan(record, allowance, cells, scratch, &mut answer);
         assert_eq!(refusal, 0);
         (answer[3], answer[5])
     }
 
-    /// The copies that the plain plan sends. It is not made part of its callers, so that its
-    /// instructions can be counted.
+    /// The copies that the plain plan sends, and its improvements. It is not made part of its callers,
+    /// so that its instructions can be counted.
     #[inline(never)]
-    fn plain_plan(&mut self, record: &[u8]) -> u32 {
-        let allowance = dezghuri::ENOUGH.into();
-        let plan = plan_record(record, allowance, Path::Repeated, &mut self.cells);
-        plan.expect("a layout exists").sent
+    fn plain_plan(&mut self, record: &[u8], allowance: u16) -> (u32, u32) {
+        let plan = plan_record(record, allowance.into(), Path::Repeated, &mut self.cells);
+        let plan = plan.expect("a layout exists");
+        (plan.sent, plan.improvements)
     }
 
-    /// The same with a search for each improvement.
+    /// The copies sent with a search for each improvement.
     #[inline(never)]
     fn search_plan(&mut self, record: &[u8]) -> u32 {
         let allowance = dezghuri::ENOUGH.into();
@@ -336,8 +449,9 @@ fn once(name: &str) {
     let (c, former) = case(&mut Random::new(1));
     let record = cluster_record(&c, &former);
     let mut lent = Lent::new();
-    let (least, improvements) = lent.proved_plan(&record);
-    assert_eq!(lent.plain_plan(&record), least);
+    let (least, improvements) = lent.proved_plan(&record, dezghuri::ENOUGH);
+    let plain = lent.plain_plan(&record, dezghuri::ENOUGH);
+    assert_eq!(plain, (least, improvements));
     assert_eq!(lent.search_plan(&record), least);
     println!("{name}: {what}: {improvements} improvements");
 }
