@@ -34,9 +34,9 @@ extern "C" {
 
 /* The version of this header and its library; the number grows from each version to the next. */
 #define DEZGHURI_VERSION_MAJOR 0
-#define DEZGHURI_VERSION_MINOR 3
+#define DEZGHURI_VERSION_MINOR 4
 #define DEZGHURI_VERSION_PATCH 0
-#define DEZGHURI_VERSION "0.3.0"
+#define DEZGHURI_VERSION "0.4.0"
 #define DEZGHURI_VERSION_NUMBER \
     (DEZGHURI_VERSION_MAJOR * 1000000 + DEZGHURI_VERSION_MINOR * 1000 + DEZGHURI_VERSION_PATCH)
 
@@ -65,7 +65,7 @@ extern "C" {
 
 /* Verdicts. */
 #define DEZGHURI_STOPPED 0  /* the allowance was used up, and a nearer layout exists */
-#define DEZGHURI_FINISHED 1 /* no valid layout of the size lies nearer to the former one */
+#define DEZGHURI_FINISHED 1 /* no valid layout of the size lies nearer, and none as near comes before this one */
 
 /* Refusals. */
 #define DEZGHURI_OK 0
@@ -106,7 +106,9 @@ uint32_t dezghuri_read_layout(const uint8_t *record, size_t record_len,
 
 /* Plans the cluster of the record, whose former rows are in it, with at most `allowance` improvements.
  *
- * assignment, 2,048 cells: takes the layout; kept when refused.
+ * assignment, 2,048 cells: takes the layout; kept when refused. A finished plan is the first of the layouts
+ * that send the fewest copies at the size: rows compared from partition 0, ids from the left, smaller id
+ * first. Which valid layout a stopped plan is, is not laid down.
  * scratch, 16,384 cells: zeroed on success and with 9; kept with any other refusal.
  * answer, 6 cells: 0, 1 the byte of a refused reading (high, low); 2 size, the most megabytes of a partition
  * for which a layout fits the usable capacities; 3 sent, the copies to be sent: pairs of node and partition

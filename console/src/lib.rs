@@ -4,8 +4,9 @@
 //! every partition of its data kept as so many copies, on different nodes and in so many zones at
 //! least. [`Cluster::plan`] answers which nodes hold which partition: first the largest size of a
 //! partition that the disks allow, a sixteenth of each kept free ([`Node::usable`]), then, among
-//! all layouts of that size, one that lies nearest to the former layout: none needs fewer copies to
-//! be sent ([`Plan::sent`]).
+//! all layouts of that size, the first of those that lie nearest to the former layout: none needs
+//! fewer copies to be sent ([`Plan::sent`]), and of those that need as few it comes before all others,
+//! rows compared from partition 0 on and ids from the left, the smaller first.
 //!
 //! Plans, checks, figures and records are the work of the C functions of `include/dezghuri.h`,
 //! whose contracts are proved; this library lends them their buffers and names their answers.

@@ -13,7 +13,8 @@ pub const ENOUGH: u16 = 2048;
 pub enum Verdict {
     /// The allowance was used up, and some valid layout of the size lies nearer to the former one.
     Stopped,
-    /// No valid layout of the size lies nearer to the former one.
+    /// No valid layout of the size lies nearer to the former one, and of those as near this is the
+    /// first: rows compared from partition 0 on, ids from the left, the smaller first.
     Finished,
 }
 
@@ -53,7 +54,8 @@ pub struct Plan {
 }
 
 impl Cluster {
-    /// Plans the cluster with at most so many improvements; [`ENOUGH`] finishes.
+    /// Plans the cluster with at most so many improvements; [`ENOUGH`] finishes. The same cluster, with
+    /// the same former layout, has the same layout at every allowance that finishes.
     ///
     /// # Errors
     ///

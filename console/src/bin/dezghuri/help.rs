@@ -10,7 +10,8 @@ Plans where the copies of a cluster of storage boxes lie.
   dezghuri plan FILE [--former LAST] [--out NEXT] [--allowance N] [--replace]
       plans the cluster that FILE describes, starting from the layout LAST, and
       writes the layout to NEXT; N improvements at most (0 to 65535; without it
-      as many as it takes)
+      as many as it takes: then it is the first layout, by its rows, of those of
+      the largest size that need the fewest transfers)
   dezghuri check FILE LAYOUT
       says whether LAYOUT is valid for the cluster that FILE describes
   dezghuri show FILE LAYOUT [PARTITION | --box ID | --all]
