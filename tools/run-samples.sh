@@ -27,13 +27,9 @@ as_expected() {
     sed "3s/ $number\$/ N/" "$work/printed" | cmp -s - "$1"
 }
 
-# compare NAME: fails unless one of the outputs expected of the record was printed.
+# compare NAME: fails unless the output expected of the record was printed.
 compare() {
-    for expected in "$samples/$1.out" "$samples/$1".[0-9].out; do
-        if [ -f "$expected" ] && as_expected "$expected"; then
-            return
-        fi
-    done
+    as_expected "$samples/$1.out" && return
     cat "$work/printed" >&2
     fail "$1: the above was printed, which is not what is expected"
 }
