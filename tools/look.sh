@@ -89,7 +89,7 @@ thirty_two 2 >$look/thirty-two.txt
 { head_lines 2 1; printf 'box 3 home 1.7T study\nbox 4 shop 1.71T\nbox 5 shop 1.71T\n'; } >$look/lost.txt
 sed 's/^zones 2/zones 4/; s/^copies 3/copies 4/' samples/home.txt >$look/refused.txt
 
-shown home 0 9000 2600 2200
+shown home 0 9000 3000 2600
 shown nineteen 0 11000 3200 2800
 shown thirty-two 0 24000 9000 6000
 shown one 0 8000 2000 1600
