@@ -15,7 +15,7 @@ use Rattle.waves.specs.ModelWaves.{waveCells, Waved}
 use Rattle.ways.specs.ModelWays.{arcFor, Traced}
 use Rattle.exchanging.specs.ModelExchanged.{walkedOf}
 use Rattle.exchanging.proofs.Making.{length-exchanged}
-use Rattle.deciding.specs.ModelDeciding.{Ordered, Refreshed, members}
+use Rattle.deciding.specs.ModelDeciding.{Ordered, Keeps, Goes, Reaches, Refreshed, members}
 use Rattle.deciding.proofs.Attempts.{in-ordered, none-ordered, shut-ordered, stale-ordered, turned-ordered, stale-less, ordered-row}
 
 -- ---- one attempt
@@ -25,30 +25,18 @@ pub walked-long : (P m : ℕ) (y q rows rows′ : List ℕ) → rows′ ≡ walk
 walked-long P m y q rows rows′ e = ap length e ∙ length-exchanged P (λ i. getD y i 0) (λ i. getD q i 0) rows m
 
 module _ (P : ℕ) (former mates caps : List ℕ) (all z : ℕ) (even : List ℕ) (p b : ℕ) where
-  -- The order up to (p, b) becomes that up to (p, next), with other rows and cells.
-  abbrev pub Keeps : List ℕ → List ℕ → ℕ → List ℕ → List ℕ → Type 0
-  Keeps rows leads next rows′ leads′ =
-      (N R : ℕ) (zone cap : ℕ → ℕ) (A : ℕ) (d : ℕ → ℕ) → all ≡ belowOf N → b < N
-      → Ordered P N R z zone cap A former mates caps even d p b rows leads → Ordered P N R z zone cap A former mates caps even d p next rows′ leads′
-
-  -- It does where the row had no b.
-  abbrev pub Goes : List ℕ → List ℕ → ℕ → List ℕ → List ℕ → Type 0
-  Goes rows leads next rows′ leads′ =
-      (N R : ℕ) (zone cap : ℕ → ℕ) (A : ℕ) (d : ℕ → ℕ) → all ≡ belowOf N → b < N → bitsAt rows p b ≡ 0
-      → Ordered P N R z zone cap A former mates caps even d p b rows leads → Ordered P N R z zone cap A former mates caps even d p next rows′ leads′
-
   module _ (goal : ℕ) (rows leads : List ℕ) (in-p : p < P) (is-goal : goal ≡ giversOf mates all z even (getD rows p 0) (getD former p 0) b) where
     -- The goal, as the set of all nodes is told.
     goal-of : (N : ℕ) → all ≡ belowOf N → goal ≡ giversOf mates (belowOf N) z even (getD rows p 0) (getD former p 0) b
     goal-of N e = is-goal ∙ ap (λ (x : ℕ). giversOf mates x z even (getD rows p 0) (getD former p 0) b) e
 
     -- No wave met the goal.
-    pub shut-goes : (r : ℕ) (waves : List ℕ) → Waved leads b goal r waves → waveCells ≤ r → Goes rows leads (suc b) rows leads
+    pub shut-goes : (r : ℕ) (waves : List ℕ) → Waved leads b goal r waves → waveCells ≤ r → Goes P former mates caps all z even p b rows leads (suc b) rows leads
     shut-goes r waves w l N R zone cap A d e in-b out o =
         shut-ordered P N R z zone cap A former mates caps even d p b rows leads o in-p in-b out goal (goal-of N e) r waves w l
 
     -- Nobody could give way; where somebody could, nothing is done yet.
-    pub begin-keeps : bitsAt rows p b ≡ 0 → (again : Bool) → (again ≡ false → goal ≡ 0) → Keeps rows leads (cond again b (suc b)) rows leads
+    pub begin-keeps : bitsAt rows p b ≡ 0 → (again : Bool) → (again ≡ false → goal ≡ 0) → Keeps P former mates caps all z even p b rows leads (cond again b (suc b)) rows leads
     begin-keeps out true h N R zone cap A d e in-b o = o
     begin-keeps out false h N R zone cap A d e in-b o =
         none-ordered P N R z zone cap A former mates caps even d p b rows leads o in-p in-b out goal (goal-of N e) (h refl)
@@ -68,7 +56,7 @@ module _ (P : ℕ) (former mates caps : List ℕ) (all z : ℕ) (even : List ℕ
       -- The cells without it.
       pub stale-goes : r < k → length leads ≡ mostNodes → (leads′ : List ℕ)
           → leads′ ≡ set leads (getD y (r + 1) 0) (withoutOf (getD leads (getD y (r + 1) 0) 0) (getD y r 0))
-          → Goes rows leads b rows leads′ × (members leads′ < members leads)
+          → Goes P former mates caps all z even p b rows leads b rows leads′ × (members leads′ < members leads)
       stale-goes l long leads′ e =
           let n = stale-node l in
           let to : set leads (getD y (suc r) 0) (withoutOf (getD leads (getD y (suc r) 0) 0) (getD y r 0)) ≡ leads′ =
@@ -81,7 +69,7 @@ module _ (P : ℕ) (former mates caps : List ℕ) (all z : ℕ) (even : List ℕ
 
       -- The way was whole, and was turned.
       pub turned-goes : (waves : List ℕ) → Waved leads b goal k waves → k < waveCells → k ≤ r → (rows′ leads′ : List ℕ) → rows′ ≡ walkedOf P (walkIn (k + 1) y q) rows
-          → Refreshed rows′ former P mates all z even y q (k + 1) leads leads′ → Goes rows leads (suc b) rows′ leads′
+          → Refreshed rows′ former P mates all z even y q (k + 1) leads leads′ → Goes P former mates caps all z even p b rows leads (suc b) rows′ leads′
       turned-goes waves w met l rows′ leads′ e f N R zone cap A d g in-b out o =
           let whole : r ≡ k = omega (arith, t .short) in
           let one : k + 1 ≡ suc k = omega arith in
@@ -92,19 +80,19 @@ module _ (P : ℕ) (former mates caps : List ℕ) (all z : ℕ) (even : List ℕ
           (subst (λ (x : ℕ). Refreshed rows′ former P mates x z even y q (k + 1) leads leads′) g f))
 
   -- The row has b.
-  pub in-keeps : (rows leads : List ℕ) → p < P → bitsAt rows p b ≡ 1 → Keeps rows leads (suc b) rows leads
+  pub in-keeps : (rows leads : List ℕ) → p < P → bitsAt rows p b ≡ 1 → Keeps P former mates caps all z even p b rows leads (suc b) rows leads
   in-keeps rows leads in-p has N R zone cap A d e in-b o = in-ordered P N R z zone cap A former mates caps even d p b rows leads o in-p in-b has
 
   -- Another attempt, with the rows as they were.
   pub again-keeps : (rows₀ leads₀ rows leads rows′ leads′ : List ℕ) (again : Bool) (next : ℕ) → again ≡ true → rows ≡ rows₀ → bitsAt rows₀ p b ≡ 0
-      → Keeps rows₀ leads₀ (cond again b (suc b)) rows leads → Goes rows leads next rows′ leads′ → Keeps rows₀ leads₀ next rows′ leads′
+      → Keeps P former mates caps all z even p b rows₀ leads₀ (cond again b (suc b)) rows leads → Goes P former mates caps all z even p b rows leads next rows′ leads′ → Keeps P former mates caps all z even p b rows₀ leads₀ next rows′ leads′
   again-keeps rows₀ leads₀ rows leads rows′ leads′ again next e same out f g N R zone cap A d h in-b o =
       g N R zone cap A d h in-b (ap (λ (x : List ℕ). bitsAt x p b) same ∙ out)
       (subst (λ (x : Bool). Ordered P N R z zone cap A former mates caps even d p (cond x b (suc b)) rows leads) e (f N R zone cap A d h in-b o))
 
   -- The last one is made.
-  pub end-keeps : (rows₀ leads₀ rows leads : List ℕ) (again : Bool) → again ≡ false → Keeps rows₀ leads₀ (cond again b (suc b)) rows leads
-      → Keeps rows₀ leads₀ (suc b) rows leads
+  pub end-keeps : (rows₀ leads₀ rows leads : List ℕ) (again : Bool) → again ≡ false → Keeps P former mates caps all z even p b rows₀ leads₀ (cond again b (suc b)) rows leads
+      → Keeps P former mates caps all z even p b rows₀ leads₀ (suc b) rows leads
   end-keeps rows₀ leads₀ rows leads again e f N R zone cap A d h in-b o =
       subst (λ (x : Bool). Ordered P N R z zone cap A former mates caps even d p (cond x b (suc b)) rows leads) e (f N R zone cap A d h in-b o)
 
@@ -134,21 +122,15 @@ left-less again next leads leads′ e h = subst (λ (x : Bool). left next leads�
 -- ---- pairs and rows
 
 module _ (P : ℕ) (former mates caps : List ℕ) (N z : ℕ) (even : List ℕ) (p₀ b₀ : ℕ) (rows₀ leads₀ : List ℕ) where
-  -- The order up to (p₀, b₀) becomes that up to (p, b), with other rows and cells.
-  abbrev pub Reaches : ℕ → ℕ → List ℕ → List ℕ → Type 0
-  Reaches p b rows leads =
-      (R : ℕ) (zone cap : ℕ → ℕ) (A : ℕ) (d : ℕ → ℕ) → Ordered P N R z zone cap A former mates caps even d p₀ b₀ rows₀ leads₀
-      → Ordered P N R z zone cap A former mates caps even d p b rows leads
-
-  module _ (p b : ℕ) (rows leads : List ℕ) (f : Reaches p b rows leads) where
+  module _ (p b : ℕ) (rows leads : List ℕ) (f : Reaches P former mates caps N z even p₀ b₀ rows₀ leads₀ p b rows leads) where
     -- One pair more.
     pub reaches-pair : (all : ℕ) (rows′ leads′ : List ℕ) → all ≡ belowOf N → b < N → Keeps P former mates caps all z even p b rows leads (suc b) rows′ leads′
-        → Reaches p (b + 1) rows′ leads′
+        → Reaches P former mates caps N z even p₀ b₀ rows₀ leads₀ p (b + 1) rows′ leads′
     reaches-pair all rows′ leads′ e l g R zone cap A d o =
         subst (λ (x : ℕ). Ordered P N R z zone cap A former mates caps even d p x rows′ leads′) (sym (add-one b)) (g N R zone cap A d e l (f R zone cap A d o))
 
     -- The last pair of a row.
-    pub reaches-row : b ≡ N → Reaches (suc p) 0 rows leads
+    pub reaches-row : b ≡ N → Reaches P former mates caps N z even p₀ b₀ rows₀ leads₀ (suc p) 0 rows leads
     reaches-row e R zone cap A d o =
         ordered-row P N R z zone cap A former mates caps even d p rows leads
         (subst (λ (x : ℕ). Ordered P N R z zone cap A former mates caps even d p x rows leads) e (f R zone cap A d o))

@@ -6,7 +6,7 @@ use mathlib.Core.List.{List}
 use lib.ListN.{length, getD}
 use Rattle.sums.specs.TermsSums.{sumTo}
 use Rattle.cluster.specs.Terms.{mostNodes}
-use Rattle.sets.specs.ModelBits.{bit, bitsAt, countOf}
+use Rattle.sets.specs.ModelBits.{bit, bitsAt, belowOf, countOf}
 use Rattle.exchange.specs.ModelRow.{copies}
 use Rattle.exchange.specs.ModelPrices.{Potential}
 use Rattle.ties.specs.ModelOrder.{any, from, Nearest}
@@ -41,6 +41,30 @@ pub record Ordered (P N R Z : ℕ) (zone cap : ℕ → ℕ) (A : ℕ) (former ma
   pub standing : Standing P N R Z zone cap A former mates caps even d rows
   pub covers : Covers P N R Z zone cap (bitsAt former) (from p b) (bitsAt rows) d leads
   pub decided : Decided P N R Z zone cap (bitsAt former) A p b (bitsAt rows)
+
+-- ---- what a step of the ordering does, whatever the caps, zones and weights
+
+module _ (P : ℕ) (former mates caps : List ℕ) (all z : ℕ) (even : List ℕ) (p b : ℕ) where
+  -- The order up to (p, b) becomes that up to (p, next), with other rows and cells.
+  abbrev pub Keeps : List ℕ → List ℕ → ℕ → List ℕ → List ℕ → Type 0
+  Keeps rows leads next rows′ leads′ =
+      (N R : ℕ) (zone cap : ℕ → ℕ) (A : ℕ) (d : ℕ → ℕ) → all ≡ belowOf N → b < N
+      → Ordered P N R z zone cap A former mates caps even d p b rows leads → Ordered P N R z zone cap A former mates caps even d p next rows′ leads′
+
+  -- It does where the row had no b.
+  abbrev pub Goes : List ℕ → List ℕ → ℕ → List ℕ → List ℕ → Type 0
+  Goes rows leads next rows′ leads′ =
+      (N R : ℕ) (zone cap : ℕ → ℕ) (A : ℕ) (d : ℕ → ℕ) → all ≡ belowOf N → b < N → bitsAt rows p b ≡ 0
+      → Ordered P N R z zone cap A former mates caps even d p b rows leads → Ordered P N R z zone cap A former mates caps even d p next rows′ leads′
+
+module _ (P : ℕ) (former mates caps : List ℕ) (N z : ℕ) (even : List ℕ) (p₀ b₀ : ℕ) (rows₀ leads₀ : List ℕ) where
+  -- The order up to (p₀, b₀) becomes that up to (p, b), with other rows and cells.
+  abbrev pub Reaches : ℕ → ℕ → List ℕ → List ℕ → Type 0
+  Reaches p b rows leads =
+      (R : ℕ) (zone cap : ℕ → ℕ) (A : ℕ) (d : ℕ → ℕ) → Ordered P N R z zone cap A former mates caps even d p₀ b₀ rows₀ leads₀
+      → Ordered P N R z zone cap A former mates caps even d p b rows leads
+
+-- ---- what leads
 
 -- How many members the cells have together.
 unfoldable pub members : List ℕ → ℕ

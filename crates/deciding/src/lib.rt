@@ -3,15 +3,14 @@
 // store; a member that turns out to be nowhere is taken off when a way needs it.
 ghost use mathlib.Core.Path.{_≡_};
 ghost use mathlib.Core.Bool.{true, cond};
-ghost use Prim.Native.Nat.{ℕ, suc, _≤_, _<_};
+ghost use Prim.Native.Nat.{suc, _≤_, _<_};
 ghost use lib.ListN.{length, getD};
 ghost use Rattle.cluster.specs.Terms.{mostNodes, bufferRows};
 ghost use Rattle.levels.specs.ModelGraph.{arcCells};
-ghost use Rattle.sets.specs.ModelBits.{bitsAt, belowOf};
 ghost use Rattle.swaps.specs.ModelSwaps.{Tight};
 ghost use Rattle.holders.specs.ModelHolders.{Held};
 ghost use Rattle.evens.specs.ModelEvens.{giversOf};
-ghost use Rattle.deciding.specs.ModelDeciding.{Ordered, Refreshed, members};
+ghost use Rattle.deciding.specs.ModelDeciding.{Keeps, Goes, Reaches, Refreshed, members};
 use cluster::Cluster;
 
 // The cells of a way with its closing arc, and its first node again.
@@ -87,9 +86,8 @@ fn attempt(
     ensures { λ r. ⌜ (length (now (rows .exit)) ≡ length (now (rows .entry))) × (length (now (leads .exit)) ≡ mostNodes)
         × Tight (now (mates .entry)) z (now (rows .exit)) partitions (now (tight .exit)) × Held (now (rows .exit)) partitions (now (held .exit))
         × (r ≡ true → (now (rows .exit) ≡ now (rows .entry)) × (members (now (leads .exit)) < members (now (leads .entry))))
-        × ((N R : ℕ) (zone cap : ℕ → ℕ) (A : ℕ) (d : ℕ → ℕ) → all ≡ belowOf N → b < N → bitsAt (now (rows .entry)) p b ≡ 0
-        → Ordered partitions N R z zone cap A (now (former .entry)) (now (mates .entry)) (now (caps .entry)) (now (even .entry)) d p b (now (rows .entry)) (now (leads .entry))
-        → Ordered partitions N R z zone cap A (now (former .entry)) (now (mates .entry)) (now (caps .entry)) (now (even .entry)) d p (cond r b (suc b)) (now (rows .exit)) (now (leads .exit))) ⌝ }
+        × Goes partitions (now (former .entry)) (now (mates .entry)) (now (caps .entry)) all z (now (even .entry)) p b
+        (now (rows .entry)) (now (leads .entry)) (cond r b (suc b)) (now (rows .exit)) (now (leads .exit)) ⌝ }
 {
     let mut waves = [0u32; waves::WAVES];
     let k = waves::waves(leads, b, goal, &mut waves);
@@ -165,9 +163,8 @@ fn decide(
         × Tight (now mates) z (now rows) partitions (now tight) × Held (now rows) partitions (now held) × Held (now former) partitions (now had) ⌝ }
     ensures { λ _. ⌜ (length (now (rows .exit)) ≡ length (now (rows .entry))) × (length (now (leads .exit)) ≡ mostNodes)
         × Tight (now (mates .entry)) z (now (rows .exit)) partitions (now (tight .exit)) × Held (now (rows .exit)) partitions (now (held .exit))
-        × ((N R : ℕ) (zone cap : ℕ → ℕ) (A : ℕ) (d : ℕ → ℕ) → all ≡ belowOf N → b < N
-        → Ordered partitions N R z zone cap A (now (former .entry)) (now (mates .entry)) (now (caps .entry)) (now (even .entry)) d p b (now (rows .entry)) (now (leads .entry))
-        → Ordered partitions N R z zone cap A (now (former .entry)) (now (mates .entry)) (now (caps .entry)) (now (even .entry)) d p (suc b) (now (rows .exit)) (now (leads .exit))) ⌝ }
+        × Keeps partitions (now (former .entry)) (now (mates .entry)) (now (caps .entry)) all z (now (even .entry)) p b
+        (now (rows .entry)) (now (leads .entry)) (suc b) (now (rows .exit)) (now (leads .exit)) ⌝ }
 {
     let row = rows[p];
     if sets::member(row, b) {
@@ -226,9 +223,8 @@ fn decide_row(
         × Tight (now mates) z (now rows) partitions (now tight) × Held (now rows) partitions (now held) × Held (now former) partitions (now had) ⌝ }
     ensures { λ _. ⌜ (length (now (rows .exit)) ≡ length (now (rows .entry))) × (length (now (leads .exit)) ≡ mostNodes)
         × Tight (now (mates .entry)) z (now (rows .exit)) partitions (now (tight .exit)) × Held (now (rows .exit)) partitions (now (held .exit))
-        × ((R : ℕ) (zone cap : ℕ → ℕ) (A : ℕ) (d : ℕ → ℕ)
-        → Ordered partitions nodes R z zone cap A (now (former .entry)) (now (mates .entry)) (now (caps .entry)) (now (even .entry)) d p 0 (now (rows .entry)) (now (leads .entry))
-        → Ordered partitions nodes R z zone cap A (now (former .entry)) (now (mates .entry)) (now (caps .entry)) (now (even .entry)) d (suc p) 0 (now (rows .exit)) (now (leads .exit))) ⌝ }
+        × Reaches partitions (now (former .entry)) (now (mates .entry)) (now (caps .entry)) nodes z (now (even .entry)) p 0
+        (now (rows .entry)) (now (leads .entry)) (suc p) 0 (now (rows .exit)) (now (leads .exit)) ⌝ }
 {
     let all = sets::below(nodes);
     let mut b = 0;
@@ -271,9 +267,8 @@ pub fn decide_rows(
     requires { ⌜ (nodes ≤ mostNodes) × (partitions ≤ bufferRows) × (partitions ≤ length (now rows)) × (length (now leads) ≡ mostNodes) × (length (now even) ≡ arcCells)
         × Tight (now mates) z (now rows) partitions (now tight) × Held (now rows) partitions (now held) × Held (now former) partitions (now had) ⌝ }
     ensures { λ _. ⌜ (length (now (rows .exit)) ≡ length (now (rows .entry)))
-        × ((R : ℕ) (zone cap : ℕ → ℕ) (A : ℕ) (d : ℕ → ℕ)
-        → Ordered partitions nodes R z zone cap A (now (former .entry)) (now (mates .entry)) (now (caps .entry)) (now (even .entry)) d 0 0 (now (rows .entry)) (now (leads .entry))
-        → Ordered partitions nodes R z zone cap A (now (former .entry)) (now (mates .entry)) (now (caps .entry)) (now (even .entry)) d partitions 0 (now (rows .exit)) (now (leads .exit))) ⌝ }
+        × Reaches partitions (now (former .entry)) (now (mates .entry)) (now (caps .entry)) nodes z (now (even .entry)) 0 0
+        (now (rows .entry)) (now (leads .entry)) partitions 0 (now (rows .exit)) (now (leads .exit)) ⌝ }
 {
     let mut p = 0;
     while p < partitions {

@@ -6,7 +6,8 @@ use lib.ListN.{length}
 use Rattle.cluster.specs.Terms.{mostNodes}
 use Rattle.swaps.specs.ModelSwaps.{Tight}
 use Rattle.holders.specs.ModelHolders.{Held}
-use Rattle.deciding.proofs.Ends.{Reaches, reaches-next}
+use Rattle.deciding.specs.ModelDeciding.{Reaches}
+use Rattle.deciding.proofs.Ends.{reaches-next}
 use borrow.Author.Needs.{needs}
 use Rattle.deciding.proofs.decide_rows.Statement.{statement}
 use Rattle.deciding.proofs.decide_rows.Tie as tie
