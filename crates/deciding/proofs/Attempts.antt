@@ -23,8 +23,8 @@ use Rattle.ties.proofs.Order.{before-zero, zero-before}
 use Rattle.ties.proofs.Stays.{potential-stays}
 use Rattle.ties.proofs.Trying.{shut-out, way-circuit, let-in}
 use Rattle.ties.proofs.Deciding.{decided-next, decided-other, in-settled, decided-row, decided-first}
-use Rattle.evens.specs.ModelEvens.{giversOf}
-use Rattle.evens.proofs.Evening.{even-to-nodes}
+use Rattle.evens.specs.ModelEvens.{wantedOf, giversOf}
+use Rattle.evens.proofs.Evening.{wanted-in, giver-is, even-to-nodes}
 use Rattle.walks.specs.ModelWalks.{walkIn}
 use Rattle.waves.specs.ModelWaves.{waveCells, waveOf, seenOf, Waved}
 use Rattle.waves.proofs.Waving.{wave-seen, seen-stays, wave-start, wave-first, wave-later, wave-nodes}
@@ -394,6 +394,28 @@ module _ (P N R Z : ℕ) (zone cap : ℕ → ℕ) (A : ℕ) (former mates caps e
                   (λ u v l m h. f .only v h (λ a n. o .covers .nodes a v n m h)
                   (λ i a n r. even-to-nodes N mates (belowOf N) Z even (getD rows′ (Q i) 0) (getD former (Q i) 0) a v refl m h)
                   (λ i n. o .standing .levelled .beyond 1 (Y i) v (omega arith) (node i n) m h) u l)
+
+    -- A node that is not wanted is in the row, or nobody could give way to it.
+    pub unwanted-ordered : bit (wantedOf even (getD rows p 0) (getD former p 0)) b ≡ 0 → Ordered P N R Z zone cap A former mates caps even d p (suc b) rows leads
+    unwanted-ordered z =
+        ⊎-elim (λ l. shut (omega arith)) (λ l. in-ordered (omega (arith, bit-le (getD rows p 0) b))) (lt-or-ge (bitsAt rows p b) 1)
+      where
+        goal : ℕ
+        goal = giversOf mates (belowOf N) Z even (getD rows p 0) (getD former p 0) b
+
+        shut : bitsAt rows p b ≡ 0 → Ordered P N R Z zone cap A former mates caps even d p (suc b) rows leads
+        shut out =
+            out-ordered out goal refl (λ x. 1)
+            (record {
+              bits = λ x. omega arith;
+              begins = refl;
+              along = λ q a c l t. omega arith;
+              room = λ u v l k r e. omega arith;
+              none = λ a t.
+                  let g = giver-is N d even few (o .standing .levelled) mates (belowOf N) Z (getD rows p 0) (getD former p 0) b a in-b (omega (arith, t .exchange .a-node, few))
+                  (givers out goal refl .all a t) in
+                  absurd (omega (arith, z, wanted-in N d even few (o .standing .levelled) (getD rows p 0) (getD former p 0) a b (g .0) in-b (g .1) (g .2) (g .4)));
+            })
 
 -- ---- the members that are left
 

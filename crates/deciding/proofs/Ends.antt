@@ -9,14 +9,14 @@ use native.Mathlib.Omega.{arith}
 use lib.ListN.{length, getD, set}
 use Rattle.cluster.specs.Terms.{mostNodes}
 use Rattle.sets.specs.ModelBits.{bit, bitsAt, withoutOf, belowOf}
-use Rattle.evens.specs.ModelEvens.{giversOf}
+use Rattle.evens.specs.ModelEvens.{wantedOf, giversOf}
 use Rattle.walks.specs.ModelWalks.{walkIn}
 use Rattle.waves.specs.ModelWaves.{waveCells, Waved}
 use Rattle.ways.specs.ModelWays.{arcFor, Traced}
 use Rattle.exchanging.specs.ModelExchanged.{walkedOf}
 use Rattle.exchanging.proofs.Making.{length-exchanged}
 use Rattle.deciding.specs.ModelDeciding.{Ordered, Keeps, Goes, Reaches, Refreshed, members}
-use Rattle.deciding.proofs.Attempts.{in-ordered, none-ordered, shut-ordered, stale-ordered, turned-ordered, stale-less, ordered-row}
+use Rattle.deciding.proofs.Attempts.{in-ordered, unwanted-ordered, none-ordered, shut-ordered, stale-ordered, turned-ordered, stale-less, ordered-row}
 
 -- ---- one attempt
 
@@ -82,6 +82,12 @@ module _ (P : ℕ) (former mates caps : List ℕ) (all z : ℕ) (even : List ℕ
   -- The row has b.
   pub in-keeps : (rows leads : List ℕ) → p < P → bitsAt rows p b ≡ 1 → Keeps P former mates caps all z even p b rows leads (suc b) rows leads
   in-keeps rows leads in-p has N R zone cap A d e in-b o = in-ordered P N R z zone cap A former mates caps even d p b rows leads o in-p in-b has
+
+  -- The node is not wanted.
+  pub unwanted-keeps : (rows leads : List ℕ) (wanted : ℕ) → p < P → wanted ≡ wantedOf even (getD rows p 0) (getD former p 0) → bit wanted b ≡ 0
+      → Keeps P former mates caps all z even p b rows leads (suc b) rows leads
+  unwanted-keeps rows leads wanted in-p w h N R zone cap A d e in-b o =
+      unwanted-ordered P N R z zone cap A former mates caps even d p b rows leads o in-p in-b (ap (λ (x : ℕ). bit x b) (sym w) ∙ h)
 
   -- Another attempt, with the rows as they were.
   pub again-keeps : (rows₀ leads₀ rows leads rows′ leads′ : List ℕ) (again : Bool) (next : ℕ) → again ≡ true → rows ≡ rows₀ → bitsAt rows₀ p b ≡ 0

@@ -9,7 +9,7 @@ ghost use Rattle.cluster.specs.Terms.{mostNodes, bufferRows};
 ghost use Rattle.levels.specs.ModelGraph.{arcCells};
 ghost use Rattle.swaps.specs.ModelSwaps.{Tight};
 ghost use Rattle.holders.specs.ModelHolders.{Held};
-ghost use Rattle.evens.specs.ModelEvens.{giversOf};
+ghost use Rattle.evens.specs.ModelEvens.{wantedOf, giversOf};
 ghost use Rattle.deciding.specs.ModelDeciding.{Keeps, Goes, Reaches, Refreshed, members};
 use cluster::Cluster;
 
@@ -202,6 +202,60 @@ fn decide(
     }
 }
 
+// Decides the pair (p, b), which cannot come in where b is not wanted. The nodes that are wanted then are answered: those of before where the row stayed.
+fn consider(
+    rows: &mut [u32],
+    tight: &mut [u32],
+    held: &mut [u32],
+    leads: &mut [u32],
+    former: &[u32],
+    had: &[u32],
+    partitions: usize,
+    mates: &[u32],
+    caps: &[u32],
+    all: u32,
+    z: u32,
+    even: &[u32],
+    p: usize,
+    b: u32,
+    wanted: u32,
+) -> u32
+    requires { ⌜ (b < mostNodes) × (p < partitions) × (partitions ≤ bufferRows) × (partitions ≤ length (now rows)) × (length (now leads) ≡ mostNodes)
+        × (length (now even) ≡ arcCells) × (wanted ≡ wantedOf (now even) (getD (now rows) p 0) (getD (now former) p 0))
+        × Tight (now mates) z (now rows) partitions (now tight) × Held (now rows) partitions (now held) × Held (now former) partitions (now had) ⌝ }
+    ensures { λ r. ⌜ (length (now (rows .exit)) ≡ length (now (rows .entry))) × (length (now (leads .exit)) ≡ mostNodes)
+        × Tight (now (mates .entry)) z (now (rows .exit)) partitions (now (tight .exit)) × Held (now (rows .exit)) partitions (now (held .exit))
+        × Keeps partitions (now (former .entry)) (now (mates .entry)) (now (caps .entry)) all z (now (even .entry)) p b
+        (now (rows .entry)) (now (leads .entry)) (suc b) (now (rows .exit)) (now (leads .exit))
+        × (r ≡ wantedOf (now (even .entry)) (getD (now (rows .exit)) p 0) (getD (now (former .entry)) p 0)) ⌝ }
+{
+    if !sets::member(wanted, b) {
+        return wanted;
+    }
+    let row = rows[p];
+    decide(
+        rows,
+        tight,
+        held,
+        leads,
+        former,
+        had,
+        partitions,
+        mates,
+        caps,
+        all,
+        z,
+        even,
+        p,
+        b,
+    );
+    let new = rows[p];
+    if new == row {
+        return wanted;
+    }
+    evens::wanted(new, swaps::cell(former, p), even)
+}
+
 // Decides the pairs of a row, by rising node.
 fn decide_row(
     rows: &mut [u32],
@@ -227,9 +281,10 @@ fn decide_row(
         (now (rows .entry)) (now (leads .entry)) (suc p) 0 (now (rows .exit)) (now (leads .exit)) ⌝ }
 {
     let all = sets::below(nodes);
+    let mut wanted = evens::wanted(rows[p], swaps::cell(former, p), even);
     let mut b = 0;
     while b < nodes {
-        decide(
+        wanted = consider(
             rows,
             tight,
             held,
@@ -244,6 +299,7 @@ fn decide_row(
             even,
             p,
             b,
+            wanted,
         );
         b += 1;
     }

@@ -12,10 +12,13 @@ use Rattle.sums.specs.TermsSums.{one-if}
 use Rattle.sums.specs.ModelSums.{is}
 use Rattle.sums.proofs.Sum.{lt-or-ge, eq-or-ne, is-eq, is-ne, is-le, is-one, is-cases}
 use Rattle.sets.specs.ModelBits.{maskBits, bit, unionOf, meetOf, differenceOf, belowOf, countOf}
-use Rattle.sets.proofs.Laws.{bit-le, bit-union, bit-meet, bit-difference, bit-below-not, bit-maskOf}
+use Rattle.sets.proofs.Laws.{bit-le, bit-union, bit-meet, bit-difference, bit-below, bit-below-not, bit-maskOf}
+use Rattle.cells.proofs.Cells.{getD-tab}
+use Rattle.waves.specs.ModelWaves.{spreadOf}
+use Rattle.waves.proofs.Waving.{spread-in}
 use Rattle.swaps.specs.ModelSwaps.{tightOf, targetsOf}
 use Rattle.swaps.proofs.Steps.{targets-crowded, targets-few}
-use Rattle.evens.specs.ModelEvens.{Levelled, leadOf, evenOf, evenTo, giversOf}
+use Rattle.evens.specs.ModelEvens.{Levelled, leadOf, evenOf, evenTo, earlierOf, wantedOf, giversOf}
 use Rattle.evens.proofs.Standing.{one-lt, one-ge}
 
 -- ---- levels and weights
@@ -163,6 +166,20 @@ module _ (N : ℕ) (d : ℕ → ℕ) (even : List ℕ) (few : N ≤ mostNodes) (
   unfolding evenTo
   even-to-in mates all z row former a b p q e w =
       bit-meet (targetsOf mates all z row a) (evenOf even former a) b (omega arith) ∙ ap₂ min e (even-at former a b p q ∙ is-eq w)
+
+  -- A node is wanted where a later one of the row has the same sum.
+  pub wanted-in : (row former a b : ℕ) → a < N → b < N → bit row a ≡ 1 → b < a → d b + bit former b ≡ d a + bit former a → bit (wantedOf even row former) b ≡ 1
+  unfolding wantedOf earlierOf
+  wanted-in row former a b p q h l e =
+      omega (
+        arith,
+        spread-in (earlierOf even former) row a b (omega arith) (omega arith) h,
+        ap (λ (x : ℕ). bit x b) (getD-tab (λ i. meetOf (evenOf even former i) (belowOf i)) mostNodes a 0 (omega arith)),
+        bit-meet (evenOf even former a) (belowOf a) b (omega arith),
+        even-at former a b p q ∙ is-eq e,
+        bit-below a b (omega arith) l,
+        bit-le (spreadOf (earlierOf even former) row) b,
+      )
 
   -- A node that may give way to b evenly is a later node of the row, b is one of its targets, and both have the same sum.
   pub giver-is : (mates : List ℕ) (all z row former b a : ℕ) → b < N → a < mostNodes → bit (giversOf mates all z even row former b) a ≡ 1

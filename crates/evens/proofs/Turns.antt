@@ -18,7 +18,9 @@ use Rattle.sets.proofs.Scan.{Left, least-word, done-all}
 use Rattle.swaps.specs.ModelSwaps.{targetsOf}
 use Rattle.arcs.specs.ModelMoves.{joined}
 use Rattle.arcs.proofs.Growing.{done-grows}
-use Rattle.evens.specs.ModelEvens.{evenOf, evenTo, giversOf, Widened}
+use Rattle.waves.specs.ModelWaves.{spreadOf}
+use Rattle.cells.proofs.Cells.{getD-tab}
+use Rattle.evens.specs.ModelEvens.{evenOf, evenTo, earlierOf, wantedOf, giversOf, Widened}
 use Rattle.evens.proofs.Standing.{one-lt, one-ge}
 
 -- ---- what the code computes, step by step
@@ -166,3 +168,17 @@ found-all mates all z even row former b e n later s left found ee el er es eleft
 
     before : (r n o e t : ℕ) → r ≤ 1 → n ≡ 1 → o ≡ 0 → min (min (r - n) e) t ≡ min 1 (min (min r o) (min e t))
     before r n o e t h p q = ap (λ (x : ℕ). min (min x e) t) (omega arith) ∙ (inner 0 e t ∙ none-of r o (min e t) q)
+
+-- ---- the nodes that are wanted
+
+-- What the code computes of a node is its cell.
+pub earlier-is : (even : List ℕ) (former a e n x : ℕ) → a < mostNodes → e ≡ evenOf even former a → n ≡ belowOf a → x ≡ meetOf e n
+    → x ≡ getD (earlierOf even former) a 0
+unfolding earlierOf
+earlier-is even former a e n x l ee en ex =
+    ex ∙ (ap₂ meetOf ee en ∙ sym (getD-tab (λ i. meetOf (evenOf even former i) (belowOf i)) mostNodes a 0 l))
+
+-- What all members want is what is wanted.
+pub wanted-is : (even : List ℕ) (row former x : ℕ) → x ≡ spreadOf (earlierOf even former) row → x ≡ wantedOf even row former
+unfolding wantedOf
+wanted-is even row former x e = e

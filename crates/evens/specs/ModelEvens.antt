@@ -5,11 +5,12 @@ use mathlib.Core.Path.{_≡_}
 use mathlib.Core.List.{List}
 use lib.ListN.{length, getD}
 use lib.Dec.{ltb}
-use Rattle.sums.specs.TermsSums.{one-if}
+use Rattle.sums.specs.TermsSums.{one-if, tab}
 use Rattle.sums.specs.ModelSums.{is}
 use Rattle.cluster.specs.Terms.{mostNodes}
-use Rattle.sets.specs.ModelBits.{maskBits, bit, maskOf, unionOf, meetOf, differenceOf}
+use Rattle.sets.specs.ModelBits.{maskBits, bit, maskOf, unionOf, meetOf, differenceOf, belowOf}
 use Rattle.swaps.specs.ModelSwaps.{targetsOf}
+use Rattle.waves.specs.ModelWaves.{spreadOf}
 use Rattle.levels.specs.ModelGraph.{arcCells}
 
 -- Cell `mostNodes` * h + a of `even` is the set of the nodes below N that stand h - 1 above a, where node b stands at d b.
@@ -37,6 +38,14 @@ evenTo mates all z even row former a = meetOf (targetsOf mates all z row a) (eve
 unfoldable pub giversOf : List ℕ → ℕ → ℕ → List ℕ → ℕ → ℕ → ℕ → ℕ
 giversOf mates all z even row former b =
     maskOf (λ a. min (min (bit row a) (one-if (ltb b a))) (min (bit (evenOf even former b) a) (bit (targetsOf mates all z row a) b))) maskBits
+
+-- For each node a those before it that it could be exchanged for evenly, as far as levels and weights tell.
+unfoldable pub earlierOf : List ℕ → ℕ → List ℕ
+earlierOf even former = tab (λ a. meetOf (evenOf even former a) (belowOf a)) mostNodes
+
+-- The nodes that a later node of the row could give way to evenly, as far as that tells.
+unfoldable pub wantedOf : List ℕ → ℕ → ℕ → ℕ
+wantedOf even row former = spreadOf (earlierOf even former) row
 
 -- Each node of the row leads to those to which it may give way evenly, too; all else is as it was.
 pub record Widened (mates : List ℕ) (all z : ℕ) (even : List ℕ) (row former : ℕ) (old new : List ℕ) : Type 0 where

@@ -10,7 +10,7 @@ ghost use Rattle.cluster.specs.Terms.{mostNodes};
 ghost use Rattle.levels.specs.ModelGraph.{arcCells};
 ghost use Rattle.sets.specs.ModelBits.{bit};
 ghost use Rattle.swaps.specs.ModelSwaps.{tightOf};
-ghost use Rattle.evens.specs.ModelEvens.{Levelled, leadOf, evenOf, giversOf, Widened};
+ghost use Rattle.evens.specs.ModelEvens.{Levelled, leadOf, evenOf, wantedOf, giversOf, Widened};
 use cluster::Cluster;
 
 // The most nodes, as nodes are numbered.
@@ -109,6 +109,22 @@ pub fn widen(
         arcs::join(leads, a as usize, to);
         left = sets::rest(left);
     }
+}
+
+// The nodes that a later node of the row could give way to evenly, as far as levels and weights tell: no others can come into the row.
+pub fn wanted(row: u32, former: u32, even: &[u32]) -> u32
+    requires { ⌜ arcCells ≤ length (now even) ⌝ }
+    ensures { λ r. ⌜ r ≡ wantedOf (now (even .entry)) row former ⌝ }
+{
+    let mut found = 0;
+    let mut left = row;
+    while left != 0 {
+        let a = sets::least(left);
+        let earlier = sets::meet(even_of(even, former, a), sets::below(a));
+        found = sets::union(found, earlier);
+        left = sets::rest(left);
+    }
+    found
 }
 
 // The nodes of the row after b that may give way to b evenly.
