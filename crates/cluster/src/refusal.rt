@@ -24,3 +24,7 @@ pub const ROW: u32 = 10;
 pub const ZONES: u32 = 11;
 // A node with more copies than its usable capacity takes.
 pub const CAPACITY: u32 = 12;
+// An id to be added that is there already.
+pub const PRESENT: u32 = 13;
+// An id to be removed or resized that is not there.
+pub const ABSENT: u32 = 14;

@@ -12,6 +12,14 @@ use Rattle.lengths.specs.declared.Rule.{Rule}
 abbrev pub nodeWidth : ℕ
 nodeWidth = 10
 
+-- 2026-04: "21 remove (id, 4)"
+abbrev pub removeWidth : ℕ
+removeWidth = 4
+
+-- 2026-04: "22 resize (id and capacity, 8)"
+abbrev pub resizeWidth : ℕ
+resizeWidth = 8
+
 -- "2 + 4m: partition 2, then m .. ids": the bytes of a row with m ids.
 abbrev pub rowWidth : ℕ → ℕ
 rowWidth m = 2 + 4 * m
@@ -43,6 +51,20 @@ rules =
     ∷ rule 2 2 1
     -- "10 (2 + 4R: partition, R rising ids)", R from 1 to 8
     ∷ rule (rowWidth 1) (rowWidth mostCopies) 4
+    -- There are no tags 11 to 19.
+    ∷ noLength
+    ∷ noLength
+    ∷ noLength
+    ∷ noLength
+    ∷ noLength
+    ∷ noLength
+    ∷ noLength
+    ∷ noLength
+    ∷ noLength
+    -- 2026-04: "20 add a box (10 bytes as in field 4), 21 remove (id, 4), 22 resize (id and capacity, 8)"
+    ∷ rule nodeWidth nodeWidth 1
+    ∷ rule removeWidth removeWidth 1
+    ∷ rule resizeWidth resizeWidth 1
     ∷ []
 
 -- The rule of a tag; a tag that the table does not have has no legal length.

@@ -5,12 +5,16 @@ ghost use Rattle.lengths.specs.RecordLengths.{ruleOf, legalAs};
 
 // The bytes of a node: id 4, zone 2, capacity 4.
 pub const NODE: usize = 10;
+// The bytes of a removal: id 4.
+pub const REMOVE: usize = 4;
+// The bytes of a change of capacity: id 4, capacity 4.
+pub const RESIZE: usize = 8;
 
 // The tag of a former row.
 const FORMER_ROW: usize = 5;
 
 // How many tags the table has rules for, tag 0 counted in.
-const TAGS: usize = 11;
+const TAGS: usize = 23;
 
 // The legal lengths of a body: from the least to the greatest, in steps.
 pub struct Rule {
@@ -23,6 +27,13 @@ pub struct Rule {
 const NONE: Rule = Rule {
     least: 1,
     greatest: 0,
+    step: 1,
+};
+
+// A node, in the cluster or to be added.
+const ONE_NODE: Rule = Rule {
+    least: NODE,
+    greatest: NODE,
     step: 1,
 };
 
@@ -56,11 +67,7 @@ const LEGAL: [Rule; TAGS] = [
         step: 1,
     },
     // 4 node.
-    Rule {
-        least: NODE,
-        greatest: NODE,
-        step: 1,
-    },
+    ONE_NODE,
     // 5 former row.
     ROW,
     // 6 size.
@@ -89,6 +96,30 @@ const LEGAL: [Rule; TAGS] = [
     },
     // 10 row.
     ROW,
+    // 11 to 19: none.
+    NONE,
+    NONE,
+    NONE,
+    NONE,
+    NONE,
+    NONE,
+    NONE,
+    NONE,
+    NONE,
+    // 20 a node to be added.
+    ONE_NODE,
+    // 21 a node to be removed.
+    Rule {
+        least: REMOVE,
+        greatest: REMOVE,
+        step: 1,
+    },
+    // 22 a node to be resized.
+    Rule {
+        least: RESIZE,
+        greatest: RESIZE,
+        step: 1,
+    },
 ];
 
 // The rule of a tag; a tag that the table does not have has no legal length.
