@@ -9,7 +9,8 @@ use lib.ListN.{length, drop, length-append, length-drop}
 use Rattle.sums.proofs.Sum.{lt-or-ge}
 use Rattle.cluster.specs.Terms.{noNode}
 use Rattle.cluster.specs.declared.Node.{Node}
-use Rattle.fields.specs.RecordField.{bytesOf, Bytes, part, numberAt, nodeWidth, nodeBytes, FitsNode, nodeAtByte}
+use Rattle.fields.specs.RecordField.{bytesOf, Bytes, part, numberAt, written, nodeWidth, nodeBytes, FitsNode, nodeAtByte}
+use Rattle.fields.proofs.Written.{written-append}
 use Rattle.fields.proofs.Numbers.{length-bytes, has-true, has-false, part-append, number-at-lt, bytes-there, number-here, after-number}
 
 -- A node has its ten bytes.
@@ -64,6 +65,23 @@ node-here s rest n at e f =
     ∙ (ap₂ (λ (x y : ℕ). record { id = x; zone = y; capacity = numberAt s (at + 6) 4 }) (number-here s (z ++ (k ++ rest)) at 4 (n .id) d (f .id))
     (number-here s (k ++ rest) (at + 4) 2 (n .zone) g (f .zone))
     ∙ ap (λ (x : ℕ). record { id = n .id; zone = n .zone; capacity = x }) (number-here s rest (at + 6) 4 (n .capacity) h (f .capacity)))
+
+-- A node that is put as its three numbers, one after the other.
+pub put-numbers : (s r x : List ℕ) (n : Node) (at : ℕ) → r ≡ written s at (bytesOf 4 (n .id)) → x ≡ written r (at + 4) (bytesOf 2 (n .zone)) → at + nodeWidth ≤ length s
+    → written x (at + 6) (bytesOf 4 (n .capacity)) ≡ written s at (nodeBytes n)
+unfolding nodeBytes
+put-numbers s r x n at e f h =
+    let i = bytesOf 4 (n .id) in
+    let z = bytesOf 2 (n .zone) in
+    let k = bytesOf 4 (n .capacity) in
+    let end : at + 6 ≡ at + length (i ++ z) = omega (arith, length-append i z, length-bytes 4 (n .id), length-bytes 2 (n .zone)) in
+    let two : x ≡ written s at (i ++ z) =
+    f
+    ∙ (ap₂ (λ (y : List ℕ) (j : ℕ). written y (at + j) z) e (sym (length-bytes 4 (n .id)))
+    ∙ written-append s at i z (omega (arith, length-bytes 4 (n .id), length-bytes 2 (n .zone)))) in
+    ap₂ (λ (y : List ℕ) (j : ℕ). written y j k) two end
+    ∙ (written-append s at (i ++ z) k (omega (arith, length-append i z, length-bytes 4 (n .id), length-bytes 2 (n .zone), length-bytes 4 (n .capacity)))
+    ∙ ap (written s at) (append-assoc i z k))
 
 -- The numbers of no node fit,
 pub fits-none : FitsNode noNode

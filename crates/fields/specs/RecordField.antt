@@ -10,7 +10,7 @@ use lib.Dec.{leb}
 use lib.ListN.{length, take, drop, getD}
 use Rattle.cluster.specs.Terms.{mostCopies, noNode, mem}
 use Rattle.cluster.specs.declared.Node.{Node}
-pub use Rattle.lengths.specs.RecordLengths.{nodeWidth, rowWidth}
+pub use Rattle.lengths.specs.RecordLengths.{nodeWidth, removeWidth, resizeWidth, rowWidth}
 unfoldable pub use Rattle.lengths.specs.RecordLengths.{ruleOf, legal, legalAs}
 use Rattle.fields.specs.declared.Field.{Field}
 use Rattle.fields.specs.declared.Field.the-variants.{Body, Refused}

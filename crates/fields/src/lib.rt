@@ -1,9 +1,10 @@
 // Numbers and fields in the bytes of a record: a one-byte tag, a two-byte length and a body; numbers unsigned, high byte first.
 ghost use mathlib.Core.Path.{_≡_};
+ghost use mathlib.Core.List.{_++_};
 ghost use Prim.Native.Nat.{_+_, _^_, _≤_, _<_};
 ghost use lib.ListN.{length};
 ghost use Rattle.fields.specs.ModelTags.{tagsOf};
-ghost use Rattle.fields.specs.RecordField.{has, bytesOf, numberAt, written, nodeAtByte, fieldAt, Within, refusalOf, placeOf};
+ghost use Rattle.fields.specs.RecordField.{has, bytesOf, numberAt, written, nodeBytes, nodeAtByte, headWidth, fieldAt, Within, refusalOf, placeOf};
 use cluster::Node;
 
 pub mod ids;
@@ -108,6 +109,26 @@ pub fn put_word(out: &mut [u8], at: usize, value: u32)
         put_pair(out, at, value / 65536);
         put_pair(out, at + 2, value);
     }
+}
+
+// Writes the ten bytes of a node; nothing where the buffer does not have them all.
+pub fn put_node(out: &mut [u8], at: usize, node: Node)
+    ensures { λ _. ⌜ now (out .exit) ≡ written (now (out .entry)) at (nodeBytes node) ⌝ }
+{
+    if reaches(out.len(), at, lengths::NODE) {
+        put_word(out, at, node.id);
+        put_pair(out, at + 4, node.zone as u32);
+        put_word(out, at + 6, node.capacity);
+    }
+}
+
+// Puts the tag and the length of a field.
+pub fn put_head(out: &mut [u8], at: usize, tag: u32, len: usize)
+    requires { ⌜ (at + headWidth ≤ length (now out)) × (len < 65536) ⌝ }
+    ensures { λ _. ⌜ now (out .exit) ≡ written (now (out .entry)) at (bytesOf 1 tag ++ bytesOf 2 len) ⌝ }
+{
+    put_byte(out, at, tag);
+    put_pair(out, at + 1, len as u32);
 }
 
 // The field at byte `at`, where the tags of the set `allowed` are allowed next; where `exact` is not 0, no other length is legal.

@@ -1,6 +1,5 @@
 // Writing the fields before the rows, from front to back, where they fit.
 ghost use mathlib.Core.Path.{_≡_};
-ghost use mathlib.Core.List.{_++_};
 ghost use mathlib.Core.Logic.{_⊎_};
 ghost use Prim.Native.Nat.{_+_, _≤_, _<_};
 ghost use lib.ListN.{length};
@@ -10,21 +9,12 @@ use super::Numbers;
 use super::table;
 use super::table::Entry;
 
-// Puts the tag and the length of a field.
-pub fn put_head(out: &mut [u8], at: usize, tag: u32, len: usize)
-    requires { ⌜ (at + 3 ≤ length (now out)) × (len < 65536) ⌝ }
-    ensures { λ _. ⌜ now (out .exit) ≡ written (now (out .entry)) at (bytesOf 1 tag ++ bytesOf 2 len) ⌝ }
-{
-    fields::put_byte(out, at, tag);
-    fields::put_pair(out, at + 1, len as u32);
-}
-
 // Puts a field of one number of one, two or four bytes.
 fn put_number(out: &mut [u8], at: usize, tag: u32, width: usize, value: u32)
     requires { ⌜ (at + 3 + width ≤ length (now out)) × (tag < 256) × ((width ≡ 1) ⊎ ((width ≡ 2) ⊎ (width ≡ 4))) ⌝ }
     ensures { λ _. ⌜ now (out .exit) ≡ written (now (out .entry)) at (field tag (bytesOf width value)) ⌝ }
 {
-    put_head(out, at, tag, width);
+    fields::put_head(out, at, tag, width);
     if width == 1 {
         fields::put_byte(out, at + 3, value);
         return;

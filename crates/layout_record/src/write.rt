@@ -30,7 +30,7 @@ fn put_row(out: &mut [u8], at: usize, cells: &[u32], p: usize, count: usize)
     requires { ⌜ (at + 5 + 4 * count ≤ length (now out)) × (layoutCells ≤ length (now cells)) × (p < bufferRows) × (count ≤ mostCopies) ⌝ }
     ensures { λ _. ⌜ now (out .exit) ≡ written (now (out .entry)) at (layoutRowField p (take count (rowAt (now (cells .entry)) p))) ⌝ }
 {
-    writing::put_head(out, at, 10, 2 + 4 * count);
+    fields::put_head(out, at, 10, 2 + 4 * count);
     fields::put_pair(out, at + 3, p as u32);
     put_ids(out, at + range::ROW, cells, p * Cluster::ROW, count);
 }

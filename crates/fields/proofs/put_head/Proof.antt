@@ -1,14 +1,14 @@
--- `layout_head::writing::put_head` meets its contract.
+-- `fields::put_head` meets its contract.
 -- Assumes nothing.
 use borrow.Author.Needs.{needs}
 use native.Mathlib.Omega.{arith}
 use Prim.Native.Nat.{_+_, _-_}
 use mathlib.Core.Path.{refl, _∙_}
 use Rattle.fields.specs.RecordField.{bytesOf}
 use Rattle.fields.proofs.Numbers.{length-bytes}
 use Rattle.fields.proofs.Puts.{put-next}
-use Rattle.layout_head.proofs.writing.put_head.Statement.{statement}
-use Rattle.layout_head.proofs.writing.put_head.Tie as tie
+use Rattle.fields.proofs.put_head.Statement.{statement}
+use Rattle.fields.proofs.put_head.Tie as tie
 
 put-byte-requires : tie.Need-put-byte-requires
 put-byte-requires c κs = search needs
