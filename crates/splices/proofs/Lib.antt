@@ -1,0 +1,4 @@
+pub mod Kept
+pub mod Places
+pub mod Replaced
+pub mod Slots

@@ -1,0 +1,2 @@
+pub mod ModelSplice
+pub mod TermsReplaced
