@@ -1,0 +1,5 @@
+pub mod Answered
+pub mod Cases
+pub mod Changing
+pub mod Restores
+pub mod Undo

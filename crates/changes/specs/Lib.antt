@@ -1,0 +1,2 @@
+pub mod TermsChanges
+pub mod TermsUndo
