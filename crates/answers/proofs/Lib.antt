@@ -1,2 +1,4 @@
 pub mod Answered
+pub mod Entered
+pub mod NodePuts
 pub mod Puts

@@ -1,4 +1,4 @@
--- What all C functions answer alike: numbers in lent cells, and a cluster that enters as its record. They add nothing to what reading, planning,
+-- What all C functions answer alike: numbers and nodes in lent cells, and a cluster that enters as its record. They add nothing to what reading, planning,
 -- check, figures, showing and writing answer but the order of the refusals and the places of the numbers in lent cells.
 -- Assumes nothing.
 use Prim.Native.Nat.{ℕ, _/_, _%_, _^_}
@@ -7,6 +7,7 @@ use mathlib.Core.List.{List, [], _∷_, _++_}
 use lib.Dec.{ltb, eqb}
 use lib.ListN.{length, drop, replicate}
 use Rattle.cluster.specs.Terms.{layoutCells}
+use Rattle.cluster.specs.declared.Node.{Node}
 use Rattle.cluster_record.specs.RecordClusterAnswer.{readClusterOf}
 use Rattle.cluster_record.specs.declared.ReadCluster.{ReadCluster}
 
@@ -24,6 +25,17 @@ unlessShort n answer short x = cond (ltb (length answer) n) short x
 -- The cells `answer` afterwards: n numbers from cell 0 on, the rest kept.
 abbrev pub answerAfter : ℕ → List ℕ → List ℕ → List ℕ
 answerAfter n answer numbers = unlessShort n answer answer (numbers ++ drop n answer)
+
+-- ---- the nodes of a cluster
+
+-- The cells of a node: id, zone, capacity.
+abbrev pub nodeCellsWidth : ℕ
+nodeCellsWidth = 3
+
+-- The cells of nodes, one after the other; of a cluster they are all 32 slots, and those not in use are zero in every cluster a call yields.
+unfoldable pub nodeCells : List Node → List ℕ
+nodeCells [] = []
+nodeCells (n ∷ ns) = n .id ∷ n .zone ∷ n .capacity ∷ nodeCells ns
 
 -- ---- a cluster that enters as its record
 

@@ -1,11 +1,16 @@
-// What the C functions share: numbers in lent cells, and a cluster that enters as its record.
+// What the C functions share: numbers and nodes in lent cells, and a cluster that enters as its record.
 ghost use mathlib.Core.Path.{_≡_};
 ghost use mathlib.Core.List.{_++_};
-ghost use Prim.Native.Nat.{_+_, _/_, _%_, _^_, _≤_};
+ghost use Prim.Native.Nat.{_+_, _*_, _/_, _%_, _^_, _≤_};
 ghost use lib.ListN.{length, take, drop};
-ghost use Rattle.answers.specs.TermsAnswers.{halves};
+ghost use Rattle.cluster.specs.Terms.{mostNodes};
+ghost use Rattle.answers.specs.TermsAnswers.{halves, nodeCellsWidth, nodeCells};
+use cluster::Cluster;
 
 pub mod entering;
+
+// The cells of a node: id, zone, capacity.
+pub const NODE: usize = 3;
 
 // The high half of a number of 64 bits.
 pub fn high(x: u64) -> u32
@@ -41,4 +46,18 @@ pub fn put_after(x: u64, numbers: &[u32], cells: &mut [u32])
     put(numbers, 2, cells);
     let first = [high(x), low(x)];
     put(&first, 0, cells);
+}
+
+// The slots of a cluster go into the cells from `at` on.
+pub fn put_nodes(c: Cluster, at: usize, cells: &mut [u32])
+    requires { ⌜ at + nodeCellsWidth * mostNodes ≤ length (now cells) ⌝ }
+    ensures { λ _. ⌜ now (cells .exit) ≡ take at (now (cells .entry)) ++ nodeCells (c .nodes) ++ drop (at + nodeCellsWidth * mostNodes) (now (cells .entry)) ⌝ }
+{
+    let mut b = 0;
+    while b < Cluster::NODES {
+        let node = c.nodes[b];
+        let numbers = [node.id, node.zone as u32, node.capacity];
+        put(&numbers, at + NODE * b, cells);
+        b += 1;
+    }
 }

@@ -1,2 +1,0 @@
-pub mod ClusterAnswers
-pub mod NodePuts

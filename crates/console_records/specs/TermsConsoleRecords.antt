@@ -3,10 +3,9 @@
 use Prim.Native.Nat.{ℕ, _+_, _*_}
 use mathlib.Core.List.{List, [], _∷_, _++_}
 use Rattle.cluster.specs.Terms.{mostNodes}
-use Rattle.cluster.specs.declared.Node.{Node}
 use Rattle.cluster_record.specs.declared.ReadCluster.{ReadCluster}
 use Rattle.layout_record.specs.declared.ReadLayout.{ReadLayout}
-use Rattle.answers.specs.TermsAnswers.{halves}
+use Rattle.answers.specs.TermsAnswers.{halves, nodeCellsWidth, nodeCells}
 
 -- ---- reading a cluster
 
@@ -14,16 +13,8 @@ use Rattle.answers.specs.TermsAnswers.{halves}
 abbrev pub headCells : ℕ
 headCells = 6
 
--- The cells of a node: id, zone, capacity.
-abbrev pub nodeWidth : ℕ
-nodeWidth = 3
-
 abbrev pub readClusterCells : ℕ
-readClusterCells = headCells + nodeWidth * mostNodes
-
-unfoldable pub nodeCells : List Node → List ℕ
-nodeCells [] = []
-nodeCells (n ∷ ns) = n .id ∷ n .zone ∷ n .capacity ∷ nodeCells ns
+readClusterCells = headCells + nodeCellsWidth * mostNodes
 
 -- "byte; bits; replication; redundancy; number of nodes; then 32 times id, zone, capacity": all 32 slots, those not in use are zero.
 abbrev pub clusterNumbers : ReadCluster → List ℕ

@@ -10,9 +10,10 @@ use lib.Seq.{drop-drop}
 use Rattle.cells.proofs.Cells.{length-of-map}
 use Rattle.cluster.specs.Terms.{mostNodes}
 use Rattle.cluster_record.specs.declared.ReadCluster.{ReadCluster}
-use Rattle.console_records.specs.TermsConsoleRecords.{nodeCells, clusterNumbers}
+use Rattle.answers.specs.TermsAnswers.{nodeCells}
+use Rattle.console_records.specs.TermsConsoleRecords.{clusterNumbers}
 use Rattle.answers.proofs.Answered.{short, long}
-use Rattle.console_records.proofs.ClusterAnswers.{read-few}
+use Rattle.answers.proofs.Entered.{read-few}
 use Rattle.console_records.proofs.cluster_in.dezghuri_read_cluster.Statement.{statement}
 use Rattle.console_records.proofs.cluster_in.dezghuri_read_cluster.Tie as tie
 

@@ -9,13 +9,13 @@ use lib.ListN.{length, take, drop, getD, length-append, take-append-drop}
 use lib.Seq.{length-take-le, take-suc, take-at, take-all, drop-append-add, drop-drop}
 use Rattle.cluster.specs.Terms.{mostNodes, noNode}
 use Rattle.cluster.specs.declared.Node.{Node}
-use Rattle.console_records.specs.TermsConsoleRecords.{headCells, nodeWidth, readClusterCells, nodeCells}
+use Rattle.answers.specs.TermsAnswers.{nodeCellsWidth, nodeCells}
 
 -- The cells of a node.
 abbrev pub cellsOfNode : Node → List ℕ
 cellsOfNode n = n .id ∷ n .zone ∷ n .capacity ∷ []
 
-length-nodeCells : (l : List Node) → length (nodeCells l) ≡ nodeWidth * length l
+length-nodeCells : (l : List Node) → length (nodeCells l) ≡ nodeCellsWidth * length l
 unfolding nodeCells
 length-nodeCells [] = refl
 length-nodeCells (n ∷ ns) = let e = length-nodeCells ns in omega arith
@@ -31,38 +31,40 @@ unfolding nodeCells
 nodeCells-more l b h =
     ap nodeCells (ap (λ (n : ℕ). take n l) (add-one b) ∙ take-suc l b noNode h) ∙ nodeCells-append (take b l) (getD l b noNode ∷ [])
 
-module _ (lent : List ℕ) (nodes : List Node) (room : readClusterCells ≤ length lent) (slots : length nodes ≡ mostNodes) where
+module _ (at : ℕ) (lent : List ℕ) (nodes : List Node) (room : at + nodeCellsWidth * mostNodes ≤ length lent) (slots : length nodes ≡ mostNodes) where
   -- What is there once b nodes are.
   abbrev front : ℕ → List ℕ
-  front b = take headCells lent ++ nodeCells (take b nodes)
+  front b = take at lent ++ nodeCells (take b nodes)
 
   abbrev place : ℕ → ℕ
-  place b = headCells + nodeWidth * b
+  place b = at + nodeCellsWidth * b
 
   abbrev pub written : ℕ → List ℕ
   written b = front b ++ drop (place b) lent
 
   front-length : (b : ℕ) → b ≤ mostNodes → length (front b) ≡ place b
   front-length b h =
-      omega (arith, length-append (take headCells lent) (nodeCells (take b nodes)), length-take-le headCells lent (omega arith), length-nodeCells (take b nodes), length-take-le b nodes (omega arith))
+      omega (arith, length-append (take at lent) (nodeCells (take b nodes)), length-take-le at lent (omega arith), length-nodeCells (take b nodes), length-take-le b nodes (omega arith))
 
   pub node-next : (b : ℕ) (cells : List ℕ) → b < mostNodes → cells ≡ written b
-      → take (place b) cells ++ cellsOfNode (getD nodes b noNode) ++ drop (place b + nodeWidth) cells ≡ written (b + 1)
+      → take (place b) cells ++ cellsOfNode (getD nodes b noNode) ++ drop (place b + nodeCellsWidth) cells ≡ written (b + 1)
   node-next b cells h e =
-      let at = place b in
+      let p = place b in
       let n = cellsOfNode (getD nodes b noNode) in
-      let long : length (front b) ≡ at = front-length b (omega arith) in
-      let next : at + nodeWidth ≡ place (b + 1) = omega arith in
-      let rest : drop (at + nodeWidth) (written b) ≡ drop (at + nodeWidth) lent =
-      ap (λ (k : ℕ). drop (k + nodeWidth) (written b)) (sym long) ∙ (drop-append-add (front b) (drop at lent) nodeWidth ∙ drop-drop nodeWidth at lent) in
-      ap (λ (l : List ℕ). take at l ++ n ++ drop (at + nodeWidth) l) e
-      ∙ (ap₂ (λ (f r : List ℕ). f ++ n ++ r) (take-at (front b) (drop at lent) at long) rest
+      let long : length (front b) ≡ p = front-length b (omega arith) in
+      let next : p + nodeCellsWidth ≡ place (b + 1) = omega arith in
+      let rest : drop (p + nodeCellsWidth) (written b) ≡ drop (p + nodeCellsWidth) lent =
+      ap (λ (k : ℕ). drop (k + nodeCellsWidth) (written b)) (sym long) ∙ (drop-append-add (front b) (drop p lent) nodeCellsWidth ∙ drop-drop nodeCellsWidth p lent) in
+      ap (λ (l : List ℕ). take p l ++ n ++ drop (p + nodeCellsWidth) l) e
+      ∙ (ap₂ (λ (f r : List ℕ). f ++ n ++ r) (take-at (front b) (drop p lent) p long) rest
       ∙ ap₂ (λ (f : List ℕ) (k : ℕ). f ++ drop k lent)
-      (append-assoc (take headCells lent) (nodeCells (take b nodes)) n ∙ ap (λ (l : List ℕ). take headCells lent ++ l) (sym (nodeCells-more nodes b (omega arith)))) next)
+      (append-assoc (take at lent) (nodeCells (take b nodes)) n ∙ ap (λ (l : List ℕ). take at lent ++ l) (sym (nodeCells-more nodes b (omega arith)))) next)
 
   pub node-none : lent ≡ written 0
   unfolding nodeCells
-  node-none = sym (ap (λ (l : List ℕ). l ++ drop headCells lent) (append-nil (take headCells lent)) ∙ take-append-drop headCells lent)
+  node-none =
+      let e : at ≡ at + nodeCellsWidth * 0 = omega arith in
+      sym (take-append-drop at lent) ∙ ap₂ (λ (f : List ℕ) (k : ℕ). f ++ drop k lent) (sym (append-nil (take at lent))) e
 
-  pub node-all : written mostNodes ≡ take headCells lent ++ nodeCells nodes ++ drop readClusterCells lent
-  node-all = ap (λ (l : List Node). take headCells lent ++ nodeCells l ++ drop readClusterCells lent) (take-all mostNodes nodes (omega arith))
+  pub node-all : written mostNodes ≡ take at lent ++ nodeCells nodes ++ drop (at + nodeCellsWidth * mostNodes) lent
+  node-all = ap (λ (l : List Node). take at lent ++ nodeCells l ++ drop (at + nodeCellsWidth * mostNodes) lent) (take-all mostNodes nodes (omega arith))

@@ -1,4 +1,4 @@
--- What reading a cluster answers through C: the number of nodes fits a cell, and the nodes stand after the head.
+-- A cluster that was read or changed has no more nodes than slots, so their number fits a cell.
 -- Assumes nothing.
 use Prim.Native.Nat.{ℕ, _-_, _≤_}
 use mathlib.Core.Path.{_≡_, sym, subst}
@@ -10,8 +10,8 @@ use Rattle.cluster.specs.TermsReading.{slotsOf}
 use Rattle.cluster_record.specs.RecordClusterAnswer.{clusterOutcome, clusterAnswer, readClusterOf}
 use Rattle.cluster_record.specs.declared.ReadCluster.{ReadCluster}
 
--- A cluster that is read has no more nodes than slots.
-slots-few : (t : Topology) → length (slotsOf t .nodes) ≡ mostNodes → slotsOf t .count ≤ mostNodes
+-- The slots of a cluster are 32 in every program.
+pub slots-few : (t : Topology) → length (slotsOf t .nodes) ≡ mostNodes → slotsOf t .count ≤ mostNodes
 unfolding slotsOf
 slots-few t e =
     omega (arith, length-append (t .nodes) (replicate (mostNodes - length (t .nodes)) noNode), length-replicate (mostNodes - length (t .nodes)) noNode)
