@@ -7,9 +7,9 @@
  *
  *   - A slice is a pointer and a number of elements. Each function says how many elements it takes. A slice
  *     with fewer is refused with DEZGHURI_SHORT; of one with more, those beyond are never touched.
- *   - `answer` (and `row` of dezghuri_show_row) is judged first: if it is too short, nothing at all is
- *     touched. In every other outcome all cells of `answer` are written, and a number for which nothing is
- *     said here is 0.
+ *   - `answer` (and `row` of dezghuri_show_row, and `reverse` of dezghuri_change) is judged first: if it is
+ *     too short, nothing at all is touched. In every other outcome all cells of `answer` are written, and a
+ *     number for which nothing is said here is 0.
  *   - Whatever bytes, cells, numbers and lengths come in, a call ends and does nothing undefined, provided
  *     that each pointer is sound: not null (not even with length 0), aligned for its type, with as many
  *     elements behind it as its length says, writable where it is not const; and that no two slices of one
@@ -34,9 +34,9 @@ extern "C" {
 
 /* The version of this header and its library; the number grows from each version to the next. */
 #define DEZGHURI_VERSION_MAJOR 0
-#define DEZGHURI_VERSION_MINOR 4
+#define DEZGHURI_VERSION_MINOR 5
 #define DEZGHURI_VERSION_PATCH 0
-#define DEZGHURI_VERSION "0.4.0"
+#define DEZGHURI_VERSION "0.5.0"
 #define DEZGHURI_VERSION_NUMBER \
     (DEZGHURI_VERSION_MAJOR * 1000000 + DEZGHURI_VERSION_MINOR * 1000 + DEZGHURI_VERSION_PATCH)
 
@@ -58,6 +58,8 @@ extern "C" {
 #define DEZGHURI_CHECK_ANSWER 3
 #define DEZGHURI_FIGURES_ANSWER 5
 #define DEZGHURI_WRITE_LAYOUT_ANSWER 2
+#define DEZGHURI_CHANGE_ANSWER 105
+#define DEZGHURI_REVERSE_BYTES 13       /* the longest field of a change */
 
 /* Longest records, in bytes. */
 #define DEZGHURI_CLUSTER_RECORD_BYTES 9900
@@ -81,6 +83,8 @@ extern "C" {
 #define DEZGHURI_ROW 10         /* a row that is not R rising ids of the cluster and zeros, or a non-zero row from P on */
 #define DEZGHURI_ZONES 11       /* a row in fewer than Z zones */
 #define DEZGHURI_CAPACITY 12    /* a node with more copies than its usable capacity takes at the size */
+#define DEZGHURI_PRESENT 13     /* an id to be added that is there already */
+#define DEZGHURI_ABSENT 14      /* an id to be removed or resized that is not there */
 
 /* Reads a cluster record.
  *
@@ -169,6 +173,25 @@ uint32_t dezghuri_write_layout(uint32_t bits, uint32_t replication, uint32_t siz
                                const uint32_t *assignment, size_t assignment_len,
                                uint8_t *out, size_t out_len,
                                uint32_t *answer, size_t answer_len);
+
+/* Makes one change on the cluster of the record: the one whose field begins at byte `at` of the change
+ * record. The record's former rows play no part.
+ *
+ * changes: the change record, one or more fields; the byte answered is where the next one begins.
+ * reverse, 13 bytes: takes the field of the change that reverses this one, zeros past its length; kept when
+ * refused. Made in backward order, the reverses bring back the cluster.
+ * answer, 105 cells: 0, 1 the byte of a refused reading (high, low); 2, 3 the byte after the change (high,
+ * low); 4 the length of the reverse; 5 bits; 6 replication; 7 redundancy; 8 number of nodes; then for node b
+ * its id, zone and capacity at 9 + 3 b, zeros for nodes not in use. Refused, the byte in 2, 3 is `at`, the
+ * length is 0, and the cluster is as it was read; with a refused reading it is the one with no nodes, as
+ * dezghuri_read_cluster.
+ * Refusals: 1 to 7 of the reading; then 7, `at` at or past the end of changes; 1, 2 or 3 of the field; 4, id
+ * 0; 13, an id to be added that is there; 14, an id to be removed or resized that is not; 6, a 33rd node. */
+uint32_t dezghuri_change(const uint8_t *record, size_t record_len,
+                         const uint8_t *changes, size_t changes_len,
+                         size_t at,
+                         uint8_t *reverse, size_t reverse_len,
+                         uint32_t *answer, size_t answer_len);
 
 #ifdef __cplusplus
 }
