@@ -52,17 +52,11 @@ impl Cluster {
         let mut answer = [0; ffi::READ_CLUSTER_ANSWER];
         let refusal = ffi::read_cluster(record, former.cells_mut(), &mut answer);
         judge(refusal, Some(wide(answer[0], answer[1])), None)?;
-        let node = |cells: &[u32]| Node {
-            id: cells[0],
-            zone: narrow(cells[1]),
-            capacity: cells[2],
-        };
-        let nodes = answer[6..].chunks(3).take(answer[5] as usize);
         Ok(Cluster {
             bits: narrow(answer[2]),
             replication: narrow(answer[3]),
             redundancy: narrow(answer[4]),
-            nodes: nodes.map(node).collect(),
+            nodes: nodes(answer[5], &answer[6..]),
             former,
         })
     }
@@ -76,8 +70,26 @@ impl Cluster {
         record
     }
 
+    /// The record without the former rows.
+    pub(crate) fn to_record_of_nodes(&self) -> Vec<u8> {
+        let fields = self.fields_of_nodes().into_iter();
+        fields.flat_map(|(_, bytes)| bytes).collect()
+    }
+
     /// The fields of the record in order, each with what it holds.
     fn fields(&self) -> Vec<(Place, Vec<u8>)> {
+        let mut fields = self.fields_of_nodes();
+        for (partition, ids) in self.former.rows() {
+            let number = u16::from(partition).to_be_bytes();
+            let ids: Vec<u8> = ids.iter().flat_map(|id| id.to_be_bytes()).collect();
+            let row = field(tag::FORMER_ROW, &[&number, &ids]);
+            fields.push((Place::FormerRow(partition), row));
+        }
+        fields
+    }
+
+    /// The fields that come before the former rows.
+    fn fields_of_nodes(&self) -> Vec<(Place, Vec<u8>)> {
         let mut fields = vec![
             (Place::Bits, field(tag::BITS, &[&[self.bits]])),
             (
@@ -90,13 +102,8 @@ impl Cluster {
             ),
         ];
         for (index, node) in self.nodes.iter().enumerate() {
-            fields.push((Place::NodeAt { index, id: node.id }, node.field()));
-        }
-        for (partition, ids) in self.former.rows() {
-            let number = u16::from(partition).to_be_bytes();
-            let ids: Vec<u8> = ids.iter().flat_map(|id| id.to_be_bytes()).collect();
-            let row = field(tag::FORMER_ROW, &[&number, &ids]);
-            fields.push((Place::FormerRow(partition), row));
+            let place = Place::NodeAt { index, id: node.id };
+            fields.push((place, field(tag::NODE, &[&node.body()])));
         }
         fields
     }
@@ -154,16 +161,28 @@ impl Node {
         self.capacity - self.capacity / 16
     }
 
-    fn field(&self) -> Vec<u8> {
+    /// The body of a field that holds this node: id, zone and capacity.
+    pub(crate) fn body(&self) -> Vec<u8> {
         let id = self.id.to_be_bytes();
         let zone = self.zone.to_be_bytes();
         let capacity = self.capacity.to_be_bytes();
-        field(tag::NODE, &[&id, &zone, &capacity])
+        [&id[..], &zone, &capacity].concat()
     }
 }
 
+/// So many nodes, each of three cells of an answer: id, zone and capacity.
+pub(crate) fn nodes(number: u32, cells: &[u32]) -> Vec<Node> {
+    let node = |cells: &[u32]| Node {
+        id: cells[0],
+        zone: narrow(cells[1]),
+        capacity: cells[2],
+    };
+    let nodes = cells.chunks(3).take(number as usize);
+    nodes.map(node).collect()
+}
+
 /// A field: its tag, the length of its body in two bytes, its body.
-fn field(tag: u8, body: &[&[u8]]) -> Vec<u8> {
+pub(crate) fn field(tag: u8, body: &[&[u8]]) -> Vec<u8> {
     let body = body.concat();
     let length = u16::try_from(body.len()).expect("the longest body, a former row, has 34 bytes");
     let mut bytes = vec![tag];

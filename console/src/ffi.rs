@@ -23,6 +23,10 @@ pub const CHECK_ANSWER: usize = 3;
 pub const FIGURES_ANSWER: usize = 5;
 /// Least length of [`write_layout`]'s answer.
 pub const WRITE_LAYOUT_ANSWER: usize = 2;
+/// Least length of [`change`]'s answer.
+pub const CHANGE_ANSWER: usize = 105;
+/// Least length of [`change`]'s reverse: that of the longest field of a change.
+pub const REVERSE_BYTES: usize = 13;
 /// Length of the longest cluster record.
 pub const CLUSTER_RECORD_BYTES: usize = 9900;
 /// Length of the longest layout record.
@@ -101,6 +105,18 @@ mod c {
             assignment_len: usize,
             out: *mut u8,
             out_len: usize,
+            answer: *mut u32,
+            answer_len: usize,
+        ) -> u32;
+
+        pub fn dezghuri_change(
+            record: *const u8,
+            record_len: usize,
+            changes: *const u8,
+            changes_len: usize,
+            at: usize,
+            reverse: *mut u8,
+            reverse_len: usize,
             answer: *mut u32,
             answer_len: usize,
         ) -> u32;
@@ -254,6 +270,32 @@ pub fn write_layout(n: Numbers, assignment: &[u32], out: &mut [u8], answer: &mut
             assignment.len(),
             out.as_mut_ptr(),
             out.len(),
+            answer.as_mut_ptr(),
+            answer.len(),
+        )
+    }
+}
+
+/// Makes the change at a byte of `changes` on the cluster of a record: the field that reverses it into
+/// `reverse`, the cluster and the next byte into `answer`.
+pub fn change(
+    record: &[u8],
+    changes: &[u8],
+    at: usize,
+    reverse: &mut [u8],
+    answer: &mut [u32],
+) -> u32 {
+    // SAFETY: each pointer and length are those of one live slice, and no slice lent by `&mut`
+    // overlaps another.
+    unsafe {
+        c::dezghuri_change(
+            record.as_ptr(),
+            record.len(),
+            changes.as_ptr(),
+            changes.len(),
+            at,
+            reverse.as_mut_ptr(),
+            reverse.len(),
             answer.as_mut_ptr(),
             answer.len(),
         )

@@ -8,14 +8,18 @@
 //! fewer copies to be sent ([`Plan::sent`]), and of those that need as few it comes before all others,
 //! rows compared from partition 0 on and ids from the left, the smaller first.
 //!
-//! Plans, checks, figures and records are the work of the C functions of `include/dezghuri.h`,
-//! whose contracts are proved; this library lends them their buffers and names their answers.
-//! [`ffi`] has them one for one.
+//! Before planning, changes of the nodes are made on the cluster in hand: [`Cluster::change`] makes one
+//! [`Change`] and answers the one that reverses it, so that they can be undone in backward order.
+//!
+//! Plans, checks, figures, changes and records are the work of the C functions of
+//! `include/dezghuri.h`, whose contracts are proved; this library lends them their buffers and names
+//! their answers. [`ffi`] has them one for one.
 //!
 //! The rest is plain Rust around them. [`Description`] reads the text file in which an owner
-//! describes a cluster. [`Layout::diff`] and [`Cluster::transfers`] tell what changes place between
-//! two layouts, [`Cluster::losses`] which partitions had their last copies on nodes that are gone,
-//! and [`Cluster::counts`] why the size is no larger.
+//! describes a cluster, and [`Description::rewritten`] writes it anew for other boxes.
+//! [`Layout::diff`] and [`Cluster::transfers`] tell what changes place between two layouts,
+//! [`Cluster::losses`] which partitions had their last copies on nodes that are gone, and
+//! [`Cluster::counts`] why the size is no larger.
 //!
 //! ```
 //! use dezghuri::{Cluster, Layout, Node, Verdict};
@@ -41,6 +45,7 @@
 
 #![deny(unsafe_code, missing_docs)]
 
+mod change;
 mod check;
 mod cluster;
 mod counts;
@@ -52,8 +57,10 @@ mod layout;
 mod losses;
 mod plan;
 mod refusal;
+mod rewrite;
 pub mod units;
 
+pub use change::{Change, Changed, Staged};
 pub use check::Figures;
 pub use cluster::{Cluster, Node};
 pub use counts::{Counts, Unused};

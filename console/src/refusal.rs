@@ -33,10 +33,14 @@ pub enum Refusal {
     /// 12: a node holds more copies than its usable capacity takes
     /// ([`Node::usable`](crate::Node::usable)).
     Capacity = 12,
+    /// 13: a node is to be added whose id is there already.
+    Present = 13,
+    /// 14: a node is to be removed or resized whose id is not there.
+    Absent = 14,
 }
 
 /// Each refusal with its meaning, in the order of the numbers from 1 on.
-const MEANINGS: [(Refusal, &str); 12] = [
+const MEANINGS: [(Refusal, &str); 14] = [
     (
         Refusal::Cut,
         "one or two bytes left, or a field's body cut short",
@@ -64,6 +68,11 @@ const MEANINGS: [(Refusal, &str); 12] = [
         Refusal::Capacity,
         "a node with more copies than its usable capacity takes at the size",
     ),
+    (Refusal::Present, "an id to be added that is there already"),
+    (
+        Refusal::Absent,
+        "an id to be removed or resized that is not there",
+    ),
 ];
 
 impl Refusal {
@@ -73,7 +82,7 @@ impl Refusal {
         MEANINGS.get(place).map(|(refusal, _)| *refusal)
     }
 
-    /// The paper's number, 1 to 12.
+    /// The paper's number, 1 to 14.
     pub fn number(self) -> u32 {
         self as u32
     }
@@ -120,7 +129,8 @@ impl fmt::Display for Refusal {
 #[derive(Clone, Copy, Debug, PartialEq, Eq, Hash)]
 #[non_exhaustive]
 pub enum Place {
-    /// The byte of the record at which the faulty field begins, or the record's length.
+    /// The byte of the record at which the faulty field begins, or the record's length; of a refused
+    /// change, the byte that was given.
     Byte(u64),
     /// The partition bits of a cluster.
     Bits,
@@ -179,8 +189,8 @@ impl fmt::Display for Refused {
 
 impl Error for Refused {}
 
-/// The result of a call that answered this refusal number: the byte goes with a fault of a record,
-/// the place with a fault of a layout, where the call answers them.
+/// The result of a call that answered this refusal number: the byte goes with a fault of a record or
+/// of a change, the place with a fault of a layout, where the call answers them.
 pub(crate) fn judge(number: u32, byte: Option<u64>, place: Option<u32>) -> Result<(), Refused> {
     if number == 0 {
         return Ok(());
@@ -189,6 +199,7 @@ pub(crate) fn judge(number: u32, byte: Option<u64>, place: Option<u32>) -> Resul
     let place = match refusal {
         Refusal::Row | Refusal::Zones => place.map(Place::Partition),
         Refusal::Capacity => place.map(Place::Node),
+        Refusal::Present | Refusal::Absent => byte.map(Place::Byte),
         _ if refusal <= Refusal::Missing => byte.map(Place::Byte),
         _ => None,
     };
@@ -206,12 +217,12 @@ mod tests {
 
     #[test]
     fn numbers_and_refusals_are_one_for_one() {
-        for number in 1..=12 {
+        for number in 1..=14 {
             let refusal = Refusal::from_number(number).unwrap();
             assert_eq!(refusal.number(), number);
             assert_eq!(Refusal::try_from(u32::from(refusal)), Ok(refusal));
         }
-        for number in [0, 13, 19, u32::MAX] {
+        for number in [0, 15, 19, u32::MAX] {
             assert_eq!(Refusal::from_number(number), None);
             assert_eq!(Refusal::try_from(number), Err(NoRefusal(number)));
         }
@@ -230,6 +241,16 @@ mod tests {
         assert_eq!(zones.place, Some(Place::Partition(7)));
         let full = judge(12, Some(0), Some(7)).unwrap_err();
         assert_eq!(full.place, Some(Place::Node(7)));
+        let present = judge(13, Some(20), None).unwrap_err();
+        assert_eq!(
+            present.to_string(),
+            "an id to be added that is there already, at byte 20 (refused 13)"
+        );
+        let absent = judge(14, Some(0), None).unwrap_err();
+        assert_eq!(
+            absent.to_string(),
+            "an id to be removed or resized that is not there, at byte 0 (refused 14)"
+        );
         assert_eq!(judge(0, Some(0), Some(0)), Ok(()));
     }
 

@@ -34,6 +34,23 @@ pub fn megabytes(word: &str) -> Result<u32, String> {
     })
 }
 
+/// A capacity as owners write it: the number with the largest unit in which it is whole.
+///
+/// ```
+/// use dezghuri::units::{capacity_in_words, megabytes};
+///
+/// assert_eq!(capacity_in_words(1_500_000), "1500G");
+/// assert_eq!(megabytes("1500G"), Ok(1_500_000));
+/// ```
+pub fn capacity_in_words(megabytes: u32) -> String {
+    match megabytes {
+        0 => "0".into(),
+        n if n % 1_000_000 == 0 => format!("{}T", n / 1_000_000),
+        n if n % 1_000 == 0 => format!("{}G", n / 1_000),
+        n => format!("{n}M"),
+    }
+}
+
 /// Whether the word is a unit that stands apart from its number.
 pub(crate) fn is_unit(word: &str) -> bool {
     let units = ["M", "MB", "MIB", "G", "GB", "GIB", "T", "TB", "TIB"];
@@ -153,6 +170,13 @@ mod tests {
             "99999999999999999999T",
         ] {
             assert!(megabytes(word).is_err(), "{word}");
+        }
+    }
+
+    #[test]
+    fn capacities_are_told_as_they_are_written() {
+        for word in ["0", "7M", "1500G", "8T", "1001M", "4294967295M"] {
+            assert_eq!(capacity_in_words(megabytes(word).unwrap()), word);
         }
     }
 

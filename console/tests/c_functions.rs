@@ -72,6 +72,8 @@ fn the_header_has_the_numbers_of_the_library() {
         ("CHECK_ANSWER", ffi::CHECK_ANSWER),
         ("FIGURES_ANSWER", ffi::FIGURES_ANSWER),
         ("WRITE_LAYOUT_ANSWER", ffi::WRITE_LAYOUT_ANSWER),
+        ("CHANGE_ANSWER", ffi::CHANGE_ANSWER),
+        ("REVERSE_BYTES", ffi::REVERSE_BYTES),
         ("CLUSTER_RECORD_BYTES", ffi::CLUSTER_RECORD_BYTES),
         ("LAYOUT_RECORD_BYTES", ffi::LAYOUT_RECORD_BYTES),
         ("ENOUGH_ALLOWANCE", usize::from(ENOUGH)),
@@ -92,6 +94,8 @@ fn the_header_has_the_numbers_of_the_library() {
         ("ROW", Refusal::Row),
         ("ZONES", Refusal::Zones),
         ("CAPACITY", Refusal::Capacity),
+        ("PRESENT", Refusal::Present),
+        ("ABSENT", Refusal::Absent),
     ];
     for (name, refusal) in refusals {
         assert_eq!(defined(&header, name), refusal.number(), "{name}");

@@ -1,8 +1,9 @@
 //! Unverified programs that the proved planner is compared with, each written from the papers and
 //! from nothing else: a listing of all layouts, a planner by the report's own method, a planner by
-//! the method of exchanges, a parser, and what the papers say of lent cells.
+//! the method of exchanges, a parser, changes of the nodes, and what the papers say of lent cells.
 
 pub mod cells;
+pub mod changes;
 mod dealing;
 pub mod exchanges;
 pub mod listing;
@@ -23,6 +24,14 @@ impl Node {
     /// The megabytes that copies may take: the capacity less a sixteenth of it, rounded down.
     pub fn usable(&self) -> u32 {
         self.capacity - self.capacity / 16
+    }
+
+    /// The body of a field that holds it.
+    fn body(&self) -> Vec<u8> {
+        let mut body = self.id.to_be_bytes().to_vec();
+        body.extend(self.zone.to_be_bytes());
+        body.extend(self.capacity.to_be_bytes());
+        body
     }
 }
 

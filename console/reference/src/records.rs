@@ -6,9 +6,9 @@ use crate::{Cluster, Layout, Node};
 pub type Refused = (u32, usize);
 
 /// The fields of a record, one after the other.
-struct Fields<'a> {
-    bytes: &'a [u8],
-    at: usize,
+pub(crate) struct Fields<'a> {
+    pub bytes: &'a [u8],
+    pub at: usize,
 }
 
 impl<'a> Fields<'a> {
@@ -17,7 +17,7 @@ impl<'a> Fields<'a> {
     }
 
     /// The next field's tag, body and first byte; `due` judges the tag, and `legal` tag and length.
-    fn next(
+    pub fn next(
         &mut self,
         due: impl Fn(u8) -> bool,
         legal: impl Fn(u8, usize) -> bool,
@@ -42,7 +42,7 @@ impl<'a> Fields<'a> {
     }
 }
 
-fn number(bytes: &[u8]) -> u64 {
+pub(crate) fn number(bytes: &[u8]) -> u64 {
     bytes.iter().fold(0, |n, b| n << 8 | *b as u64)
 }
 
@@ -224,7 +224,7 @@ pub fn read_layout(bytes: &[u8]) -> Result<(Numbers, Layout), Refused> {
     Ok((numbers, layout))
 }
 
-fn field(out: &mut Vec<u8>, tag: u8, body: &[u8]) {
+pub(crate) fn field(out: &mut Vec<u8>, tag: u8, body: &[u8]) {
     out.push(tag);
     out.extend((body.len() as u16).to_be_bytes());
     out.extend(body);
@@ -243,10 +243,7 @@ pub fn cluster_record(c: &Cluster, former: &Layout) -> Vec<u8> {
     field(&mut out, 2, &[c.replication as u8]);
     field(&mut out, 3, &[c.redundancy as u8]);
     for n in &c.nodes {
-        let mut body = n.id.to_be_bytes().to_vec();
-        body.extend(n.zone.to_be_bytes());
-        body.extend(n.capacity.to_be_bytes());
-        field(&mut out, 4, &body);
+        field(&mut out, 4, &n.body());
     }
     for (p, row) in former.iter().enumerate().filter(|(_, r)| !r.is_empty()) {
         field(&mut out, 5, &row_body(p, row));

@@ -31,6 +31,13 @@ static const uint8_t LAYOUT[63] = {
     10, 0, 14, 0, 1, 0, 0, 0, 1, 0, 0, 0, 2, 0, 0, 0, 3,
 };
 
+/* Changes of its nodes: node 5 in zone 2 with 80 MB is added, node 1 removed, node 3 resized to 90 MB. */
+static const uint8_t CHANGES[31] = {
+    20, 0, 10, 0, 0, 0, 5, 0, 2, 0, 0, 0, 80,
+    21, 0, 4, 0, 0, 0, 1,
+    22, 0, 8, 0, 0, 0, 3, 0, 0, 0, 90,
+};
+
 /* What the buffers are filled with before a call; each has one cell more than it needs. */
 #define PATTERN 0xA5A5A5A5u
 enum {
@@ -38,11 +45,15 @@ enum {
     SCRATCH = DEZGHURI_SCRATCH_CELLS,
     FIGURES = DEZGHURI_FIGURES_CELLS,
     ANSWER = DEZGHURI_READ_CLUSTER_ANSWER,
+    REVERSE = DEZGHURI_REVERSE_BYTES,
+    MADE = DEZGHURI_CHANGE_ANSWER,
 };
 static uint32_t cells[CELLS + 1];
 static uint32_t scratch[SCRATCH + 1];
 static uint32_t figures[FIGURES + 1];
 static uint32_t answer[ANSWER + 1];
+static uint8_t reverse[REVERSE + 1];
+static uint32_t made[MADE + 1];
 
 static void fill(uint32_t *buffer, size_t length) {
     for (size_t i = 0; i < length; i++) buffer[i] = PATTERN;
@@ -89,6 +100,34 @@ static uint32_t write(uint32_t replication, uint32_t size, uint32_t sent, uint8_
     fill(answer, ANSWER + 1);
     return dezghuri_write_layout(1, replication, size, sent, DEZGHURI_FINISHED, 0, cells, CELLS,
                                  out, room, answer, DEZGHURI_WRITE_LAYOUT_ANSWER);
+}
+
+static uint32_t change(const uint8_t *record, size_t length, const uint8_t *changes, size_t changes_len,
+                       size_t at) {
+    memset(reverse, 0x5A, REVERSE + 1);
+    fill(made, MADE + 1);
+    return dezghuri_change(record, length, changes, changes_len, at, reverse, REVERSE, made, MADE);
+}
+
+/* The record of the cluster in `made`, which has no former rows; its length. */
+static size_t record_made(uint8_t *record) {
+    size_t length = 0;
+    for (uint32_t i = 0; i < 3; i++) {
+        const uint8_t field[4] = {(uint8_t)(i + 1), 0, 1, (uint8_t)made[5 + i]};
+        memcpy(record + length, field, 4);
+        length += 4;
+    }
+    for (uint32_t b = 0; b < made[8]; b++) {
+        const uint32_t id = made[9 + 3 * b], zone = made[10 + 3 * b], capacity = made[11 + 3 * b];
+        const uint8_t field[13] = {
+            4, 0, 10, (uint8_t)(id >> 24), (uint8_t)(id >> 16), (uint8_t)(id >> 8), (uint8_t)id,
+            (uint8_t)(zone >> 8), (uint8_t)zone, (uint8_t)(capacity >> 24), (uint8_t)(capacity >> 16),
+            (uint8_t)(capacity >> 8), (uint8_t)capacity,
+        };
+        memcpy(record + length, field, 13);
+        length += 13;
+    }
+    return length;
 }
 
 static void reading_a_cluster(void) {
@@ -188,6 +227,63 @@ static void most_copies_sent(void) {
     EXPECT(answer[0] == 0 && answer[1] == 15 && all(answer, 2, 8, 0));
 }
 
+/* Each cluster made becomes the record of the next call; the reverses, made in backward order, restore the
+ * first one byte for byte. */
+static void changing_and_undoing(void) {
+    static const uint32_t last[18] = {0, 0, 0, 31, 11, 1, 3, 2, 3, 2, 1, 70, 3, 2, 90, 5, 2, 80};
+    static const uint8_t removed[REVERSE] = {20, 0, 10, 0, 0, 0, 1, 0, 1, 0, 0, 0, 100};
+    static const uint8_t resized[REVERSE] = {22, 0, 8, 0, 0, 0, 3, 0, 0, 0, 50, 0, 0};
+    uint8_t record[12 + 13 * 4], reverses[3][REVERSE];
+    size_t lengths[3], length = 51, at = 0;
+    memcpy(record, CLUSTER, 51);
+    for (int i = 0; i < 3; i++) {
+        EXPECT(change(record, length, CHANGES, 31, at) == DEZGHURI_OK);
+        EXPECT(reverse[REVERSE] == 0x5A && made[MADE] == PATTERN);
+        memcpy(reverses[i], reverse, REVERSE);
+        lengths[i] = made[4];
+        at = made[3];
+        length = record_made(record);
+    }
+    EXPECT(holds(made, last, 18) && all(made, 18, MADE, 0));
+    EXPECT(memcmp(reverses[1], removed, REVERSE) == 0);
+    EXPECT(memcmp(reverses[2], resized, REVERSE) == 0);
+    for (int i = 2; i >= 0; i--) {
+        EXPECT(change(record, length, reverses[i], lengths[i], 0) == DEZGHURI_OK);
+        EXPECT(made[2] == 0 && made[3] == lengths[i]);
+        length = record_made(record);
+    }
+    EXPECT(length == 51 && memcmp(record, CLUSTER, 51) == 0);
+}
+
+static int kept(void) {
+    for (size_t i = 0; i < REVERSE + 1; i++)
+        if (reverse[i] != 0x5A) return 0;
+    return made[MADE] == PATTERN;
+}
+
+static void refused_changes(void) {
+    static const uint32_t read[18] = {0, 0, 0, 13, 0, 1, 3, 2, 3, 1, 1, 100, 2, 1, 70, 3, 2, 50};
+    static const uint32_t none[9] = {0, 38, 0, 13, 0, 0, 1, 1, 0};
+    uint8_t changes[31];
+    memcpy(changes, CHANGES, 31);
+    changes[6] = 3;
+    EXPECT(change(CLUSTER, 51, changes, 31, 0) == DEZGHURI_PRESENT && made[3] == 0 && kept());
+    changes[19] = 4;
+    EXPECT(change(CLUSTER, 51, changes, 31, 13) == DEZGHURI_ABSENT && kept());
+    EXPECT(holds(made, read, 18) && all(made, 18, MADE, 0));
+    EXPECT(change(CLUSTER, 51, changes, 30, 20) == DEZGHURI_CUT && made[3] == 20 && kept());
+    EXPECT(change(CLUSTER, 51, changes, 31, 31) == DEZGHURI_MISSING && made[3] == 31 && kept());
+    EXPECT(change(CLUSTER, 51, changes, 31, SIZE_MAX) == DEZGHURI_MISSING && kept());
+    EXPECT(made[2] == SIZE_MAX >> 16 >> 16 && made[3] == 0xFFFFFFFF);
+    EXPECT(change(CLUSTER, 50, changes, 31, 13) == DEZGHURI_CUT && kept());
+    EXPECT(holds(made, none, 9) && all(made, 9, MADE, 0));
+
+    fill(made, MADE + 1);
+    EXPECT(dezghuri_change(CLUSTER, 51, CHANGES, 31, 0, reverse, REVERSE - 1, made, MADE) == DEZGHURI_SHORT);
+    EXPECT(dezghuri_change(CLUSTER, 51, CHANGES, 31, 0, reverse, REVERSE, made, MADE - 1) == DEZGHURI_SHORT);
+    EXPECT(kept() && all(made, 0, MADE + 1, PATTERN));
+}
+
 int main(void) {
     reading_a_cluster();
     planning();
@@ -195,5 +291,7 @@ int main(void) {
     a_layout_in_hand();
     writing();
     most_copies_sent();
+    changing_and_undoing();
+    refused_changes();
     return faults != 0;
 }

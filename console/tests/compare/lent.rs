@@ -96,28 +96,41 @@ pub fn read_cluster(record: &[u8], r: &mut Random) -> Result<(Cluster, Vec<u32>)
     let refusal = ffi::read_cluster(record, &mut former, &mut answer);
     kept(&former, &lent.0, if refusal == 0 { CELLS } else { 0 });
     kept(&answer, &lent.1, ffi::READ_CLUSTER_ANSWER);
-    let answer = &answer[..ffi::READ_CLUSTER_ANSWER];
+    let cluster = cluster_of(&answer[2..ffi::READ_CLUSTER_ANSWER]);
     if refusal != 0 {
-        assert_eq!(answer[2..6], [0, 1, 1, 0], "the cluster with no nodes");
-        assert!(answer[6..].iter().all(|cell| *cell == 0));
-        return Err((refusal, byte(answer)));
+        assert_eq!(cluster, no_nodes(), "the cluster of a refusal");
+        return Err((refusal, byte(&answer)));
     }
-    assert_eq!(byte(answer), 0, "the byte of an accepted record");
-    let (used, unused) = answer[6..].split_at(3 * answer[5] as usize);
+    assert_eq!(byte(&answer), 0, "the byte of an accepted record");
+    former.truncate(CELLS);
+    Ok((cluster, former))
+}
+
+/// The cluster that a refused reading answers.
+pub fn no_nodes() -> Cluster {
+    Cluster {
+        bits: 0,
+        replication: 1,
+        redundancy: 1,
+        nodes: Vec::new(),
+    }
+}
+
+/// The cluster of the cells of an answer: three numbers, that of the nodes, and the nodes.
+fn cluster_of(cells: &[u32]) -> Cluster {
+    let (used, unused) = cells[4..].split_at(3 * cells[3] as usize);
     assert!(unused.iter().all(|cell| *cell == 0), "unused nodes");
     let node = |cells: &[u32]| reference::Node {
         id: cells[0],
         zone: cells[1].try_into().expect("a zone has 16 bits"),
         capacity: cells[2],
     };
-    let cluster = Cluster {
-        bits: answer[2],
-        replication: answer[3] as usize,
-        redundancy: answer[4] as usize,
+    Cluster {
+        bits: cells[0],
+        replication: cells[1] as usize,
+        redundancy: cells[2] as usize,
         nodes: used.chunks(3).map(node).collect(),
-    };
-    former.truncate(CELLS);
-    Ok((cluster, former))
+    }
 }
 
 /// Reads a layout; refused, the refusal and the byte.
@@ -207,4 +220,40 @@ pub fn write_layout(
     }
     out.truncate(length);
     Ok(out)
+}
+
+/// What making a change answers.
+#[derive(Clone, Debug, PartialEq, Eq)]
+pub struct Changed {
+    pub refusal: u32,
+    /// The byte of a refused reading.
+    pub read: u64,
+    /// The next byte, or the given one.
+    pub byte: u64,
+    pub reverse: Vec<u8>,
+    pub cluster: Cluster,
+}
+
+/// Makes the change at a byte on the cluster of a record.
+pub fn change(record: &[u8], changes: &[u8], at: usize, r: &mut Random) -> Changed {
+    let room = ffi::REVERSE_BYTES as u64 + r.below(4);
+    let lent: Vec<u8> = (0..room).map(|_| r.number() as u8 | 1).collect();
+    let lent_answer = lend(ffi::CHANGE_ANSWER, r);
+    let (mut reverse, mut answer) = (lent.clone(), lent_answer.clone());
+    let refusal = ffi::change(record, changes, at, &mut reverse, &mut answer);
+    kept(&answer, &lent_answer, ffi::CHANGE_ANSWER);
+    let written = if refusal == 0 { ffi::REVERSE_BYTES } else { 0 };
+    kept(&reverse, &lent, written);
+    let length = answer[4] as usize;
+    assert_eq!(length > 0, refusal == 0, "the length of a reverse");
+    let rest = &reverse[length..written.max(length)];
+    assert!(rest.iter().all(|byte| *byte == 0), "past the reverse");
+    reverse.truncate(length);
+    Changed {
+        refusal,
+        read: byte(&answer),
+        byte: byte(&answer[2..]),
+        reverse,
+        cluster: cluster_of(&answer[5..ffi::CHANGE_ANSWER]),
+    }
 }

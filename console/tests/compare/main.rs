@@ -1,9 +1,11 @@
 //! The C functions compared with unverified programs, each written from the papers alone: a listing
-//! of all layouts, the report's method, a parser, and what the papers say of lent cells.
+//! of all layouts, the report's method, a parser, changes of the nodes, and what the papers say of lent
+//! cells.
 //!
 //! Every run tries the same cases. `make soak` tries many more: the tests that are ignored here.
 
 mod cells;
+mod changes;
 mod clusters;
 mod counts;
 mod cycles;

@@ -41,7 +41,7 @@ fn any_cluster(r: &mut Random) -> (Cluster, Layout) {
 }
 
 /// So many rising ids.
-fn ids(number: u64, r: &mut Random) -> Vec<u32> {
+pub fn ids(number: u64, r: &mut Random) -> Vec<u32> {
     let mut ids: Vec<u32> = Vec::new();
     while (ids.len() as u64) < number {
         let id = r.number() as u32 >> r.below(32);
@@ -75,7 +75,7 @@ fn any_layout(r: &mut Random) -> (Numbers, Layout) {
 }
 
 /// A record that something has happened to.
-fn damaged(mut record: Vec<u8>, r: &mut Random) -> Vec<u8> {
+pub fn damaged(mut record: Vec<u8>, r: &mut Random) -> Vec<u8> {
     for _ in 0..r.between(0, 2) {
         let length = record.len() as u64;
         match r.below(8) {
