@@ -4,18 +4,25 @@ _dezghuri() {
     local word=${COMP_WORDS[COMP_CWORD]} before=${COMP_WORDS[COMP_CWORD - 1]} options=
     COMPREPLY=()
     if [ "$COMP_CWORD" -eq 1 ]; then
-        mapfile -t COMPREPLY < <(compgen -W 'plan check show diff what-if report record help --version' -- "$word")
+        mapfile -t COMPREPLY < <(compgen -W 'plan check show diff what-if stage undo apply report record help --version' -- "$word")
         return
     fi
     case $before in
         --allowance | --box | --add | --remove | --resize) return ;;
     esac
+    # After the file come the words of a change, and no more files.
+    if [ "${COMP_WORDS[1]}" = stage ] && [ "$COMP_CWORD" -ge 3 ] && [ "${word:0:1}" != - ]; then
+        [ "$COMP_CWORD" -ne 3 ] || mapfile -t COMPREPLY < <(compgen -W 'add remove resize show' -- "$word")
+        return
+    fi
     case ${COMP_WORDS[1]} in
-        plan) options='--former --out --allowance --replace --record --json --help' ;;
-        check | diff) options='--json --help' ;;
-        show) options='--box --all --json --help' ;;
+        plan) options='--staged --former --out --allowance --replace --record --json --help' ;;
+        check | diff) options='--staged --json --help' ;;
+        show) options='--box --all --staged --json --help' ;;
         what-if) options='--former --add --remove --resize --json --help' ;;
-        report | record) options='--former --out --help' ;;
+        stage | undo | apply) options='--json --help' ;;
+        report) options='--staged --former --out --help' ;;
+        record) options='--former --out --help' ;;
     esac
     case $word in
         -*) mapfile -t COMPREPLY < <(compgen -W "$options" -- "$word") ;;

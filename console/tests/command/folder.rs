@@ -85,6 +85,17 @@ impl Folder {
         finish(&mut command)
     }
 
+    /// Calls it with a library that ends it at this step; whether it ended by itself before.
+    pub fn call_cut(&self, words: &str, library: &Path, step: usize) -> bool {
+        let mut command = self.command();
+        command.args(words.split_whitespace());
+        command
+            .env("LD_PRELOAD", library)
+            .env("CUT_AT", step.to_string());
+        let output = command.output().expect("the command is built");
+        output.status.code().is_some()
+    }
+
     fn command(&self) -> Command {
         let mut command = Command::new(BINARY);
         command.current_dir(&self.0);

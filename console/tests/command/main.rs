@@ -13,6 +13,7 @@ mod replaced;
 mod report;
 mod sent;
 mod shown;
+mod staged;
 mod told;
 mod tried;
 mod why;
@@ -484,6 +485,6 @@ fn help_and_version_are_printed() {
     for line in ["--version", "-V", "version"] {
         let version = folder.call(line);
         assert_eq!((version.status, version.err.as_str()), (0, ""), "{line}");
-        assert_eq!(version.out, "dezghuri 0.4.0\n", "{line}");
+        assert_eq!(version.out, "dezghuri 0.5.0\n", "{line}");
     }
 }

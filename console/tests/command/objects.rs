@@ -146,6 +146,9 @@ fn every_name_is_in_the_document() {
         include_str!("show-all.json"),
         include_str!("diff.json"),
         include_str!("what-if.json"),
+        include_str!("staged/stage.json"),
+        include_str!("staged/undo.json"),
+        include_str!("staged/apply.json"),
     ] {
         names(&read(stored), &mut found);
     }
@@ -245,6 +248,10 @@ fn another_program_reads_the_objects() {
         "plan b\u{fc}ro.txt --json",
         "plan nowhere\u{fc} --json",
         "what-if home.txt --former old --remove 2 --remove 3 --json",
+        "stage home.txt add 77 b\u{fc}ro 4T \"the\\ --json",
+        "stage home.txt --json",
+        "apply home.txt --json",
+        "undo home.txt --json",
     ] {
         let done = folder.call(line);
         folder.write("object", &done.out);

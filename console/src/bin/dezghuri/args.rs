@@ -1,5 +1,7 @@
 //! The words that the command is called with.
 
+mod staging;
+
 use crate::units;
 use std::ffi::OsString;
 use std::path::PathBuf;
@@ -17,27 +19,21 @@ pub struct Call {
 pub enum Command {
     Help,
     Version,
-    Plan {
-        file: PathBuf,
-        former: Option<PathBuf>,
-        out: Option<PathBuf>,
-        allowance: u16,
-        replace: bool,
-    },
+    Plan(Plan),
     PlanRecord {
         record: PathBuf,
     },
     Check {
-        file: PathBuf,
+        source: Source,
         layout: PathBuf,
     },
     Show {
-        file: PathBuf,
+        source: Source,
         layout: PathBuf,
         what: Shown,
     },
     Diff {
-        file: PathBuf,
+        source: Source,
         old: PathBuf,
         new: PathBuf,
     },
@@ -46,17 +42,61 @@ pub enum Command {
         former: Option<PathBuf>,
         changes: Vec<Change>,
     },
-    Report {
-        file: PathBuf,
-        layout: Option<PathBuf>,
-        former: Option<PathBuf>,
-        out: PathBuf,
-    },
+    Report(Report),
     Record {
         file: PathBuf,
         former: Option<PathBuf>,
         out: Option<PathBuf>,
     },
+    Stage {
+        file: PathBuf,
+        staging: Staging,
+    },
+    Undo {
+        file: PathBuf,
+    },
+    Apply {
+        file: PathBuf,
+    },
+}
+
+/// A plan of the cluster of a file.
+#[derive(Debug, PartialEq, Eq)]
+pub struct Plan {
+    pub source: Source,
+    pub former: Option<PathBuf>,
+    pub out: Option<PathBuf>,
+    pub allowance: u16,
+    pub replace: bool,
+}
+
+/// A page that shows a layout.
+#[derive(Debug, PartialEq, Eq)]
+pub struct Report {
+    pub source: Source,
+    /// Without one the cluster is planned, and that plan is shown.
+    pub layout: Option<PathBuf>,
+    /// Without one nothing is said of what moves.
+    pub former: Option<PathBuf>,
+    pub out: PathBuf,
+}
+
+/// A text file, and whether what is staged for it counts.
+#[derive(Clone, Debug, PartialEq, Eq)]
+pub struct Source {
+    pub file: PathBuf,
+    pub staged: bool,
+}
+
+/// What is done with the staged changes of a file.
+#[derive(Clone, Debug, PartialEq, Eq)]
+pub enum Staging {
+    Show,
+    /// The words of a box's line in the file, with its id.
+    Add(String),
+    Remove(u32),
+    /// The capacity in megabytes.
+    Resize(u32, u32),
 }
 
 /// What is shown of a layout.
@@ -89,25 +129,25 @@ struct Grammar {
 }
 
 /// The commands that take words, each with what they may be.
-const GRAMMARS: [(&str, Grammar); 7] = [
+const GRAMMARS: [(&str, Grammar); 10] = [
     (
         "plan",
         Grammar {
             options: &["--former", "--out", "--allowance", "--record"],
             repeated: &[],
-            flags: &["--replace", JSON],
+            flags: &["--replace", STAGED, JSON],
         },
     ),
-    ("check", NO_OPTIONS),
+    ("check", OF_A_LAYOUT),
     (
         "show",
         Grammar {
             options: &["--box"],
             repeated: &[],
-            flags: &["--all", JSON],
+            flags: &["--all", STAGED, JSON],
         },
     ),
-    ("diff", NO_OPTIONS),
+    ("diff", OF_A_LAYOUT),
     (
         "what-if",
         Grammar {
@@ -116,14 +156,31 @@ const GRAMMARS: [(&str, Grammar); 7] = [
             flags: &[JSON],
         },
     ),
-    ("report", TO_A_FILE),
-    ("record", TO_A_FILE),
+    (
+        "report",
+        Grammar {
+            options: &["--former", "--out"],
+            repeated: &[],
+            flags: &[STAGED],
+        },
+    ),
+    (
+        "record",
+        Grammar {
+            options: &["--former", "--out"],
+            repeated: &[],
+            flags: &[],
+        },
+    ),
+    ("stage", NO_OPTIONS),
+    ("undo", NO_OPTIONS),
+    ("apply", NO_OPTIONS),
 ];
 
-const TO_A_FILE: Grammar = Grammar {
-    options: &["--former", "--out"],
+const OF_A_LAYOUT: Grammar = Grammar {
+    options: &[],
     repeated: &[],
-    flags: &[],
+    flags: &[STAGED, JSON],
 };
 
 const NO_OPTIONS: Grammar = Grammar {
@@ -135,38 +192,33 @@ const NO_OPTIONS: Grammar = Grammar {
 /// Asks for an object in the place of a text.
 pub const JSON: &str = "--json";
 
+/// Asks for the boxes with the staged changes.
+const STAGED: &str = "--staged";
+
 /// The name of a command that takes words, if the word is one.
 pub fn command_name(word: &OsString) -> Option<&'static str> {
     let mut names = GRAMMARS.iter().map(|(name, _)| *name);
     names.find(|name| word == *name)
 }
 
+/// What is told where no command is named.
+const NOTHING_TO_DO: &str =
+    "say what to do: plan, check, show, diff, what-if, stage, undo, apply, report, record or help";
+
 /// The call that the words make, or what is wrong with them.
 pub fn parse(words: impl IntoIterator<Item = OsString>) -> Result<Call, String> {
     let mut words = words.into_iter();
     let Some(first) = words.next() else {
-        return Err(
-            "say what to do: plan, check, show, diff, what-if, report, record or help".into(),
-        );
+        return Err(NOTHING_TO_DO.into());
     };
     let words: Vec<OsString> = words.collect();
-    let plain = |command| {
-        Ok(Call {
-            command,
-            json: false,
-        })
-    };
-    match first.to_str() {
-        Some("help" | "--help" | "-h") => return plain(Command::Help),
-        Some("--version" | "-V" | "version") => return plain(Command::Version),
-        _ => (),
+    if let Some(command) = about_itself(&first, &words) {
+        let json = false;
+        return Ok(Call { command, json });
     }
     let Some((name, grammar)) = GRAMMARS.iter().find(|(name, _)| first == *name) else {
         return Err(format!("there is no command {first:?}"));
     };
-    if words.iter().any(|word| word == "--help" || word == "-h") {
-        return plain(Command::Help);
-    }
     let words = Words::sort(words, grammar)?;
     let json = words.flag(JSON);
     let command = match *name {
@@ -176,12 +228,24 @@ pub fn parse(words: impl IntoIterator<Item = OsString>) -> Result<Call, String> 
         "diff" => diff(words),
         "what-if" => what_if(words),
         "report" => report(words),
+        "stage" => staging::stage(words),
+        "undo" => staging::undo(words),
+        "apply" => staging::apply(words),
         _ => record(words),
     };
-    Ok(Call {
-        command: command?,
-        json,
-    })
+    let command = command?;
+    Ok(Call { command, json })
+}
+
+/// Help may be asked for after every command too, whatever its other words are.
+fn about_itself(first: &OsString, words: &[OsString]) -> Option<Command> {
+    let asks_for_help = |word: &OsString| word == "--help" || word == "-h";
+    match first.to_str() {
+        Some("help" | "--help" | "-h") => Some(Command::Help),
+        Some("--version" | "-V" | "version") => Some(Command::Version),
+        _ if command_name(first).is_none() => None,
+        _ => words.iter().any(asks_for_help).then_some(Command::Help),
+    }
 }
 
 fn plan(mut words: Words) -> Result<Command, String> {
@@ -200,20 +264,22 @@ fn plan(mut words: Words) -> Result<Command, String> {
     if replace && out.is_none() {
         return Err("--replace goes with --out: without it nothing is written".into());
     }
+    let staged = words.flag(STAGED);
     let [file] = words.places("a FILE")?;
-    Ok(Command::Plan {
-        file: file.into(),
+    Ok(Command::Plan(Plan {
+        source: source(file, staged),
         former,
         out,
         allowance,
         replace,
-    })
+    }))
 }
 
 fn check(words: Words) -> Result<Command, String> {
+    let staged = words.flag(STAGED);
     let [file, layout] = words.places("a FILE and a LAYOUT")?;
     Ok(Command::Check {
-        file: file.into(),
+        source: source(file, staged),
         layout: layout.into(),
     })
 }
@@ -236,18 +302,20 @@ fn show(mut words: Words) -> Result<Command, String> {
         [what] => what,
         _ => return Err("one of PARTITION, --box and --all is shown at a time".into()),
     };
+    let staged = words.flag(STAGED);
     let [file, layout] = words.places("a FILE and a LAYOUT, and perhaps a PARTITION")?;
     Ok(Command::Show {
-        file: file.into(),
+        source: source(file, staged),
         layout: layout.into(),
         what,
     })
 }
 
 fn diff(words: Words) -> Result<Command, String> {
+    let staged = words.flag(STAGED);
     let [file, old, new] = words.places("a FILE, an OLD and a NEW layout")?;
     Ok(Command::Diff {
-        file: file.into(),
+        source: source(file, staged),
         old: old.into(),
         new: new.into(),
     })
@@ -297,13 +365,14 @@ fn report(mut words: Words) -> Result<Command, String> {
         2 => words.places.pop().map(PathBuf::from),
         _ => None,
     };
+    let staged = words.flag(STAGED);
     let [file] = words.places("a FILE, and perhaps a LAYOUT,")?;
-    Ok(Command::Report {
-        file: file.into(),
+    Ok(Command::Report(Report {
+        source: source(file, staged),
         layout,
         former,
         out,
-    })
+    }))
 }
 
 fn record(mut words: Words) -> Result<Command, String> {
@@ -314,6 +383,11 @@ fn record(mut words: Words) -> Result<Command, String> {
         former,
         out,
     })
+}
+
+fn source(file: OsString, staged: bool) -> Source {
+    let file = file.into();
+    Source { file, staged }
 }
 
 fn number<T: std::str::FromStr>(word: &OsString) -> Option<T> {
@@ -432,14 +506,14 @@ mod tests {
 
     #[test]
     fn options_stand_anywhere_and_either_way() {
-        let expected = Command::Plan {
-            file: "home.txt".into(),
+        let expected = Command::Plan(Plan {
+            source: source("home.txt".into(), true),
             former: Some("last".into()),
             out: Some("next".into()),
             allowance: 7,
             replace: true,
-        };
-        let line = "plan --former last --replace home.txt --allowance=7 --out next";
+        });
+        let line = "plan --former last --replace home.txt --allowance=7 --out next --staged";
         assert_eq!(called(line), Ok(expected));
     }
 
@@ -451,7 +525,13 @@ mod tests {
         };
         assert_eq!(called("plan --record home.record"), planned("home.record"));
         assert_eq!(called("plan --record -"), planned("-"));
-        for words in ["home.txt", "--out next", "--allowance 7", "--replace"] {
+        for words in [
+            "home.txt",
+            "--out next",
+            "--allowance 7",
+            "--replace",
+            "--staged",
+        ] {
             let told = "--record stands alone: the record holds all that is planned";
             assert_eq!(
                 called(&format!("plan --record - {words}")),
@@ -484,7 +564,7 @@ mod tests {
 
     #[test]
     fn without_an_allowance_a_plan_finishes() {
-        let Ok(Command::Plan { allowance, .. }) = called("plan home.txt") else {
+        let Ok(Command::Plan(Plan { allowance, .. })) = called("plan home.txt") else {
             panic!("a plan is called for");
         };
         assert_eq!(allowance, 2048);
@@ -539,6 +619,9 @@ mod tests {
             "show home.txt last 7 --json",
             "diff home.txt last next --json",
             "what-if home.txt --remove 2 --json",
+            "stage home.txt add 7 attic 4T --json",
+            "undo --json home.txt",
+            "apply home.txt --json",
         ] {
             let call = parse(line.split_whitespace().map(OsString::from));
             assert!(call.unwrap().json, "{line}");
@@ -551,12 +634,12 @@ mod tests {
     #[test]
     fn a_page_needs_no_layout_but_a_place() {
         let report = |layout: Option<&str>| {
-            Ok(Command::Report {
-                file: "home.txt".into(),
+            Ok(Command::Report(Report {
+                source: source("home.txt".into(), false),
                 layout: layout.map(PathBuf::from),
                 former: None,
                 out: "page".into(),
-            })
+            }))
         };
         assert_eq!(called("report home.txt --out page"), report(None));
         let shown = called("report home.txt last --out page");
@@ -571,7 +654,8 @@ mod tests {
         let faults = [
             (
                 "",
-                "say what to do: plan, check, show, diff, what-if, report, record or help",
+                "say what to do: plan, check, show, diff, what-if, stage, undo, apply, report, \
+                 record or help",
             ),
             ("plam home.txt", "there is no command \"plam\""),
             ("plan", "a FILE is wanted, not 0 words"),

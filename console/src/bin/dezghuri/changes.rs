@@ -1,10 +1,11 @@
-//! Changes of the boxes that are tried, and not made.
+//! Changes of the boxes, and those that are only tried.
 
 use crate::args::Change;
 use crate::failure::Failure;
 use crate::json::Json;
 use crate::labels;
-use dezghuri::{Description, Label, Node, Note};
+use dezghuri::units::capacity_in_words;
+use dezghuri::{Changed, Description, Label, Node, Note, Refusal, Refused};
 
 /// A change that is written well; whether its box is there is seen when it is made.
 pub enum Step {
@@ -16,7 +17,7 @@ pub enum Step {
 }
 
 /// The cluster as it is, and the changes in the order of the call.
-pub struct Staged {
+pub struct Tried {
     pub as_it_is: Description,
     pub steps: Vec<Step>,
 }
@@ -29,7 +30,7 @@ struct Added<'a> {
     lines: Vec<(u32, &'a str)>,
 }
 
-impl Staged {
+impl Tried {
     /// The changes of the cluster that the text describes; what looks like a slip in them goes to
     /// the warnings.
     pub fn new(
@@ -37,7 +38,7 @@ impl Staged {
         known: &Description,
         changes: &[Change],
         warnings: &mut Vec<String>,
-    ) -> Result<Staged, Failure> {
+    ) -> Result<Tried, Failure> {
         let added = Added::new(text, known, changes)?;
         let mut described = Description::parse(&added.below(text)).map_err(|faults| {
             let lines = faults.notes().iter().filter_map(|note| added.told(note));
@@ -59,7 +60,7 @@ impl Staged {
             });
         }
         described.cluster.former = known.cluster.former.clone();
-        Ok(Staged {
+        Ok(Tried {
             as_it_is: described,
             steps,
         })
@@ -119,27 +120,25 @@ impl Added<'_> {
 impl Step {
     /// Makes the change; told where the box is not there.
     pub fn make(&self, described: &mut Description) -> Result<(), String> {
-        match self {
-            Step::Add(node, label, _) => {
-                described.cluster.nodes.push(*node);
-                described.labels.push(label.clone());
-                Ok(())
-            }
-            Step::Remove(id) => match take(described, *id) {
-                Some(_) => Ok(()),
-                None => Err(format!("--remove {id}: there is no box {id}")),
-            },
+        let (change, label) = match self {
+            Step::Add(node, label, _) => (dezghuri::Change::Add(*node), label.clone()),
+            Step::Remove(id) => (dezghuri::Change::Remove(*id), Label::default()),
             Step::Resize(id, capacity) => {
-                let mut nodes = described.cluster.nodes.iter_mut();
-                match nodes.find(|node| node.id == *id) {
-                    Some(node) => {
-                        node.capacity = *capacity;
-                        Ok(())
-                    }
-                    None => Err(format!("--resize {id}=..: there is no box {id}")),
-                }
+                let (id, capacity) = (*id, *capacity);
+                (dezghuri::Change::Resize { id, capacity }, Label::default())
             }
-        }
+        };
+        let made = make(described, &change.to_field(), 0, label);
+        made.map(drop)
+            .map_err(|refused| match (refused.refusal, self) {
+                (Refusal::Absent, Step::Remove(id)) => {
+                    format!("--remove {id}: there is no box {id}")
+                }
+                (Refusal::Absent, Step::Resize(id, _)) => {
+                    format!("--resize {id}=..: there is no box {id}")
+                }
+                _ => refused.to_string(),
+            })
     }
 
     /// The change as a line of a table has it.
@@ -173,22 +172,27 @@ impl Step {
     }
 }
 
+/// Makes the change at this byte of a change record by the proved function. The labels go with their
+/// boxes, and the one that is handed in with a new box.
+pub fn make(
+    described: &mut Description,
+    record: &[u8],
+    at: usize,
+    label: Label,
+) -> Result<Changed, Refused> {
+    let before = described.clone();
+    let changed = described.cluster.change(record, at)?;
+    let known = |node: &Node| before.label(node.id).unwrap_or(&label).clone();
+    described.labels = described.cluster.nodes.iter().map(known).collect();
+    Ok(changed)
+}
+
 /// Takes a box out of the cluster.
 fn take(described: &mut Description, id: u32) -> Option<(Node, Label)> {
     let mut nodes = described.cluster.nodes.iter();
     let place = nodes.position(|node| node.id == id)?;
     let node = described.cluster.nodes.remove(place);
     Some((node, described.labels.remove(place)))
-}
-
-/// A capacity as it is written in the file.
-fn capacity_in_words(megabytes: u32) -> String {
-    match megabytes {
-        0 => "0".into(),
-        n if n % 1_000_000 == 0 => format!("{}T", n / 1_000_000),
-        n if n % 1_000 == 0 => format!("{}G", n / 1_000),
-        n => format!("{n}M"),
-    }
 }
 
 #[cfg(test)]
@@ -198,12 +202,12 @@ mod tests {
 
     const TEXT: &str = "copies 1\nzones 1\nbox 3 home 2T\nbox 7 shop 4T tower";
 
-    fn staged(changes: &[Change]) -> Result<(Staged, Vec<String>), Failure> {
+    fn tried(changes: &[Change]) -> Result<(Tried, Vec<String>), Failure> {
         let mut known: Description = TEXT.parse().unwrap();
         known.cluster.former = Layout::from_iter([(0, [7]), (5, [9])]);
         let mut warnings = Vec::new();
-        let staged = Staged::new(TEXT.as_bytes(), &known, changes, &mut warnings)?;
-        Ok((staged, warnings))
+        let tried = Tried::new(TEXT.as_bytes(), &known, changes, &mut warnings)?;
+        Ok((tried, warnings))
     }
 
     fn add(words: &str) -> Change {
@@ -214,7 +218,7 @@ mod tests {
     #[test]
     fn added_boxes_have_new_ids_and_the_files_zones() {
         let changes = [add("shop 1T"), add("attic 5G new box"), add("0 7")];
-        let (Staged { as_it_is, steps }, warnings) = staged(&changes).unwrap();
+        let (Tried { as_it_is, steps }, warnings) = tried(&changes).unwrap();
         assert_eq!(as_it_is.cluster.nodes.len(), 2);
         assert_eq!(as_it_is.cluster.former.row(5), [9]);
         let mut described = as_it_is.clone();
@@ -240,7 +244,7 @@ mod tests {
 
     #[test]
     fn faults_are_told_with_the_words_of_the_call() {
-        let told = |words: &str| match staged(&[add("home 5T"), add(words)]) {
+        let told = |words: &str| match tried(&[add("home 5T"), add(words)]) {
             Err(failure) => failure.lines(),
             Ok(_) => panic!("{words} is at fault"),
         };
@@ -275,19 +279,11 @@ mod tests {
         let text = "copies 1\nzones 1\nbox 4294967294 home 2T\n";
         let known: Description = text.parse().unwrap();
         let added = |changes: &[Change]| {
-            let staged = Staged::new(text.as_bytes(), &known, changes, &mut Vec::new());
-            staged.map(|_| ()).map_err(|failure| failure.lines())
+            let tried = Tried::new(text.as_bytes(), &known, changes, &mut Vec::new());
+            tried.map(|_| ()).map_err(|failure| failure.lines())
         };
         assert_eq!(added(&[add("a 1T")]), Ok(()));
         let told = "--add \"b 1T\": no id is left above 4294967294";
         assert_eq!(added(&[add("a 1T"), add("b 1T")]), Err(vec![told.into()]));
-    }
-
-    #[test]
-    fn capacities_are_told_as_they_are_written() {
-        for word in ["0", "7M", "1500G", "8T", "1001M"] {
-            let megabytes = dezghuri::units::megabytes(word).unwrap();
-            assert_eq!(capacity_in_words(megabytes), word);
-        }
     }
 }

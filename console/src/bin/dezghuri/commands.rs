@@ -1,13 +1,17 @@
 //! What each command does, up to the bytes that it prints and the file that it writes.
 
+mod apply;
 mod check;
 mod diff;
 mod plan;
 mod record;
 mod show;
+mod stage;
+mod undo;
 mod what_if;
 
-use crate::args::Command;
+use crate::args::{Command, Source};
+use crate::deeds::Deed;
 use crate::failure::Failure;
 use crate::files;
 use crate::help::{HELP, VERSION};
@@ -15,6 +19,7 @@ use crate::json::Json;
 use crate::losses;
 use crate::output::{Kind, Output};
 use crate::report;
+use crate::staged::Staged;
 use crate::units::count;
 use dezghuri::{Cluster, Description, Plan, Refused};
 use std::collections::BTreeSet;
@@ -28,8 +33,8 @@ pub struct Answer {
     pub json: Option<Json>,
     /// Said to the owner besides.
     pub told: Vec<String>,
-    /// Written once the report is printed.
-    pub output: Option<Output>,
+    /// Done to files once the report is printed.
+    pub deeds: Vec<Deed>,
     /// The exit status once all is done.
     pub status: u8,
 }
@@ -40,9 +45,15 @@ impl Answer {
             report: report.into(),
             json: None,
             told: Vec::new(),
-            output: None,
+            deeds: Vec::new(),
             status: 0,
         }
+    }
+
+    /// The same, and a file written once the report is printed.
+    pub fn writing(self, output: Output) -> Answer {
+        let deeds = vec![Deed::Write(output)];
+        Answer { deeds, ..self }
     }
 
     /// A report that can be had as an object too.
@@ -59,46 +70,27 @@ pub fn run(command: &Command, warnings: &mut Vec<String>) -> Result<Answer, Fail
     match command {
         Command::Help => Ok(Answer::report(HELP)),
         Command::Version => Ok(Answer::report(VERSION)),
-        Command::Plan {
-            file,
-            former,
-            out,
-            allowance,
-            replace,
-        } => {
-            let paths = plan::Paths {
-                file,
-                former: former.as_deref(),
-                out: out.as_deref(),
-            };
-            plan::run(paths, *allowance, *replace, warnings)
-        }
+        Command::Plan(call) => plan::run(call, warnings),
         Command::PlanRecord { record } => record::plan(record),
-        Command::Check { file, layout } => check::run(file, layout, warnings),
-        Command::Show { file, layout, what } => show::run(file, layout, *what, warnings),
-        Command::Diff { file, old, new } => diff::run(file, old, new, warnings),
+        Command::Check { source, layout } => check::run(source, layout, warnings),
+        Command::Show {
+            source,
+            layout,
+            what,
+        } => show::run(source, layout, *what, warnings),
+        Command::Diff { source, old, new } => diff::run(source, old, new, warnings),
         Command::WhatIf {
             file,
             former,
             changes,
         } => what_if::run(file, former.as_deref(), changes, warnings),
-        Command::Report {
-            file,
-            layout,
-            former,
-            out,
-        } => report::run(
-            &report::Call {
-                file,
-                layout: layout.as_deref(),
-                former: former.as_deref(),
-                out,
-            },
-            warnings,
-        ),
+        Command::Report(call) => report::run(call, warnings),
         Command::Record { file, former, out } => {
             record::run(file, former.as_deref(), out.as_deref(), warnings)
         }
+        Command::Stage { file, staging } => stage::run(file, staging, warnings),
+        Command::Undo { file } => undo::run(file, warnings),
+        Command::Apply { file } => apply::run(file, warnings),
     }
 }
 
@@ -113,18 +105,58 @@ pub fn output(kind: Kind, record: Vec<u8>, file: &Path, out: &Path) -> Result<Ou
     Output::new(out, kind, record)
 }
 
-/// The cluster of the file, with the layout of the former plan.
+/// A cluster that was read.
+pub struct Known {
+    pub described: Description,
+    /// What reports call it: its file, and how many staged changes it is seen with.
+    pub name: String,
+    /// The number of staged changes, where they were asked for.
+    pub staged: Option<usize>,
+}
+
+/// The cluster of the file, with what is staged where that is asked for, and with the layout of the
+/// former plan.
 pub fn describe(
-    file: &Path,
+    source: &Source,
     former: Option<&Path>,
     warnings: &mut Vec<String>,
-) -> Result<Description, Failure> {
-    let mut described = files::read_description(file)?;
-    warnings.extend(described.warnings.iter().map(|slip| slip.told_of(file)));
-    if let Some(former) = former {
-        start_from(&mut described, file, former, warnings)?;
+) -> Result<Known, Failure> {
+    let file = source.file.as_path();
+    let staged = match source.staged {
+        true => Some(Staged::read(file, warnings)?),
+        false => None,
+    };
+    let mut known = Known {
+        described: match &staged {
+            Some(staged) => staged.known()?,
+            None => files::read_description(file)?,
+        },
+        name: file.display().to_string(),
+        staged: None,
+    };
+    let slips = known.described.warnings.iter();
+    warnings.extend(slips.map(|slip| slip.told_of(file)));
+    if let Some(staged) = staged {
+        known.change(&staged, warnings)?;
     }
-    Ok(described)
+    if let Some(former) = former {
+        start_from(&mut known.described, file, former, warnings)?;
+    }
+    Ok(known)
+}
+
+impl Known {
+    /// Makes the staged changes.
+    fn change(&mut self, staged: &Staged, warnings: &mut Vec<String>) -> Result<(), Failure> {
+        self.staged = Some(staged.entries.len());
+        if staged.entries.is_empty() {
+            warnings.push(format!("nothing is staged for {}", self.name));
+            return Ok(());
+        }
+        self.described = staged.made(&self.described)?.described;
+        self.name += &format!(" with {}", staged.count());
+        Ok(())
+    }
 }
 
 /// Gives the cluster the layout of the former plan.
@@ -178,11 +210,10 @@ fn lost_lines(described: &Description) -> String {
 }
 
 /// What the owner wants of the cluster.
-fn heading(file: &Path, described: &Description) -> String {
+fn heading(name: &str, described: &Description) -> String {
     let cluster = &described.cluster;
     format!(
-        "{}: {} of each of {}, in at least {}\n\n",
-        file.display(),
+        "{name}: {} of each of {}, in at least {}\n\n",
         count(cluster.replication.into(), "copy", "copies"),
         count(cluster.partitions(), "partition", "partitions"),
         count(cluster.redundancy.into(), "zone", "zones"),

@@ -1,13 +1,14 @@
 //! Files that are read.
 
 use crate::failure::Failure;
+use crate::staged;
 use dezghuri::{ffi, Cluster, Description, Plan};
 use std::fs::{self, File};
-use std::io::{self, Read};
+use std::io::{self, ErrorKind, Read};
 use std::path::Path;
 
 /// No description of a cluster is longer; what is longer is some other file.
-const LONGEST_TEXT: u64 = 1 << 20;
+pub const LONGEST_TEXT: u64 = 1 << 20;
 
 /// What the program `plan` reads of a cluster record: a longer one is refused within these bytes.
 const RECORD_READ: u64 = 11_000;
@@ -40,6 +41,8 @@ fn other_than_text(bytes: &[u8]) -> Option<&'static str> {
         Some("this is a layout record; the text file comes first")
     } else if Cluster::from_record(bytes).is_ok() {
         Some("this is a cluster record; `plan --record` plans it, all else takes a text file")
+    } else if staged::is_staged(bytes) {
+        Some("this is what is staged for a text file; name that file")
     } else if bytes.contains(&0) {
         Some("this is not a text file")
     } else if bytes.len() as u64 > LONGEST_TEXT {
@@ -89,6 +92,28 @@ fn read_at_most(path: &Path, most: u64) -> Result<Vec<u8>, Failure> {
         .and_then(|file| file.take(most).read_to_end(&mut bytes))
         .map_err(|error| Failure::bad(format!("{}: {error}", path.display())))?;
     Ok(bytes)
+}
+
+/// The bytes of a file of staged changes, if there is one.
+pub fn read_staged(path: &Path) -> Result<Option<Vec<u8>>, Failure> {
+    let bad = |what: &str| Failure::bad(format!("{}: {what}", path.display()));
+    let is_nowhere = |error: &io::Error| error.kind() == ErrorKind::NotFound;
+    if fs::symlink_metadata(path).is_err_and(|error| is_nowhere(&error)) {
+        return Ok(None);
+    }
+    match fs::metadata(path) {
+        Ok(there) if there.is_file() => (),
+        Ok(_) => return Err(bad("there is something there that is not a file")),
+        Err(error) if is_nowhere(&error) => {
+            return Err(bad("it is a link to a file that is not there"))
+        }
+        Err(error) => return Err(bad(&error.to_string())),
+    }
+    let bytes = read_at_most(path, staged::LONGEST as u64 + 1)?;
+    match bytes.len() > staged::LONGEST {
+        true => Err(bad("this is too long for a file of staged changes")),
+        false => Ok(Some(bytes)),
+    }
 }
 
 /// Whether both names lead to one file that is there.

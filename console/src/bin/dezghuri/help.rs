@@ -7,7 +7,8 @@ pub const VERSION: &str = concat!("dezghuri ", env!("CARGO_PKG_VERSION"), "\n");
 pub const HELP: &str = "\
 Plans where the copies of a cluster of storage boxes lie.
 
-  dezghuri plan FILE [--former LAST] [--out NEXT] [--allowance N] [--replace]
+  dezghuri plan FILE [--staged] [--former LAST] [--out NEXT] [--allowance N]
+                [--replace]
       plans the cluster that FILE describes, starting from the layout LAST, and
       writes the layout to NEXT; N improvements at most (0 to 65535; without it
       as many as it takes: then it is the first layout, by its rows, of those of
@@ -25,6 +26,16 @@ Plans where the copies of a cluster of storage boxes lie.
       shows what changes of the boxes would bring, each alone and all together:
       size, gain and copies to send; nothing is written. A CHANGE is
       --add \"ZONE CAPACITY [NAME]\", --remove ID or --resize ID=CAPACITY
+  dezghuri stage FILE CHANGE
+      stages a change of the boxes, to be planned and applied with others; FILE
+      stays as it is. A CHANGE is add ID ZONE CAPACITY [NAME ..], remove ID or
+      resize ID CAPACITY
+  dezghuri stage FILE
+      shows what is staged
+  dezghuri undo FILE
+      takes the last staged change back, and called again the one before it
+  dezghuri apply FILE
+      writes what is staged into FILE, remarks kept; the old one is FILE.old
   dezghuri report FILE [LAYOUT] [--former LAST] --out PAGE
       writes a page that shows LAYOUT, and what moves from the layout LAST: bars,
       a map and tables, for a browser or a printer; without LAYOUT it shows what
@@ -47,13 +58,18 @@ A capacity is in megabytes, or ends in G or T. It is that of the whole disk, of
 which a sixteenth stays free. A zone is a name of one word, or a number from 0
 to 65535. A # begins a remark.
 
-With --json, plan, check, show, diff and what-if print one JSON object.
+With --staged, plan, check, show, diff and report take the boxes of FILE with
+all staged changes made. What is staged is kept in FILE.staged.
+
+With --json, plan, check, show, diff, what-if, stage, undo and apply print one
+JSON object.
 
 Nothing is written before the report is printed. A layout that is there already
 is replaced only where it is the --former of this plan, or with --replace; it is
 kept as NEXT.old. What is not a layout is never replaced. Pages and cluster
 records are kept likewise, and replaced by their like alone.
 
-Exit status: 0 done; 1 there is no such layout, or it is not valid; 2 the call
-or a file is at fault, or the report could not be printed.
+Exit status: 0 done; 1 there is no such layout, it is not valid, or a change
+cannot be made; 2 the call or a file is at fault, or the report could not be
+printed.
 ";

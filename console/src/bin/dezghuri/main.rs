@@ -5,6 +5,7 @@
 mod args;
 mod changes;
 mod commands;
+mod deeds;
 mod explain;
 mod failure;
 mod files;
@@ -16,6 +17,7 @@ mod output;
 mod overview;
 mod record_lines;
 mod report;
+mod staged;
 mod table;
 mod why;
 
@@ -67,11 +69,9 @@ fn called(words: &[OsString], warnings: &mut Vec<String>) -> Result<u8, Failure>
 
 /// Prints the report, and only once it is printed writes the file and says so.
 fn give(answer: &Answer) -> Result<u8, Failure> {
-    if let Some(written) = put(answer)? {
-        print(written.as_bytes()).map_err(|error| {
-            Failure::Late(format!("written, but that was not printed: {error}"))
-        })?;
-    }
+    let written = put(answer)?;
+    print(written.as_bytes())
+        .map_err(|error| Failure::Late(format!("written, but that was not printed: {error}")))?;
     Ok(answer.status)
 }
 
@@ -81,17 +81,15 @@ fn give_quietly(answer: &Answer) -> Result<u8, Failure> {
     Ok(answer.status)
 }
 
-/// Prints the report and writes the file; what to say of the file.
-fn put(answer: &Answer) -> Result<Option<String>, Failure> {
-    let unprinted = match answer.output {
-        None => "not printed",
-        Some(_) => "not printed, so nothing was written",
+/// Prints the report and does what is to be done to files; what to say of them.
+fn put(answer: &Answer) -> Result<String, Failure> {
+    let unprinted = match answer.deeds[..] {
+        [] => "not printed",
+        _ => "not printed, so nothing was written",
     };
     print(&answer.report).map_err(|error| Failure::Late(format!("{unprinted}: {error}")))?;
-    match &answer.output {
-        None => Ok(None),
-        Some(output) => output.write().map(Some).map_err(Failure::late),
-    }
+    let told = answer.deeds.iter().map(|deed| deed.act());
+    told.collect::<Result<_, _>>().map_err(Failure::late)
 }
 
 /// Prints an object in the place of an answer; the exit status.

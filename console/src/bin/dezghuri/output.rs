@@ -1,8 +1,11 @@
 //! The file that a call writes: what may stand there, and how none of it is lost.
 
 use crate::failure::Failure;
+use crate::files;
+use crate::json::Json;
 use crate::report;
-use dezghuri::{ffi, Cluster, Plan};
+use crate::staged;
+use dezghuri::{ffi, Cluster, Description, Plan};
 use std::fs::{self, File, Metadata, OpenOptions};
 use std::io::{self, ErrorKind, Read, Write};
 use std::os::unix::fs::{fchown, MetadataExt, OpenOptionsExt, PermissionsExt};
@@ -15,6 +18,9 @@ pub enum Kind {
     Layout,
     Cluster,
     Page,
+    /// The owner's text file.
+    Text,
+    Staged,
 }
 
 impl Kind {
@@ -24,6 +30,8 @@ impl Kind {
             Kind::Layout => "layout record",
             Kind::Cluster => "cluster record",
             Kind::Page => "report page",
+            Kind::Text => "cluster description",
+            Kind::Staged => "file of staged changes",
         }
     }
 
@@ -32,7 +40,14 @@ impl Kind {
             Kind::Layout => Plan::from_record(bytes).is_ok(),
             Kind::Cluster => Cluster::from_record(bytes).is_ok(),
             Kind::Page => report::is_page(bytes),
+            Kind::Text => Description::parse(bytes).is_ok(),
+            Kind::Staged => staged::is_staged(bytes),
         }
+    }
+
+    /// Whether a replaced one is kept. Of what is staged each change can be taken back by itself.
+    fn is_kept(self) -> bool {
+        self != Kind::Staged
     }
 
     /// What is longer than this is no file of this kind.
@@ -40,6 +55,8 @@ impl Kind {
         match self {
             Kind::Layout | Kind::Cluster => ffi::CLUSTER_RECORD_BYTES as u64,
             Kind::Page => report::LONGEST_PAGE,
+            Kind::Text => files::LONGEST_TEXT,
+            Kind::Staged => staged::LONGEST as u64,
         }
     }
 }
@@ -68,7 +85,7 @@ impl Output {
     /// Looks at the place; refused where what stands there must not be replaced.
     pub fn new(path: &Path, kind: Kind, bytes: Vec<u8>) -> Result<Output, Failure> {
         let found = look(path, kind).map_err(|error| not_written(path, &error))?;
-        if let Some(found) = &found {
+        if let Some(found) = found.as_ref().filter(|_| kind.is_kept()) {
             let old = old_of(&found.target);
             look_at_old(&old, kind).map_err(|error| not_written(&old, &error))?;
         }
@@ -78,6 +95,14 @@ impl Output {
             bytes,
             found,
         })
+    }
+
+    /// An error unless these bytes stand there: what is to be written was made from them.
+    pub fn stands_on(&self, bytes: Option<&[u8]>) -> Result<(), Failure> {
+        match self.found.as_ref().map(|found| &found.bytes[..]) == bytes {
+            true => Ok(()),
+            false => Err(not_written(&self.path, &changed_meanwhile())),
+        }
     }
 
     /// Whether a record stands there already.
@@ -93,6 +118,16 @@ impl Output {
         }
     }
 
+    /// Where it goes, and where the one that it replaces is kept.
+    pub fn json(&self) -> Json {
+        let old = self.old();
+        let kept = self.replaces().then_some(old.as_path());
+        Json::Object(vec![
+            ("path", self.path.as_path().into()),
+            ("kept_as", kept.into()),
+        ])
+    }
+
     /// Writes the record; what to say of it. Whatever fails, power included, at every instant the
     /// one record or the other stands whole under the name.
     pub fn write(&self) -> Result<String, Failure> {
@@ -100,7 +135,7 @@ impl Output {
             .put()
             .map_err(|error| not_written(&self.path, &error))?;
         let mut told = format!("Written to {}.\n", self.path.display());
-        if self.found.is_some() {
+        if self.found.is_some() && self.kind.is_kept() {
             let (kind, old) = (self.kind.name(), self.old());
             told += &format!("The {kind} before it is kept as {}", old.display());
             if let Some(older) = kept {
@@ -115,7 +150,7 @@ impl Output {
     /// an older record, if one had to make room.
     fn put(&self) -> io::Result<Option<PathBuf>> {
         if look(&self.path, self.kind)? != self.found {
-            return Err(io::Error::other("it was changed meanwhile"));
+            return Err(changed_meanwhile());
         }
         let target = match &self.found {
             Some(found) => &found.target,
@@ -134,13 +169,65 @@ impl Output {
     /// Gives the new file the name, once what has it is kept.
     fn take_name(&self, fresh: &Path, target: &Path) -> io::Result<Option<PathBuf>> {
         let kept = match &self.found {
-            Some(found) => keep(found)?,
-            None => None,
+            Some(found) if self.kind.is_kept() => keep(found)?,
+            _ => None,
         };
         fs::rename(fresh, target)?;
         sync_folder(target);
         Ok(kept)
     }
+}
+
+/// A file to be removed, as it is then.
+pub struct Removal {
+    path: PathBuf,
+    kind: Kind,
+    bytes: Vec<u8>,
+}
+
+impl Removal {
+    /// Of a file that stands there as it is to be removed.
+    pub fn new(path: &Path, kind: Kind, bytes: Vec<u8>) -> Result<Removal, Failure> {
+        let removal = Removal::later(path, kind, bytes);
+        let found = removal.look();
+        found.map_err(|error| not_removed(path, &error))?;
+        Ok(removal)
+    }
+
+    /// Of a file that will be written before.
+    pub fn later(path: &Path, kind: Kind, bytes: Vec<u8>) -> Removal {
+        let path = path.into();
+        Removal { path, kind, bytes }
+    }
+
+    /// What stands there; an error unless it has these bytes and may be removed.
+    fn look(&self) -> io::Result<Found> {
+        let found = look(&self.path, self.kind)?;
+        let found = found.filter(|found| found.bytes == self.bytes);
+        found.ok_or_else(changed_meanwhile)
+    }
+
+    /// Removes the file, and the link to it where the name is one; what to say of it.
+    pub fn remove(&self) -> Result<String, Failure> {
+        let removed = self.look().and_then(|found| {
+            fs::remove_file(&self.path)?;
+            sync_folder(&self.path);
+            match found.target == self.path {
+                true => Ok(()),
+                false => fs::remove_file(&found.target),
+            }
+        });
+        removed.map_err(|error| not_removed(&self.path, &error))?;
+        Ok(format!("{} is removed.\n", self.path.display()))
+    }
+}
+
+fn not_removed(path: &Path, error: &io::Error) -> Failure {
+    Failure::bad(format!("{}: not removed: {error}", path.display()))
+}
+
+fn changed_meanwhile() -> io::Error {
+    io::Error::other("it was changed meanwhile")
 }
 
 fn not_written(path: &Path, error: &io::Error) -> Failure {
@@ -265,7 +352,7 @@ fn old_of(path: &Path) -> PathBuf {
     with_ending(path, ".old")
 }
 
-fn with_ending(path: &Path, ending: &str) -> PathBuf {
+pub fn with_ending(path: &Path, ending: &str) -> PathBuf {
     let mut name = path.as_os_str().to_os_string();
     name.push(ending);
     name.into()

@@ -1,20 +1,23 @@
 //! `check`: whether a layout is valid for the cluster of a file.
 
-use super::{describe, wanted, Answer};
+use super::{describe, wanted, Answer, Known};
+use crate::args::Source;
 use crate::explain;
 use crate::failure::{Failure, REFUSED};
 use crate::files;
 use crate::units::thousands;
 use std::path::Path;
 
-pub fn run(file: &Path, layout: &Path, warnings: &mut Vec<String>) -> Result<Answer, Failure> {
-    let described = describe(file, None, warnings)?;
+pub fn run(source: &Source, layout: &Path, warnings: &mut Vec<String>) -> Result<Answer, Failure> {
+    let Known {
+        described, name, ..
+    } = describe(source, None, warnings)?;
     let plan = files::read_plan(layout)?;
     let refused = described.cluster.check(&plan.layout, plan.size).err();
     let why = refused.map(|refused| explain::not_valid(&described, &plan, refused));
     let members = vec![
         ("command", "check".into()),
-        ("file", file.into()),
+        ("file", source.file.as_path().into()),
         ("layout", layout.into()),
         ("wanted", wanted(&described.cluster)),
         ("size_mb", plan.size.into()),
@@ -24,9 +27,8 @@ pub fn run(file: &Path, layout: &Path, warnings: &mut Vec<String>) -> Result<Ans
     ];
     let Some(why) = why else {
         let report = format!(
-            "{} is valid for {}, each partition up to {} MB.\n",
+            "{} is valid for {name}, each partition up to {} MB.\n",
             layout.display(),
-            file.display(),
             thousands(plan.size.into())
         );
         return Ok(Answer::with_json(report, members));

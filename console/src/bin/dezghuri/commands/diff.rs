@@ -1,6 +1,7 @@
 //! `diff`: what comes and goes from one layout to another, by box and by zone.
 
 use super::{describe, Answer};
+use crate::args::Source;
 use crate::failure::Failure;
 use crate::files;
 use crate::json::Json;
@@ -42,12 +43,12 @@ struct Compared<'a> {
 }
 
 pub fn run(
-    file: &Path,
+    source: &Source,
     old_path: &Path,
     new_path: &Path,
     warnings: &mut Vec<String>,
 ) -> Result<Answer, Failure> {
-    let described = describe(file, None, warnings)?;
+    let described = describe(source, None, warnings)?.described;
     let (old, new) = (files::read_plan(old_path)?, files::read_plan(new_path)?);
     if old.bits != new.bits {
         return Err(Failure::bad(format!(
@@ -68,7 +69,7 @@ pub fn run(
     );
     let mut members = vec![
         ("command", "diff".into()),
-        ("file", file.into()),
+        ("file", source.file.as_path().into()),
         ("old", old_path.into()),
         ("new", new_path.into()),
     ];

@@ -1,70 +1,59 @@
 //! `plan`: a layout for the cluster of a file.
 
-use super::{describe, heading, lost_lines, output, rows, unforeseen, wanted, Answer};
+use super::{describe, heading, lost_lines, output, rows, unforeseen, wanted, Answer, Known};
+use crate::args;
 use crate::explain;
 use crate::failure::Failure;
 use crate::files;
 use crate::json::Json;
 use crate::output::{Kind, Output};
 use crate::overview::{first_transfers_in_words, transfers_in_words, Overview};
+use crate::units::count;
 use crate::why;
 use dezghuri::{Description, Plan, Transfers};
 use std::path::Path;
 
-/// The files of the call.
-#[derive(Clone, Copy)]
-pub struct Paths<'a> {
-    pub file: &'a Path,
-    pub former: Option<&'a Path>,
-    pub out: Option<&'a Path>,
-}
-
 /// A plan that was made, and what is told of it.
 struct Made<'a> {
+    known: &'a Known,
     described: &'a Description,
     plan: &'a Plan,
     overview: Overview<'a>,
     transfers: Transfers,
 }
 
-pub fn run(
-    paths: Paths,
-    allowance: u16,
-    replace: bool,
-    warnings: &mut Vec<String>,
-) -> Result<Answer, Failure> {
-    let described = describe(paths.file, paths.former, warnings)?;
+pub fn run(call: &args::Plan, warnings: &mut Vec<String>) -> Result<Answer, Failure> {
+    let known = describe(&call.source, call.former.as_deref(), warnings)?;
+    let described = &known.described;
     let cluster = &described.cluster;
     let plan = cluster
-        .plan(allowance)
-        .map_err(|refused| Failure::Refused(explain::no_plan(&described, refused), refused))?;
+        .plan(call.allowance)
+        .map_err(|refused| Failure::Refused(explain::no_plan(described, refused), refused))?;
     let made = Made {
-        overview: Overview::of_valid(&described, &plan).map_err(unforeseen)?,
+        known: &known,
+        overview: Overview::of_valid(described, &plan).map_err(unforeseen)?,
         transfers: cluster.transfers(&plan.layout),
-        described: &described,
+        described,
         plan: &plan,
     };
-    let (mut report, mut members) = (made.text(paths), made.json(paths));
-    let Some(out) = paths.out else {
+    let (mut report, mut members) = (made.text(call), made.json(call));
+    let Some(out) = &call.out else {
         report += "Not written: with --out NEXT it is kept, for the next plan.\n";
         members.push(("out", Json::Null));
         return Ok(Answer::with_json(report, members));
     };
-    let output = layout_output(&plan, paths, out, replace)?;
-    members.push(("out", output_json(&output, out)));
-    Ok(Answer {
-        output: Some(output),
-        ..Answer::with_json(report, members)
-    })
+    let output = layout_output(&plan, call, out)?;
+    members.push(("out", output.json()));
+    Ok(Answer::with_json(report, members).writing(output))
 }
 
 impl Made<'_> {
-    fn text(&self, paths: Paths) -> String {
+    fn text(&self, call: &args::Plan) -> String {
         let (described, plan) = (self.described, self.plan);
         let hope = self.overview.hope.unwrap_or_default();
         [
             lost_lines(described),
-            heading(paths.file, described),
+            heading(&self.known.name, described),
             self.overview.boxes(Some(&self.transfers)),
             "\n".into(),
             self.overview.zones(),
@@ -72,16 +61,29 @@ impl Made<'_> {
             self.overview.size(),
             why::not_more(described, plan, hope),
             why::unused(described, plan),
-            match paths.former {
+            match call.former {
                 Some(_) => transfers_in_words(&self.transfers),
                 None => first_transfers_in_words(&self.transfers),
             },
             self.overview.verdict(),
+            self.staged(&call.source.file),
         ]
         .concat()
     }
 
-    fn json(&self, paths: Paths) -> Vec<(&'static str, Json)> {
+    /// That the plan is one of boxes that the file has not yet.
+    fn staged(&self, file: &Path) -> String {
+        let count = match self.known.staged {
+            None | Some(0) => return String::new(),
+            Some(staged) => count(staged as u64, "staged change", "staged changes"),
+        };
+        let file = file.display();
+        format!(
+            "Planned with {count}: `dezghuri apply {file}` writes what is staged into {file}.\n"
+        )
+    }
+
+    fn json(&self, call: &args::Plan) -> Vec<(&'static str, Json)> {
         let (described, plan, transfers) = (self.described, self.plan, &self.transfers);
         let losses = described.cluster.losses();
         let gone = transfers.gone.iter().map(|(id, copies)| {
@@ -90,8 +92,9 @@ impl Made<'_> {
         let sent = u64::from(plan.sent);
         let mut members = vec![
             ("command", "plan".into()),
-            ("file", paths.file.into()),
-            ("former", paths.former.into()),
+            ("file", call.source.file.as_path().into()),
+            ("staged", self.known.staged.into()),
+            ("former", call.former.as_deref().into()),
             ("wanted", wanted(&described.cluster)),
             ("lost", Json::list(losses.none_left)),
             ("at_risk", Json::list(losses.one_left)),
@@ -108,13 +111,12 @@ impl Made<'_> {
 }
 
 /// The place for the plan's layout; refused where that would replace another one unasked.
-fn layout_output(plan: &Plan, paths: Paths, out: &Path, replace: bool) -> Result<Output, Failure> {
+fn layout_output(plan: &Plan, call: &args::Plan, out: &Path) -> Result<Output, Failure> {
     let record = plan.to_record().map_err(unforeseen)?;
-    let output = output(Kind::Layout, record, paths.file, out)?;
-    let is_former = paths
-        .former
-        .is_some_and(|former| files::are_one(former, out));
-    if output.replaces() && !replace && !is_former {
+    let output = output(Kind::Layout, record, &call.source.file, out)?;
+    let former = call.former.as_deref();
+    let is_former = former.is_some_and(|former| files::are_one(former, out));
+    if output.replaces() && !call.replace && !is_former {
         return Err(Failure::bad(format!(
             "{}: not written: there is a layout already. With --former {0} the plan starts from \
              it; with --replace it is replaced, and kept as {}",
@@ -123,11 +125,4 @@ fn layout_output(plan: &Plan, paths: Paths, out: &Path, replace: bool) -> Result
         )));
     }
     Ok(output)
-}
-
-/// Where the layout goes, and where the one that it replaces is kept.
-fn output_json(output: &Output, out: &Path) -> Json {
-    let old = output.old();
-    let kept = output.replaces().then_some(old.as_path());
-    Json::Object(vec![("path", out.into()), ("kept_as", kept.into())])
 }

@@ -1,6 +1,7 @@
 //! `record`, and `plan --record`: cluster records written and planned.
 
 use super::{describe, output, Answer};
+use crate::args::Source;
 use crate::failure::Failure;
 use crate::files;
 use crate::losses;
@@ -15,7 +16,11 @@ pub fn run(
     out: Option<&Path>,
     warnings: &mut Vec<String>,
 ) -> Result<Answer, Failure> {
-    let cluster = describe(file, former, warnings)?.cluster;
+    let source = Source {
+        file: file.into(),
+        staged: false,
+    };
+    let cluster = describe(&source, former, warnings)?.described.cluster;
     warnings.extend(losses::in_words(&cluster));
     let record = cluster.to_record();
     let Some(out) = out else {
@@ -23,10 +28,8 @@ pub fn run(
     };
     let bytes = count(record.len() as u64, "byte", "bytes");
     let report = format!("{} makes a cluster record of {bytes}.\n", file.display());
-    Ok(Answer {
-        output: Some(output(Kind::Cluster, record, file, out)?),
-        ..Answer::report(report)
-    })
+    let output = output(Kind::Cluster, record, file, out)?;
+    Ok(Answer::report(report).writing(output))
 }
 
 /// Plans a record and prints what the program `plan` prints of it.

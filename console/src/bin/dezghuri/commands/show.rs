@@ -1,7 +1,7 @@
 //! `show`: what a layout has on its boxes, whether it is valid for the cluster of a file or not.
 
-use super::{describe, heading, lost_lines, unforeseen, wanted, Answer};
-use crate::args::Shown;
+use super::{describe, heading, lost_lines, unforeseen, wanted, Answer, Known};
+use crate::args::{Shown, Source};
 use crate::explain;
 use crate::failure::Failure;
 use crate::files;
@@ -21,20 +21,26 @@ const ON_A_LINE: usize = 16;
 struct Seen<'a> {
     file: &'a Path,
     layout: &'a Path,
+    /// What the cluster is called.
+    name: String,
     described: Description,
     plan: Plan,
 }
 
 pub fn run(
-    file: &Path,
+    source: &Source,
     layout: &Path,
     what: Shown,
     warnings: &mut Vec<String>,
 ) -> Result<Answer, Failure> {
+    let Known {
+        described, name, ..
+    } = describe(source, None, warnings)?;
     let seen = Seen {
-        file,
+        file: &source.file,
         layout,
-        described: describe(file, None, warnings)?,
+        name,
+        described,
         plan: files::read_plan(layout)?,
     };
     match what {
@@ -61,7 +67,7 @@ impl Seen<'_> {
             ("why", why.clone().into()),
         ]);
         let heading = match &why {
-            None => heading(self.file, &self.described),
+            None => heading(&self.name, &self.described),
             Some(why) => self.other_heading(why),
         };
         // What the layout has on boxes that are gone is lost, as it is for a plan made from it.
@@ -109,7 +115,7 @@ impl Seen<'_> {
         if held.is_empty() && !self.described.has(id) {
             return Err(Failure::bad(format!(
                 "there is no box {id} in {}, and {} has no copy on one",
-                self.file.display(),
+                self.name,
                 self.layout.display()
             )));
         }
@@ -151,7 +157,7 @@ impl Seen<'_> {
         let ids = self.plan.layout.rows().flat_map(|(_, ids)| ids);
         let gone: BTreeSet<&u32> = ids.filter(|id| !self.described.has(**id)).collect();
         let boxes = labels::listed(gone.iter());
-        let file = self.file.display();
+        let file = &self.name;
         match gone.len() {
             0 => String::new(),
             1 => format!("\nBox {boxes} is not in {file}.\n"),
@@ -183,7 +189,7 @@ impl Seen<'_> {
 
     /// The heading of a layout that the cluster has outgrown.
     fn other_heading(&self, why: &str) -> String {
-        let (size, file) = (self.size(), self.file.display());
+        let (size, file) = (self.size(), &self.name);
         format!("{size}\nNot valid for {file} as it is now: {why}.\n\n")
     }
 }

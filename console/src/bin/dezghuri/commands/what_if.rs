@@ -2,7 +2,7 @@
 
 use super::{heading, start_from, wanted, Answer};
 use crate::args::Change;
-use crate::changes::{Staged, Step};
+use crate::changes::{Step, Tried};
 use crate::explain;
 use crate::failure::{Failure, REFUSED};
 use crate::files;
@@ -50,14 +50,14 @@ pub fn run(
     if let Some(former) = former {
         start_from(&mut known, file, former, warnings)?;
     }
-    let staged = Staged::new(&text, &known, changes, warnings)?;
+    let asked = Tried::new(&text, &known, changes, warnings)?;
     let table = Table {
-        lines: lines(&staged)?,
+        lines: lines(&asked)?,
         has_former: former.is_some(),
-        unit: unit(&staged),
+        unit: unit(&asked),
     };
     let has_layout = table.lines.last().is_some_and(|line| line.outcome.is_ok());
-    let report = heading(file, &known) + &table.text();
+    let report = heading(&file.display().to_string(), &known) + &table.text();
     let members = vec![
         ("command", "what-if".into()),
         ("file", file.into()),
@@ -72,26 +72,26 @@ pub fn run(
 }
 
 /// The cluster as it is, each change alone, and all together where there are several.
-fn lines(staged: &Staged) -> Result<Vec<Line>, Failure> {
-    let as_it_is = &staged.as_it_is;
+fn lines(asked: &Tried) -> Result<Vec<Line>, Failure> {
+    let as_it_is = &asked.as_it_is;
     let kind = |kind: &str| Json::Object(vec![("kind", kind.into())]);
     let mut lines = vec![Line {
         what: "as it is".into(),
         change: kind("none"),
         outcome: tried(as_it_is),
     }];
-    for step in &staged.steps {
+    for step in &asked.steps {
         lines.push(Line {
             what: step.in_words(as_it_is),
             change: step.json(),
             outcome: tried(&changed(as_it_is, std::slice::from_ref(step))?),
         });
     }
-    if staged.steps.len() > 1 {
+    if asked.steps.len() > 1 {
         lines.push(Line {
             what: "all together".into(),
             change: kind("all"),
-            outcome: tried(&changed(as_it_is, &staged.steps)?),
+            outcome: tried(&changed(as_it_is, &asked.steps)?),
         });
     }
     Ok(lines)
@@ -119,9 +119,9 @@ fn tried(described: &Description) -> Result<Outcome, (String, Refused)> {
 }
 
 /// One unit for all lines, that of the boxes that are there and of those that are added.
-fn unit(staged: &Staged) -> Unit {
-    let nodes = staged.as_it_is.cluster.nodes.iter();
-    let added = staged.steps.iter().filter_map(|step| match step {
+fn unit(asked: &Tried) -> Unit {
+    let nodes = asked.as_it_is.cluster.nodes.iter();
+    let added = asked.steps.iter().filter_map(|step| match step {
         Step::Add(node, _, _) => Some(node),
         _ => None,
     });
