@@ -9,7 +9,7 @@ PROGRAM = build/plan
 PREFIX = /usr/local
 CRATES := crates.txt $(shell find crates -name '*.rt' -o -name '*.antt')
 
-# What a bare `make` does: the gate takes twenty minutes, and nobody should start it by chance.
+# What a bare `make` does: the gate takes twenty minutes or more, and nobody should start it by chance.
 help:
 	echo 'make plan      plans the sample cluster of five boxes, then the same cluster after one box was replaced'
 	echo 'make report    makes the page that shows the second plan, build/home.html'
