@@ -1,8 +1,6 @@
 // Makes changes that it reads from standard input, each on a line of its own: a name, a `=`, a letter for the cluster, and hexadecimal digits, two
 // for the byte at which the change begins (ff for the largest number of 64 bits) and the others for the record. It prints for each the name, the
 // refusal, the byte that was answered, the reverse, and the nodes afterwards. The clusters have junk in slots that are not in use.
-ghost use Prim.Native.Nat.{_≤_};
-ghost use Rattle.io.specs.Counts.{Counts};
 use cluster::Cluster;
 use cluster::Node;
 
@@ -79,47 +77,6 @@ fn cluster_of(letter: u8, last: Cluster) -> Cluster {
     }
 }
 
-// The value of a hexadecimal digit; 16 for any other byte.
-fn digit(b: u8) -> u32
-    ensures { λ r. ⌜ r ≤ 16 ⌝ }
-{
-    if b < 48 {
-        return 16;
-    }
-    if b < 58 {
-        return (b - 48) as u32;
-    }
-    if b < 97 {
-        return 16;
-    }
-    if b < 103 {
-        return (b - 87) as u32;
-    }
-    16
-}
-
-// The bytes that the digits from `from` on spell; answers how many there are.
-fn decode(text: &[u8], from: usize, bytes: &mut [u8]) -> usize
-    ensures { λ r. ⌜ Counts r (now (bytes .exit)) ⌝ }
-{
-    let mut n = 0;
-    let mut i = from;
-    while i < text.len() {
-        let d = digit(text[i]);
-        let k = n / 2;
-        if d == 16 {
-            return k;
-        }
-        if bytes.len() <= k {
-            return k;
-        }
-        bytes[k] = (bytes[k] % 16) * 16 + d as u8;
-        n += 1;
-        i += 1;
-    }
-    n / 2
-}
-
 // A change, what is answered, and the cluster that is left; of as many nodes as there can be, not the nodes.
 fn change(c: Cluster, bytes: &[u8], at: usize) -> Cluster {
     let made = changes::in_hand(c, bytes, at);
@@ -138,7 +95,7 @@ fn change_line(text: &[u8], from: usize, last: Cluster) -> Cluster {
     }
     let c = cluster_of(text[from], last);
     let mut bytes = [0u8; 64];
-    let n = decode(text, from + 1, &mut bytes);
+    let n = hex::decode(text, from + 1, &mut bytes);
     if n == 0 {
         return last;
     }

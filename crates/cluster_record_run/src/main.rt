@@ -1,27 +1,6 @@
 // Reads cluster records from standard input, each on a line of its own as a name, a `=` and hexadecimal digits, and prints
 // for each the name, the refusal, the byte, the number of nodes and the first former cell, which was lent as 7.
-ghost use Prim.Native.Nat.{_≤_};
-ghost use Rattle.io.specs.Counts.{Counts};
 use cluster::Cluster;
-
-// The value of a hexadecimal digit; 16 for any other byte.
-fn digit(b: u8) -> u32
-    ensures { λ r. ⌜ r ≤ 16 ⌝ }
-{
-    if b < 48 {
-        return 16;
-    }
-    if b < 58 {
-        return (b - 48) as u32;
-    }
-    if b < 65 {
-        return 16;
-    }
-    if b < 71 {
-        return (b - 55) as u32;
-    }
-    16
-}
 
 fn print(refusal: u32, byte: usize, count: usize, cell: u32) {
     io::print_decimal(1, refusal as u64);
@@ -47,31 +26,9 @@ fn show_short(bytes: &[u8]) {
     print(r.refusal, r.byte, r.cluster.count, former[0]);
 }
 
-// The bytes that the digits from `from` on spell; answers how many there are.
-fn decode(text: &[u8], from: usize, bytes: &mut [u8]) -> usize
-    ensures { λ r. ⌜ Counts r (now (bytes .exit)) ⌝ }
-{
-    let mut n = 0;
-    let mut i = from;
-    while i < text.len() {
-        let d = digit(text[i]);
-        let k = n / 2;
-        if d == 16 {
-            return k;
-        }
-        if bytes.len() <= k {
-            return k;
-        }
-        bytes[k] = (bytes[k] % 16) * 16 + d as u8;
-        n += 1;
-        i += 1;
-    }
-    n / 2
-}
-
 fn show_line(text: &[u8], from: usize) {
     let mut bytes = [0u8; 1024];
-    let n = decode(text, from, &mut bytes);
+    let n = hex::decode(text, from, &mut bytes);
     show(&bytes[..n]);
 }
 

@@ -1,4 +1,4 @@
--- `changes_run::decode` meets its contract. The loop's invariant: there are at most two digits to a byte.
+-- `hex::decode` meets its contract. The loop's invariant: there are at most two digits to a byte.
 -- Assumes nothing.
 use Prim.Native.Nat.{ℕ, _-_, _*_, _≤_}
 use mathlib.Core.Path.{_≡_, sym}
@@ -7,11 +7,11 @@ use lib.ListN.{length}
 use lib.Seq.{length-take-le}
 use Rattle.io.specs.Counts.{Counts}
 use borrow.Author.Needs.{needs}
-use Rattle.changes_run.proofs.decode.Statement.{statement}
-use Rattle.changes_run.proofs.decode.Tie as tie
-use Rattle.changes_run.proofs.decode.Reads as reads
-use Rattle.changes_run.proofs.decode.Lts as lts
-use Rattle.changes_run.proofs.digit.Reads as digit-reads
+use Rattle.hex.proofs.decode.Statement.{statement}
+use Rattle.hex.proofs.decode.Tie as tie
+use Rattle.hex.proofs.decode.Reads as reads
+use Rattle.hex.proofs.decode.Lts as lts
+use Rattle.hex.proofs.digit.Reads as digit-reads
 
 counts : (n : ℕ) (l : List ℕ) → n ≤ length l → Counts n l
 counts n l h = (h, sym (length-take-le n l h))
