@@ -1,51 +1,36 @@
--- What settling a plan rests on, over plain lists and numbers: the run is the one of the definition, what is subtracted is there, and the
--- answer and the cells are those of the definition.
+-- What settling a plan rests on, over plain lists and numbers: what is subtracted is there, and the answer and the cells are those of the
+-- definition.
 -- Assumes nothing.
 use Prim.Native.Nat.{ℕ, _-_, _*_, _≤_, _<_}
-use mathlib.Core.Path.{_≡_, refl, sym, ap, _∙_, subst}
-use mathlib.Core.Bool.{Bool, true, false}
+use mathlib.Core.Path.{_≡_, sym, ap, _∙_, subst}
+use mathlib.Core.Bool.{Bool, true}
 use mathlib.Core.List.{List, _++_}
 use native.Mathlib.Omega.{arith}
-use native.Mathlib.Nat.{mul-le-mul}
 use lib.ListN.{length, drop, replicate, length-replicate}
-use borrow.Author.Tests.{le-ltb, le-leb}
+use borrow.Author.Tests.{le-leb}
 use Rattle.sets.specs.ModelBits.{bitsAt, maskOf}
 use Rattle.sets.proofs.Laws.{mask-cong}
 use Rattle.cells.proofs.Cells.{tab-cong}
-use Rattle.exchange.specs.ModelRow.{weigh}
 use Rattle.exchange.proofs.Agreeing.{SameLayout}
-use Rattle.ties.specs.ModelOrder.{firstOf}
 use Rattle.cluster.specs.Terms.{bufferRows, layoutCells, mostCopies, Topology, topology, partitions, Layout, rowsIn, cellsOf, rowAt, idsIn, faultOf}
 use Rattle.cluster.specs.TermsReading.{Accepted}
-use Rattle.incidence.specs.ModelIncidence.{zoneIndex, capAt, bitsOf, incidence, zoneCells}
+use Rattle.incidence.specs.ModelIncidence.{bitsOf, incidence}
 use Rattle.cluster.specs.declared.Cluster.{Cluster}
 use Rattle.cluster.proofs.Accepting.{few-partitions, accepted}
 use Rattle.cell_rows.proofs.CellLayouts.{row-rowsIn}
 use Rattle.masks.specs.ModelMasks.{masksRead, rowMask, cellsWritten, rowsFormed}
 use Rattle.masks.proofs.Laws.{mask-bits, formed-each, written-layout}
-use Rattle.sizing.specs.ModelSizing.{nodesOf, mateCells, capCells, sizeOf, dealtIn}
-use Rattle.sizing.proofs.Reading.{deal-in, deal-length}
+use Rattle.sizing.specs.ModelSizing.{nodesOf, sizeOf}
 use Rattle.improve.specs.ModelRun.{Ran}
-use Rattle.agreement.specs.ModelAgreement.{agreementIn, sharedIn}
+use Rattle.agreement.specs.ModelAgreement.{agreementIn}
 use Rattle.steps.specs.ModelSteps.{State}
 use Rattle.improve.specs.ModelImprove.{ranIn}
-use Rattle.planning.specs.ModelPlan.{matesOf, formerMasks, dealtAt, startRows, ranFrom, layoutRows, sentRows, firstBits, answerBits, planFrom, planOf}
+use Rattle.planning.specs.ModelPlan.{formerMasks, startRows, ranFrom, layoutRows, sentRows, answerBits, planFrom, planOf}
 use Rattle.planner.specs.TermsPlan.{planIn, answered}
 use Rattle.planner.specs.declared.Planned.{Planned}
-use Rattle.improve.proofs.Ground.{Ground, Good, run-good}
-use Rattle.planning.proofs.Grounds.{GoodRows, start-good, ground-over, fm-long, ground, measure}
-use Rattle.planning.proofs.Rows.{finished-bits, stopped-bits, rows-first, rows-share}
-
--- ---- the numbers of a cluster without fault
-
--- Copies of all partitions.
-pub copies-few : (r p : ℕ) → r ≤ mostCopies → p ≤ bufferRows → r * p ≤ layoutCells
-copies-few r p a b = omega (arith, mul-le-mul a b)
-
--- The pairs that code counts are those of the definition.
-pub shared-is : (rows before : List ℕ) (P x : ℕ) → P ≤ bufferRows → P ≤ length rows → P ≤ length before → x ≡ sharedIn rows before P → x ≡ agreementIn rows before P
-unfolding sharedIn
-shared-is rows before P x a b c e = e ∙ simp (le-ltb bufferRows P a, le-ltb (length rows) P b, le-ltb (length before) P c)
+use Rattle.improve.proofs.Ground.{run-good}
+use Rattle.planning.proofs.Grounds.{GoodRows, start-good, fm-long, ground, measure}
+use Rattle.planning.proofs.Rows.{rows-first, rows-share}
 
 module _ (c : Cluster) (e : faultOf c ≡ 0) where
   abbrev t : Topology
@@ -53,84 +38,6 @@ module _ (c : Cluster) (e : faultOf c ≡ 0) where
 
   acc : Accepted t
   acc = accepted c e
-
-  -- ---- the run
-
-  -- The rows that code deals are the dealt rows, and there is one for each partition.
-  module _ (size : ℕ) (rows dealt : List ℕ) (e-rows : rows ≡ replicate bufferRows 0) (e-dealt : dealt ≡ dealtIn c size rows) where
-    the-dealt : dealt ≡ dealtAt t size
-    the-dealt =
-        e-dealt
-        ∙ (ap (dealtIn c size) e-rows
-        ∙ deal-in c size (replicate bufferRows 0) e (omega (arith, few-partitions (t .bits) (acc .bits), length-replicate {A = ℕ} bufferRows 0)))
-
-    pub dealt-fits : (P : ℕ) → P ≡ partitions t → (P ≤ bufferRows) × (P ≤ length dealt)
-    dealt-fits P eP =
-        let few : P ≤ bufferRows = omega (arith, eP, few-partitions (t .bits) (acc .bits)) in
-        (few, omega (arith, few, ap length the-dealt, deal-length t size (replicate bufferRows 0), length-replicate {A = ℕ} bufferRows 0))
-
-  -- The run from the dealt rows, with the numbers and cells that code makes of the cluster.
-  module _ (size P n : ℕ) (before rows zones mates caps dealt : List ℕ) (a : ℕ) (es : size ≡ sizeOf t) (eP : P ≡ partitions t) (en : n ≡ nodesOf t)
-      (e-rows : rows ≡ replicate bufferRows 0) (e-dealt : dealt ≡ dealtIn c size rows) (e-zones : zones ≡ zoneCells t) (e-mates : mates ≡ mateCells zones n)
-      (e-caps : caps ≡ capCells t size)
-    where
-      the-mates : mates ≡ matesOf t
-      the-mates = e-mates ∙ (λ i. mateCells (e-zones i) (en i))
-
-      the-caps : caps ≡ capCells t (sizeOf t)
-      the-caps = e-caps ∙ ap (capCells t) es
-
-      the-start : dealt ≡ startRows t
-      unfolding startRows
-      the-start = the-dealt size rows dealt e-rows e-dealt ∙ ap (dealtAt t) es
-
-      -- How a run from these rows ended: it made these improvements, finished or not, and left these rows, ordered where it finished.
-      abbrev Ended : Bool → ℕ → List ℕ → ℕ → ℕ → List ℕ → List ℕ → List ℕ → Type 0
-      Ended f s new P n mates caps start =
-          let r = ranIn before P mates caps n (c .redundancy) a start in
-          (f ≡ r .finished) × (s ≡ r .steps) × (length new ≡ length start) × (f ≡ false → new ≡ r .state .rows)
-          × (f ≡ true → (R : ℕ) (zone cap : ℕ → ℕ) → Ground P n R (c .redundancy) zone cap before mates caps → Good P n R (c .redundancy) zone cap start
-          → Good P n R (c .redundancy) zone cap new × SameLayout P n (bitsAt new)
-          (firstOf P n R (c .redundancy) zone cap (bitsAt before) (weigh P n (bitsAt before) (bitsAt (r .state .rows)))))
-
-      module _ (large : 1 ≤ size) (long : partitions t ≤ length before) (f : Bool) (s : ℕ) (new : List ℕ) where
-        abbrev ran-on : Ran State
-        ran-on = ranFrom t (sizeOf t) before (startRows t) a
-
-        start : GoodRows t (startRows t)
-        start = start-good t acc (omega (arith, es))
-
-        -- What such a run leaves are good rows with the bits that are answered.
-        abbrev Answers : Type 0
-        Answers =
-            (f ≡ ran-on .finished) × (s ≡ ran-on .steps) × GoodRows t new
-            × SameLayout (partitions t) (nodesOf t) (bitsAt new) (answerBits t (sizeOf t) before f (ran-on .state .rows))
-
-        at-the-start : Ended f s new (partitions t) (nodesOf t) (matesOf t) (capCells t (sizeOf t)) (startRows t) → Answers
-        unfolding ranFrom firstBits
-        at-the-start o = go f refl
-          where
-            go : (b : Bool) → f ≡ b → Answers
-            go true z =
-                let w = o .4 z (t .replication) (zoneIndex t) (capAt t (sizeOf t)) (ground-over t acc before long) start in (
-                  o .0,
-                  o .1,
-                  w .0,
-                  subst (SameLayout (partitions t) (nodesOf t) (bitsAt new)) (sym (finished-bits t (sizeOf t) before f (ran-on .state .rows) z)) (w .1),
-                )
-            go false z = (
-              o .0,
-              o .1,
-              subst (GoodRows t) (sym (o .3 z)) (run-good (ground-over t acc before long) (startRows t) start a .good),
-              subst (SameLayout (partitions t) (nodesOf t) (bitsAt new)) (sym (stopped-bits t (sizeOf t) before f (ran-on .state .rows) z))
-                  (λ p l b k. ap (λ (x : List ℕ). bitsAt x p b) (o .3 z)),
-            )
-
-        pub answers : Ended f s new P n mates caps dealt → Answers
-        answers o =
-            at-the-start (subst (λ (X : Type 0). X) (λ i. Ended f s new (eP i) (en i) (the-mates i) (the-caps i) (the-start i)) o)
-
-  -- ---- the answer
 
   -- The former rows that code reads are those of the former layout.
   module _ (former : List ℕ) (P : ℕ) (before : List ℕ) (formed : rowsFormed former (partitions t) ≡ true) (eP : P ≡ partitions t)

@@ -6,7 +6,6 @@ ghost use Rattle.planner.specs.TermsPlan.{unusable, plannedOf, assignmen
 use cluster::Cluster;
 use cluster::refusal;
 
-mod leave;
 mod refuse;
 mod settle;
 
@@ -53,7 +52,7 @@ pub fn plan(
     }
     let size = sizing::size(c);
     if size == 0 {
-        leave::clear(scratch);
+        clearing::clear(scratch);
         return refused(refusal::NO_LAYOUT);
     }
     let planned = settle::settle(
@@ -64,6 +63,6 @@ pub fn plan(
         assignment,
         &mut scratch[..graph::KEPT],
     );
-    leave::clear(scratch);
+    clearing::clear(scratch);
     planned
 }

@@ -11,7 +11,7 @@ use Rattle.planner.proofs.plan.Statement.{statement}
 use Rattle.planner.proofs.plan.Tie as tie
 use Rattle.planner.proofs.plan.Reads as reads
 use Rattle.planner.proofs.plan.Lts as lts
-use Rattle.planner.proofs.leave.clear.Reads as clear-reads
+use Rattle.clearing.proofs.clear.Reads as clear-reads
 use Rattle.planner.proofs.refuse.unusable.Reads as unusable-reads
 use Rattle.planner.proofs.refused.Reads as refused-reads
 use Rattle.planner.proofs.settle.settle.Reads as settle-reads

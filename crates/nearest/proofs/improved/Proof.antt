@@ -7,11 +7,11 @@ use Rattle.cells.proofs.Cells.{length-of-map}
 use Rattle.cluster.specs.Terms.{mostNodes, partitions, topology}
 use Rattle.cluster.proofs.Accepting.{partitions-in-range, accepted, few-nodes, nodes-count}
 use Rattle.sizing.specs.ModelSizing.{nodesOf}
-use Rattle.planner.proofs.Settling.{dealt-fits, answers}
-use Rattle.planner.proofs.settle.improved.Statement.{statement}
-use Rattle.planner.proofs.settle.improved.Tie as tie
-use Rattle.planner.proofs.settle.improved.Reads as reads
-use Rattle.planner.proofs.settle.improved.Lts as lts
+use Rattle.nearest.proofs.Running.{dealt-fits, answers}
+use Rattle.nearest.proofs.improved.Statement.{statement}
+use Rattle.nearest.proofs.improved.Tie as tie
+use Rattle.nearest.proofs.improved.Reads as reads
+use Rattle.nearest.proofs.improved.Lts as lts
 use Rattle.ordering.proofs.run.Reads as run-reads
 use Rattle.sizing.proofs.caps.Reads as caps-reads
 use Rattle.sizing.proofs.deal.Reads as deal-reads

@@ -6,10 +6,10 @@ use mathlib.Core.List.{List, _++_}
 use lib.ListN.{length, drop, set, replicate}
 use borrow.Author.Fill.{fill-none, fill-more}
 use Rattle.cluster.specs.Terms.{scratchCells}
-use Rattle.planner.proofs.leave.clear.Statement.{statement}
-use Rattle.planner.proofs.leave.clear.Tie as tie
-use Rattle.planner.proofs.leave.clear.Reads as reads
-use Rattle.planner.proofs.leave.clear.Lts as lts
+use Rattle.clearing.proofs.clear.Statement.{statement}
+use Rattle.clearing.proofs.clear.Tie as tie
+use Rattle.clearing.proofs.clear.Reads as reads
+use Rattle.clearing.proofs.clear.Lts as lts
 
 abbrev Inv-loop : tie.InvT-loop
 Inv-loop scratch₀ i₀ scratch i = (i ≤ scratchCells) × (length scratch ≡ length scratch₀) × (scratch ≡ replicate i 0 ++ drop i scratch₀)

@@ -2,13 +2,13 @@ use borrow.Author.Needs.{needs}
 use native.Mathlib.Omega.{arith}
 use mathlib.Core.Path.{_≡_, ap}
 use Prim.Native.Nat.{ℕ, _-_, _*_, _≤_}
 use Rattle.agreement.specs.ModelAgreement.{agreementIn}
-use Rattle.planner.proofs.Settling.{copies-few, shared-is}
-use Rattle.planner.proofs.settle.sent.Statement.{statement}
-use Rattle.planner.proofs.settle.sent.Tie as tie
-use Rattle.planner.proofs.settle.sent.Reads as reads
-use Rattle.planner.proofs.settle.sent.Lts as lts
+use Rattle.agreement.proofs.Sums.{copies-few, shared-is}
+use Rattle.agreement.proofs.sent.Statement.{statement}
+use Rattle.agreement.proofs.sent.Tie as tie
+use Rattle.agreement.proofs.sent.Reads as reads
+use Rattle.agreement.proofs.sent.Lts as lts
 use Rattle.agreement.proofs.agreement.Reads as agreement-reads
 
 agreement-requires : tie.Need-agreement-requires
 agreement-requires c κs = search needs

@@ -7,7 +7,7 @@ ghost use Rattle.cluster.specs.Terms.{scratchCells};
 use cluster::Cluster;
 
 // Zeroes the scratch, and leaves what lies beyond.
-pub(crate) fn clear(scratch: &mut [u32])
+pub fn clear(scratch: &mut [u32])
     requires { ⌜ scratchCells ≤ length (now scratch) ⌝ }
     ensures { λ _. ⌜ now (scratch .exit) ≡ replicate scratchCells 0 ++ drop scratchCells (now (scratch .entry)) ⌝ }
 {
