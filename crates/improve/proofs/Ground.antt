@@ -43,7 +43,7 @@ use Rattle.circuits.proofs.Improving.{Ring, ok-right, witness-graph, cycle-roun
 use Rattle.agreement.specs.ModelAgreement.{agreementIn}
 use Rattle.steps.specs.ModelSteps.{State, arcsIn, cycleIn, foundIn, soughtIn, turnedIn, improvesIn, nextIn}
 use Rattle.improve.specs.ModelImprove.{begun, ranIn}
-use Rattle.improve.proofs.Runs.{not-both, run-keeps, run-ends}
+use Rattle.allowances.proofs.Runs.{not-both, run-keeps, run-ends}
 
 -- What a run stands on: the zones of the nodes in the slice of mates, the caps in cells, and a former row for each of the partitions.
 pub record Ground (P N R Z : ℕ) (zone cap : ℕ → ℕ) (former mates caps : List ℕ) : Type 0 where

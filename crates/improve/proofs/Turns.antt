@@ -15,7 +15,7 @@ use Rattle.sums.proofs.Sum.{lt-or-ge}
 use Rattle.exchange.specs.ModelUncross.{Walk, Same}
 use Rattle.cycles.specs.ModelFound.{walkCells}
 use Rattle.walks.specs.ModelWalks.{walkIn}
-use Rattle.improve.specs.ModelRun.{Ran, later, after, run}
+use Rattle.allowances.specs.ModelRun.{Ran, later, after, run}
 use Rattle.steps.specs.ModelSteps.{State, improvesIn, nextIn, steppedIn}
 use Rattle.improve.specs.ModelImprove.{begun, ranIn}
 use Rattle.steps.proofs.Steps.{Holds, look-improves, look-keeps, step-improves, step-next, step-none}

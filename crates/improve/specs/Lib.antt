@@ -1,2 +1,1 @@
-pub mod ModelRun
 pub mod ModelImprove

@@ -5,7 +5,7 @@ use Prim.Native.Nat.{ℕ}
 use mathlib.Core.List.{List}
 use Rattle.exchange.specs.ModelUncross.{walk}
 use Rattle.steps.specs.ModelSteps.{State, improvesIn, nextIn}
-use Rattle.improve.specs.ModelRun.{Ran, run}
+use Rattle.allowances.specs.ModelRun.{Ran, run}
 
 -- Rows at the beginning of a run, with a walk that has no arcs.
 abbrev pub begun : List ℕ → State

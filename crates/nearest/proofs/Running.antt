@@ -17,7 +17,7 @@ use Rattle.cluster.specs.declared.Cluster.{Cluster}
 use Rattle.cluster.proofs.Accepting.{few-partitions, accepted}
 use Rattle.sizing.specs.ModelSizing.{nodesOf, mateCells, capCells, sizeOf, dealtIn}
 use Rattle.sizing.proofs.Reading.{deal-in, deal-length}
-use Rattle.improve.specs.ModelRun.{Ran}
+use Rattle.allowances.specs.ModelRun.{Ran}
 use Rattle.steps.specs.ModelSteps.{State}
 use Rattle.improve.specs.ModelImprove.{ranIn}
 use Rattle.planning.specs.ModelPlan.{matesOf, dealtAt, startRows, ranFrom, firstBits, answerBits}

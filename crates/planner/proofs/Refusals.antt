@@ -17,7 +17,7 @@ use Rattle.cell_rows.proofs.RowScans.{row-of-buffer}
 use Rattle.masks.specs.ModelMasks.{rowsFormed}
 use Rattle.sums.specs.TermsSums.{everyTo}
 use Rattle.sums.proofs.Tests.{every-cong}
-use Rattle.improve.proofs.Runs.{not-both}
+use Rattle.allowances.proofs.Runs.{not-both}
 use Rattle.masks.proofs.Laws.{holds-formed, formed-former}
 use Rattle.planner.specs.TermsPlan.{unusable}
 

@@ -21,7 +21,7 @@ use Rattle.cell_rows.proofs.CellLayouts.{row-rowsIn}
 use Rattle.masks.specs.ModelMasks.{masksRead, rowMask, cellsWritten, rowsFormed}
 use Rattle.masks.proofs.Laws.{mask-bits, formed-each, written-layout}
 use Rattle.sizing.specs.ModelSizing.{nodesOf, sizeOf}
-use Rattle.improve.specs.ModelRun.{Ran}
+use Rattle.allowances.specs.ModelRun.{Ran}
 use Rattle.agreement.specs.ModelAgreement.{agreementIn}
 use Rattle.steps.specs.ModelSteps.{State}
 use Rattle.improve.specs.ModelImprove.{ranIn}

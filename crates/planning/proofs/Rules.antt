@@ -10,12 +10,12 @@ use lib.ListN.{length}
 use Rattle.sums.proofs.Sum.{lt-or-ge}
 use Rattle.cluster.specs.Terms.{Topology, partitions, Layout, row, ValidAt, IsSize, sent}
 use Rattle.cluster.specs.TermsFirst.{Before}
-use Rattle.improve.specs.ModelRun.{Ran, run}
+use Rattle.allowances.specs.ModelRun.{Ran, run}
 use Rattle.cluster.specs.TermsReading.{mostImprovements}
 use Rattle.planning.specs.Demand.{Answer, Rules}
 use Rattle.planning.specs.ModelPlan.{reached, answerAt}
 use Rattle.sums.proofs.Tests.{true-or-false}
-use Rattle.improve.proofs.Runs.{not-both, run-is, run-none, run-keeps, stopped-improves, finished-done, stopped-spent, finished-larger, finished-smallest, stopped-next}
+use Rattle.allowances.proofs.Runs.{not-both, run-is, run-none, run-keeps, stopped-improves, finished-done, stopped-spent, finished-larger, finished-smallest, stopped-next}
 
 module _ (t : Topology) (F : Layout) (s : ℕ) {A : Type 0} (improves : A → Bool) (next : A → A) (lay : Bool → A → Layout) (sends : A → ℕ) (start : A) (Good : A → Type 0) where
   -- States that stand for layouts valid at the size s: an improvement lowers what is sent, and where there is none, no layout sends less. The layout that

@@ -15,7 +15,7 @@ use Rattle.incidence.specs.ModelIncidence.{zoneIndex, capAt, incidence, layoutO
 use Rattle.sizing.specs.ModelSizing.{nodesOf, mateCells, capCells, sizeOf, dealtRows}
 use Rattle.agreement.specs.ModelAgreement.{agreementIn}
 use Rattle.steps.specs.ModelSteps.{State, improvesIn, nextIn}
-use Rattle.improve.specs.ModelRun.{Ran, run}
+use Rattle.allowances.specs.ModelRun.{Ran, run}
 use Rattle.improve.specs.ModelImprove.{begun, ranIn}
 use Rattle.planning.specs.Demand.{Answer}
 

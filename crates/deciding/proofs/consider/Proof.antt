@@ -6,7 +6,7 @@ use borrow.Author.Needs.{needs}
 use Rattle.sets.proofs.Laws.{member-false}
 use mathlib.Core.Path.{refl, sym, ap, _∙_}
 use Rattle.evens.specs.ModelEvens.{wantedOf}
-use Rattle.deciding.proofs.Ends.{unwanted-keeps}
+use Rattle.attempts.proofs.Ends.{unwanted-keeps}
 use Rattle.deciding.proofs.consider.Statement.{statement}
 use Rattle.deciding.proofs.consider.Tie as tie
 use Rattle.deciding.proofs.consider.Reads as reads

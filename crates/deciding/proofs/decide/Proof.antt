@@ -12,8 +12,8 @@ use Rattle.sets.proofs.Laws.{member-true, member-false}
 use Rattle.swaps.specs.ModelSwaps.{Tight}
 use Rattle.holders.specs.ModelHolders.{Held}
 use Rattle.evens.specs.ModelEvens.{giversOf}
-use Rattle.deciding.specs.ModelDeciding.{Keeps}
-use Rattle.deciding.proofs.Ends.{goal-told, again-same, in-keeps, begin-keeps, again-keeps, end-keeps, left, left-less}
+use Rattle.attempts.specs.ModelDeciding.{Keeps}
+use Rattle.attempts.proofs.Ends.{goal-told, again-same, in-keeps, begin-keeps, again-keeps, end-keeps, left, left-less}
 use borrow.Author.Tests.{eqb-true, not-false}
 use borrow.Author.Needs.{needs}
 use Rattle.deciding.proofs.decide.Statement.{statement}

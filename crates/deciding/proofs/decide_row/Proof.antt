@@ -7,8 +7,8 @@ use Rattle.cluster.specs.Terms.{mostNodes}
 use Rattle.swaps.specs.ModelSwaps.{Tight}
 use Rattle.holders.specs.ModelHolders.{Held}
 use Rattle.evens.specs.ModelEvens.{wantedOf}
-use Rattle.deciding.specs.ModelDeciding.{Reaches}
-use Rattle.deciding.proofs.Ends.{reaches-pair, reaches-row}
+use Rattle.attempts.specs.ModelDeciding.{Reaches}
+use Rattle.attempts.proofs.Ends.{reaches-pair, reaches-row}
 use borrow.Author.Needs.{needs}
 use Rattle.deciding.proofs.decide_row.Statement.{statement}
 use Rattle.deciding.proofs.decide_row.Tie as tie

@@ -6,8 +6,8 @@ use lib.ListN.{length}
 use Rattle.cluster.specs.Terms.{mostNodes}
 use Rattle.swaps.specs.ModelSwaps.{Tight}
 use Rattle.holders.specs.ModelHolders.{Held}
-use Rattle.deciding.specs.ModelDeciding.{Reaches}
-use Rattle.deciding.proofs.Ends.{reaches-next}
+use Rattle.attempts.specs.ModelDeciding.{Reaches}
+use Rattle.attempts.proofs.Ends.{reaches-next}
 use borrow.Author.Needs.{needs}
 use Rattle.deciding.proofs.decide_rows.Statement.{statement}
 use Rattle.deciding.proofs.decide_rows.Tie as tie

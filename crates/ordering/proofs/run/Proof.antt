@@ -4,7 +4,7 @@ use mathlib.Core.Bool.{true, false, false≢true}
 use native.Mathlib.Omega.{arith}
 use borrow.Author.Tests.{not-true, not-false}
 use Rattle.holders.proofs.Holding.{held-none}
-use Rattle.ordering.proofs.Starting.{run-first}
+use Rattle.ordering.proofs.Finishing.{run-first}
 use borrow.Author.Needs.{needs}
 use Rattle.ordering.proofs.run.Statement.{statement}
 use Rattle.ordering.proofs.run.Tie as tie

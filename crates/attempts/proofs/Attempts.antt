@@ -32,10 +32,10 @@ use Rattle.ways.specs.ModelWays.{arcFor, Traced}
 use Rattle.exchanging.specs.ModelExchanged.{walkedOf}
 use Rattle.exchanging.proofs.Making.{length-exchanged}
 use Rattle.exchanging.proofs.Exchanging.{walked-bit, walked-small}
-use Rattle.deciding.specs.ModelDeciding.{Covers, Givers, Standing, Ordered, members, Refreshed}
-use Rattle.deciding.proofs.Evenly.{even-leads, arc-allowed, arc-level, arc-nowhere, givers-right}
-use Rattle.deciding.proofs.Meeting.{waves-shut, waves-way}
-use Rattle.deciding.proofs.Turning.{covers-turn}
+use Rattle.attempts.specs.ModelDeciding.{Covers, Givers, Standing, Ordered, members, Refreshed}
+use Rattle.attempts.proofs.Evenly.{even-leads, arc-allowed, arc-level, arc-nowhere, givers-right}
+use Rattle.attempts.proofs.Meeting.{waves-shut, waves-way}
+use Rattle.attempts.proofs.Turning.{covers-turn}
 
 -- ---- pairs that are free
 

@@ -1,10 +1,10 @@
--- `ordering::order` meets its contract. Assumes nothing.
+-- `firsts::order` meets its contract. Assumes nothing.
 use native.Mathlib.Omega.{arith}
 use Rattle.improve.proofs.Ground.{some}
-use Rattle.ordering.proofs.Starting.{order-first}
+use Rattle.firsts.proofs.Starting.{order-first}
 use borrow.Author.Needs.{needs}
-use Rattle.ordering.proofs.order.Statement.{statement}
-use Rattle.ordering.proofs.order.Tie as tie
+use Rattle.firsts.proofs.order.Statement.{statement}
+use Rattle.firsts.proofs.order.Tie as tie
 
 returns : tie.Need-returns
 returns c = (search needs, λ R zone cap G g e. absurd (omega (arith, some G (c .before .before .before .before .before .before .before .before .before .args .rows .now) g)))

@@ -16,7 +16,7 @@ use Rattle.exchange.specs.ModelCircuit.{Allowed}
 use Rattle.ties.specs.ModelEven.{Even, Shut, Way}
 use Rattle.waves.specs.ModelWaves.{waveOf, seenOf}
 use Rattle.waves.proofs.Waving.{wave-seen, seen-stays, seen-wave, wave-new, seen-step, seen-shut}
-use Rattle.deciding.specs.ModelDeciding.{Covers, Givers}
+use Rattle.attempts.specs.ModelDeciding.{Covers, Givers}
 
 module _ (P N R Z : ℕ) (zone cap : ℕ → ℕ) (g free S : ℕ → ℕ → ℕ) (d : ℕ → ℕ) (p b goal : ℕ) (leads : List ℕ) (few : N ≤ mostNodes) (in-p : p < P) (in-b : b < N)
     (c : Covers P N R Z zone cap g free S d leads) (h : Givers N R Z zone g free S d p b goal)

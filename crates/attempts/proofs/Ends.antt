@@ -15,8 +15,8 @@ use Rattle.waves.specs.ModelWaves.{waveCells, Waved}
 use Rattle.ways.specs.ModelWays.{arcFor, Traced}
 use Rattle.exchanging.specs.ModelExchanged.{walkedOf}
 use Rattle.exchanging.proofs.Making.{length-exchanged}
-use Rattle.deciding.specs.ModelDeciding.{Ordered, Keeps, Goes, Reaches, Refreshed, members}
-use Rattle.deciding.proofs.Attempts.{in-ordered, unwanted-ordered, none-ordered, shut-ordered, stale-ordered, turned-ordered, stale-less, ordered-row}
+use Rattle.attempts.specs.ModelDeciding.{Ordered, Keeps, Goes, Reaches, Refreshed, members}
+use Rattle.attempts.proofs.Attempts.{in-ordered, unwanted-ordered, none-ordered, shut-ordered, stale-ordered, turned-ordered, stale-less, ordered-row}
 
 -- ---- one attempt
 

@@ -8,7 +8,7 @@ use native.Mathlib.Omega.{arith}
 use native.Mathlib.Numerals.{one-add}
 use Rattle.sums.proofs.Sum.{lt-or-ge}
 use Rattle.sums.proofs.Tests.{true-or-false}
-use Rattle.improve.specs.ModelRun.{Ran, later, after, run}
+use Rattle.allowances.specs.ModelRun.{Ran, later, after, run}
 
 -- A test is not both true and false.
 pub not-both : (b : Bool) → b ≡ true → b ≡ false → ⊥

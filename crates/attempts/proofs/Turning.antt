@@ -15,7 +15,7 @@ use Rattle.exchange.specs.ModelCircuit.{Circuit, turn}
 use Rattle.exchange.proofs.Circuit.{turn-room, turn-kept}
 use Rattle.exchange.proofs.Agreeing.{valid-cong, swap-cong}
 use Rattle.ties.specs.ModelEven.{Even}
-use Rattle.deciding.specs.ModelDeciding.{Covers}
+use Rattle.attempts.specs.ModelDeciding.{Covers}
 
 -- Some arc is of a partition, or none is.
 some-arc : (m : ℕ) (q : ℕ → ℕ) (p : ℕ) → ((i : ℕ) × (i < m) × (q i ≡ p)) ⊎ ((i : ℕ) → i < m → q i ≡ p → ⊥)

@@ -1,4 +1,4 @@
--- `deciding::attempt` meets its contract: no wave meets the goal, or a way back is traced whole and turned, or an arc of it is nowhere.
+-- `attempts::attempt` meets its contract: no wave meets the goal, or a way back is traced whole and turned, or an arc of it is nowhere.
 -- Assumes nothing.
 use native.Mathlib.Omega.{arith}
 use Prim.Native.Nat.{_+_, _<_}
@@ -6,10 +6,10 @@ use mathlib.Core.Path.{_≡_, refl, ap, _∙_}
 use mathlib.Core.Bool.{false≢true}
 use lib.ListN.{length, getD, set, length-set}
 use Rattle.cluster.specs.Terms.{mostNodes}
-use Rattle.deciding.proofs.Ends.{walked-long, shut-goes, stale-node, stale-goes, turned-goes}
+use Rattle.attempts.proofs.Ends.{walked-long, shut-goes, stale-node, stale-goes, turned-goes}
 use borrow.Author.Needs.{needs}
-use Rattle.deciding.proofs.attempt.Statement.{statement}
-use Rattle.deciding.proofs.attempt.Tie as tie
+use Rattle.attempts.proofs.attempt.Statement.{statement}
+use Rattle.attempts.proofs.attempt.Tie as tie
 
 slice-aggregate-waves : tie.Need-slice-aggregate-waves
 slice-aggregate-waves c = search needs

@@ -2,8 +2,7 @@
 -- what the levels differ by lead along every even exchange; and where all pairs are decided from there, the rows are the first of their weight.
 -- Assumes nothing.
 use Prim.Native.Nat.{ℕ, _+_, _≤_, _<_}
-use mathlib.Core.Path.{_≡_, refl, sym, ap, _∙_, subst}
-use mathlib.Core.Bool.{true}
+use mathlib.Core.Path.{_≡_, refl, ap, _∙_, subst}
 use mathlib.Core.List.{List}
 use mathlib.Core.Logic.{⊎-elim}
 use native.Mathlib.Omega.{arith}
@@ -23,12 +22,10 @@ use Rattle.levels.specs.ModelGraph.{graphOf, arcOf, weightOf}
 use Rattle.graph.proofs.Exchanges.{within, within-arc}
 use Rattle.evens.specs.ModelEvens.{Levelled, leadOf}
 use Rattle.evens.proofs.Evening.{lead-in, lead-nodes}
-use Rattle.deciding.specs.ModelDeciding.{Covers, Ordered}
-use Rattle.deciding.proofs.Attempts.{ordered-first}
-use Rattle.steps.specs.ModelSteps.{arcsIn, cycleIn, improvesIn, nextIn}
-use Rattle.improve.specs.ModelImprove.{begun, ranIn}
-use Rattle.improve.proofs.Runs.{finished-done}
-use Rattle.improve.proofs.Ground.{Ground, Good, graph, witness, the-graph, found-none, sought-none, run-good}
+use Rattle.attempts.specs.ModelDeciding.{Covers, Ordered}
+use Rattle.attempts.proofs.Attempts.{ordered-first}
+use Rattle.steps.specs.ModelSteps.{arcsIn, cycleIn}
+use Rattle.improve.proofs.Ground.{Ground, Good, graph, witness, the-graph, found-none}
 
 module _ (P N R Z : ℕ) (zone cap : ℕ → ℕ) (former mates caps : List ℕ) where
   module _ (G : Ground P N R Z zone cap former mates caps) (rows : List ℕ) (g : Good P N R Z zone cap rows) (d : ℕ → ℕ)
@@ -109,26 +106,3 @@ module _ (P N R Z : ℕ) (zone cap : ℕ → ℕ) (former mates caps : List ℕ)
         record { long = r .standing .long; small = r .standing .small; within = r .standing .nearest .within },
         ordered-first P N R Z zone cap A former mates caps even d new after r,
       )
-
-  -- In the rows that a finished run ends with no cycle is found.
-  finished-none : (G : Ground P N R Z zone cap former mates caps) (start : List ℕ) → Good P N R Z zone cap start → (a : ℕ)
-      → ranIn former P mates caps N Z a start .finished ≡ true → cycleIn former P mates caps N Z (ranIn former P mates caps N Z a start .state .rows) ≡ 0
-  unfolding ranIn
-  finished-none G start g a f =
-      sought-none G (ranIn former P mates caps N Z a start .state) (run-good G start g a)
-      (finished-done (improvesIn former P mates caps N Z) (nextIn former P mates caps N Z) (begun start) a f)
-
-  -- So what orders rows in which no cycle is found makes those of a finished run the first.
-  pub run-first : Ground P N R Z zone cap former mates caps → (start : List ℕ) → Good P N R Z zone cap start → (a : ℕ)
-      → ranIn former P mates caps N Z a start .finished ≡ true → (rows new : List ℕ) → rows ≡ ranIn former P mates caps N Z a start .state .rows
-      → (Good P N R Z zone cap rows → cycleIn former P mates caps N Z rows ≡ 0
-      → Good P N R Z zone cap new × SameLayout P N (bitsAt new) (firstOf P N R Z zone cap (bitsAt former) (weigh P N (bitsAt former) (bitsAt rows))))
-      → Good P N R Z zone cap new
-      × SameLayout P N (bitsAt new)
-      (firstOf P N R Z zone cap (bitsAt former) (weigh P N (bitsAt former) (bitsAt (ranIn former P mates caps N Z a start .state .rows))))
-  run-first G start g a f rows new e orders =
-      subst
-      (λ (x : List ℕ). Good P N R Z zone cap new
-      × SameLayout P N (bitsAt new) (firstOf P N R Z zone cap (bitsAt former) (weigh P N (bitsAt former) (bitsAt x))))
-      e
-      (orders (subst (Good P N R Z zone cap) (sym e) (run-good G start g a .good)) (ap (cycleIn former P mates caps N Z) e ∙ finished-none G start g a f))

@@ -1,4 +1,4 @@
--- `deciding::refresh` meets its contract. The arcs that the loop passed lead anew. Assumes nothing.
+-- `attempts::refresh` meets its contract. The arcs that the loop passed lead anew. Assumes nothing.
 use borrow.Author.Needs.{needs}
 use native.Mathlib.Omega.{arith}
 use Prim.Native.Nat.{ℕ, _+_, _-_, _≤_}
@@ -10,10 +10,10 @@ use Rattle.cluster.specs.Terms.{mostNodes}
 use Rattle.levels.specs.ModelGraph.{arcCells}
 use Rattle.swaps.specs.ModelSwaps.{tightOf, Tight}
 use Rattle.evens.specs.ModelEvens.{Widened}
-use Rattle.deciding.specs.ModelDeciding.{Refreshed}
-use Rattle.deciding.proofs.Refreshing.{refresh-none, refresh-row, refresh-store, refresh-past}
-use Rattle.deciding.proofs.refresh.Statement.{statement}
-use Rattle.deciding.proofs.refresh.Tie as tie
+use Rattle.attempts.specs.ModelDeciding.{Refreshed}
+use Rattle.attempts.proofs.Refreshing.{refresh-none, refresh-row, refresh-store, refresh-past}
+use Rattle.attempts.proofs.refresh.Statement.{statement}
+use Rattle.attempts.proofs.refresh.Tie as tie
 
 abbrev Inv-loop : tie.InvT-loop
 Inv-loop leads₀ rows tight former partitions mates all z even y q m i₀ leads i =

@@ -14,7 +14,7 @@ use Rattle.sets.proofs.Laws.{bit-le}
 use Rattle.arcs.specs.ModelMoves.{joined}
 use Rattle.evens.specs.ModelEvens.{evenTo, Widened}
 use Rattle.evens.proofs.Turns.{bit-joined}
-use Rattle.deciding.specs.ModelDeciding.{Refreshed}
+use Rattle.attempts.specs.ModelDeciding.{Refreshed}
 
 -- What holds below i and at i holds below i + 1.
 below-one-more : (i j : ℕ) {A : Type 0} → j < i + 1 → (j < i → A) → (j ≡ i → A) → A

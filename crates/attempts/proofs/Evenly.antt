@@ -29,7 +29,7 @@ use Rattle.evens.proofs.Evening.{even-to-in, giver-is, is-giver}
 use Rattle.walks.specs.ModelWalks.{suitsAt, roomAt}
 use Rattle.walks.proofs.Suiting.{suits-has, has-suits}
 use Rattle.ways.specs.ModelWays.{weightIn, freeFrom, rowFor, arcFor}
-use Rattle.deciding.specs.ModelDeciding.{Givers, Standing}
+use Rattle.attempts.specs.ModelDeciding.{Givers, Standing}
 
 -- ---- free pairs
 
