@@ -19,7 +19,7 @@ use Rattle.waves.proofs.Waving.{spread-in}
 use Rattle.swaps.specs.ModelSwaps.{tightOf, targetsOf}
 use Rattle.swaps.proofs.Steps.{targets-crowded, targets-few}
 use Rattle.evens.specs.ModelEvens.{Levelled, leadOf, evenOf, evenTo, earlierOf, wantedOf, giversOf}
-use Rattle.evens.proofs.Standing.{one-lt, one-ge}
+use Rattle.evens.proofs.Turns.{one-lt, one-ge}
 
 -- ---- levels and weights
 

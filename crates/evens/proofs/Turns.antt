@@ -8,6 +8,7 @@ use native.Mathlib.Omega.{arith}
 use lib.Dec.{ltb}
 use lib.ListN.{length, getD, set, length-set}
 use lib.Seq.{getD-set-same, getD-set-other}
+use borrow.Author.Tests.{lt-ltb, le-ltb}
 use Rattle.cluster.specs.Terms.{mostNodes}
 use Rattle.sums.specs.TermsSums.{one-if}
 use Rattle.sums.specs.ModelSums.{is}
@@ -21,7 +22,16 @@ use Rattle.arcs.proofs.Growing.{done-grows}
 use Rattle.waves.specs.ModelWaves.{spreadOf}
 use Rattle.cells.proofs.Cells.{getD-tab}
 use Rattle.evens.specs.ModelEvens.{evenOf, evenTo, earlierOf, wantedOf, giversOf, Widened}
-use Rattle.evens.proofs.Standing.{one-lt, one-ge}
+
+-- ---- tests of order as numbers
+
+pub one-lt : (a b : ℕ) → a < b → one-if (ltb a b) ≡ 1
+unfolding one-if
+one-lt a b l = ap one-if (lt-ltb a b l)
+
+pub one-ge : (a b : ℕ) → b ≤ a → one-if (ltb a b) ≡ 0
+unfolding one-if
+one-ge a b l = ap one-if (le-ltb a b l)
 
 -- ---- what the code computes, step by step
 

@@ -59,8 +59,8 @@ pub fn order(
         kept,
     );
     let levels = cycles::levels(&arcs, nodes);
-    let even = evens::even(&levels, nodes);
-    let mut leads = evens::lead(&arcs, &even, nodes);
+    let even = leads::even(&levels, nodes);
+    let mut leads = leads::lead(&arcs, &even, nodes);
     deciding::decide_rows(
         rows,
         tight,

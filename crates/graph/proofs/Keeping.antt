@@ -27,8 +27,10 @@ use Rattle.swaps.specs.ModelLeaves.{leafRows, ChangedIn}
 use Rattle.arcs.specs.ModelMoves.{moves, movesTo}
 use Rattle.arcs.specs.ModelGrowth.{Grown, Written}
 use Rattle.graph.specs.ModelArcs.{copiesTo, roomy, cellOf, arcsOf}
-use Rattle.graph.specs.ModelKept.{parts, branchRows, mostLeaves, keptCells, Part, rowsIn, Leaf, Branch, Kept, Filled, Merged, Gathered, Renewed}
-use Rattle.graph.proofs.Unions.{max-cong, branch-merged, all-moves}
+use Rattle.unions.specs.ModelUnions.{parts, mostLeaves, keptCells, Merged, Gathered}
+use Rattle.graph.specs.ModelKept.{branchRows, Part, rowsIn, Leaf, Branch, Kept, Filled, Renewed}
+use Rattle.graph.proofs.Branches.{branch-merged, all-moves}
+use Rattle.unions.proofs.Unions.{max-cong}
 
 -- ---- digits of the set of stale leaves
 

@@ -1,4 +1,4 @@
 pub mod Members
 pub mod Exchanges
-pub mod Unions
+pub mod Branches
 pub mod Keeping

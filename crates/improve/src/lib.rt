@@ -7,7 +7,8 @@ ghost use Rattle.cycles.specs.ModelFound.{walkCells};
 ghost use Rattle.sets.specs.ModelBits.{bit, belowOf};
 ghost use Rattle.swaps.specs.ModelSwaps.{Tight};
 ghost use Rattle.holders.specs.ModelHolders.{Held};
-ghost use Rattle.graph.specs.ModelKept.{keptCells, Kept};
+ghost use Rattle.unions.specs.ModelUnions.{keptCells};
+ghost use Rattle.graph.specs.ModelKept.{Kept};
 ghost use Rattle.improve.specs.ModelImprove.{ranIn};
 use steps::Left;
 

@@ -7,7 +7,7 @@ ghost use Rattle.cluster.specs.TermsReading.{Fits32};
 ghost use Rattle.sets.specs.ModelBits.{bitsAt};
 ghost use Rattle.exchange.proofs.Agreeing.{SameLayout};
 ghost use Rattle.sizing.specs.ModelSizing.{nodesOf, sizeOf};
-ghost use Rattle.graph.specs.ModelKept.{keptCells};
+ghost use Rattle.unions.specs.ModelUnions.{keptCells};
 ghost use Rattle.planning.specs.ModelPlan.{startRows, ranFrom, answerBits};
 ghost use Rattle.planning.proofs.Grounds.{GoodRows};
 use cluster::Cluster;

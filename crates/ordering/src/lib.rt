@@ -8,7 +8,7 @@ ghost use Rattle.exchange.specs.ModelRow.{weigh};
 ghost use Rattle.exchange.proofs.Agreeing.{SameLayout};
 ghost use Rattle.ties.specs.ModelOrder.{firstOf};
 ghost use Rattle.sets.specs.ModelBits.{bitsAt};
-ghost use Rattle.graph.specs.ModelKept.{keptCells};
+ghost use Rattle.unions.specs.ModelUnions.{keptCells};
 ghost use Rattle.improve.specs.ModelImprove.{ranIn};
 ghost use Rattle.improve.proofs.Ground.{Ground, Good};
 use cluster::Cluster;

@@ -14,7 +14,7 @@ use Rattle.cluster.specs.Terms.{layoutCells, scratchCells, topology, partitions
 use Rattle.cluster.specs.declared.Cluster.{Cluster}
 use Rattle.cluster.proofs.Accepting.{accepted}
 use Rattle.cluster.specs.TermsReading.{Fits32}
-use Rattle.graph.specs.ModelKept.{keptCells}
+use Rattle.unions.specs.ModelUnions.{keptCells}
 use Rattle.sizing.specs.ModelSizing.{sizeOf, sizeIn}
 use Rattle.sizing.proofs.Reading.{size-in}
 use Rattle.planner.specs.TermsPlan.{unusable, planRefusal, planIn, refusedWith, answered, plannedOf, assignmentAfter, scratchAfter, Owed}

@@ -8,7 +8,7 @@ ghost use Rattle.cluster.specs.Terms.{layoutCells, topology, partitions, cellsO
 ghost use Rattle.masks.specs.ModelMasks.{rowsFormed};
 ghost use Rattle.cluster.specs.TermsReading.{Fits32};
 ghost use Rattle.sizing.specs.ModelSizing.{sizeOf};
-ghost use Rattle.graph.specs.ModelKept.{keptCells};
+ghost use Rattle.unions.specs.ModelUnions.{keptCells};
 ghost use Rattle.planner.specs.TermsPlan.{planIn, answered};
 use super::Planned;
 use cluster::Cluster;

@@ -10,7 +10,8 @@ use Rattle.levels.specs.ModelGraph.{arcCells}
 use Rattle.sets.specs.ModelBits.{bit}
 use Rattle.swaps.specs.ModelSwaps.{Tight}
 use Rattle.graph.specs.ModelArcs.{arcsOf}
-use Rattle.graph.specs.ModelKept.{parts, Kept}
+use Rattle.unions.specs.ModelUnions.{parts}
+use Rattle.graph.specs.ModelKept.{Kept}
 use Rattle.graph.proofs.Keeping.{staleFrom, kept-first, kept-last, kept-branch, kept-renewed, arcs-all}
 use Rattle.graph.proofs.build.Statement.{statement}
 use Rattle.graph.proofs.build.Tie as tie

@@ -12,7 +12,8 @@ use Rattle.sets.specs.ModelBits.{bit, countOf, leastOf}
 use Rattle.sets.proofs.Laws.{bit-zero, bit-high, bit-without, least-at, least-taken}
 use Rattle.sets.proofs.Scan.{Left, left-all, least-word, left-less}
 use Rattle.swaps.specs.ModelSwaps.{Tight}
-use Rattle.graph.specs.ModelKept.{parts, keptCells, Filled}
+use Rattle.unions.specs.ModelUnions.{parts, keptCells}
+use Rattle.graph.specs.ModelKept.{Filled}
 use Rattle.graph.proofs.Keeping.{Filling, filling-more, renewed}
 use Rattle.graph.proofs.renew.Statement.{statement}
 use Rattle.graph.proofs.renew.Tie as tie

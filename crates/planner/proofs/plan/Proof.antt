@@ -3,7 +3,7 @@ use native.Mathlib.Omega.{arith}
 use mathlib.Core.Path.{_≡_, sym, _∙_}
 use lib.ListN.{length, take, drop, length-append, length-drop}
 use lib.Seq.{length-take-le}
-use Rattle.graph.specs.ModelKept.{keptCells}
+use Rattle.unions.specs.ModelUnions.{keptCells}
 use Rattle.planner.specs.TermsPlan.{unusable}
 use Rattle.planner.proofs.Refusals.{Usable, usable-has}
 use Rattle.planner.proofs.Planning.{refused-ends, none-ends, planned-ends, settle-asks}

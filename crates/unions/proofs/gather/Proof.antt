@@ -1,11 +1,11 @@
--- `graph::gather` meets its contract. Assumes nothing.
+-- `unions::gather` meets its contract. Assumes nothing.
 use borrow.Author.Needs.{needs}
 use Prim.Native.Nat.{ℕ}
 use native.Mathlib.Omega.{arith}
-use Rattle.graph.specs.ModelKept.{mostLeaves, unionAt}
-use Rattle.graph.proofs.Unions.{stored-none, stored-more, gathered}
-use Rattle.graph.proofs.gather.Statement.{statement}
-use Rattle.graph.proofs.gather.Tie as tie
+use Rattle.unions.specs.ModelUnions.{mostLeaves, unionAt}
+use Rattle.unions.proofs.Unions.{stored-none, stored-more, gathered}
+use Rattle.unions.proofs.gather.Statement.{statement}
+use Rattle.unions.proofs.gather.Tie as tie
 
 united-requires : tie.Need-united-requires
 united-requires c κs = search needs

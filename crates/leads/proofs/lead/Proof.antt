@@ -1,4 +1,4 @@
--- `evens::lead` meets its contract. The cells before u have what their nodes lead to. Assumes nothing.
+-- `leads::lead` meets its contract. The cells before u have what their nodes lead to. Assumes nothing.
 use Prim.Native.Nat.{ℕ, _-_, _≤_}
 use mathlib.Core.Path.{_≡_, subst}
 use native.Mathlib.Omega.{arith}
@@ -6,9 +6,9 @@ use borrow.Author.Needs.{needs}
 use lib.ListN.{length, length-set}
 use Rattle.cluster.specs.Terms.{mostNodes}
 use Rattle.levels.specs.ModelGraph.{arcCells}
-use Rattle.evens.proofs.Standing.{Led, led-none, led-more, lead-is}
-use Rattle.evens.proofs.lead.Statement.{statement}
-use Rattle.evens.proofs.lead.Tie as tie
+use Rattle.leads.proofs.Standing.{Led, led-none, led-more, lead-is}
+use Rattle.leads.proofs.lead.Statement.{statement}
+use Rattle.leads.proofs.lead.Tie as tie
 
 abbrev Inv-loop : tie.InvT-loop
 Inv-loop arcs even n leads₀ u₀ leads u =

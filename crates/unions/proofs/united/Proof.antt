@@ -1,4 +1,4 @@
--- `graph::united` meets its contract. The loop's invariant: the cells have what the parts passed hold together. Assumes nothing.
+-- `unions::united` meets its contract. The loop's invariant: the cells have what the parts passed hold together. Assumes nothing.
 use borrow.Author.Needs.{needs}
 use native.Mathlib.Omega.{arith}
 use Prim.Native.Nat.{ℕ, _+_, _-_, _≤_, _<_}
@@ -6,10 +6,10 @@ use mathlib.Core.Path.{_≡_, ap, _∙_}
 use lib.ListN.{length, getD, getD-replicate}
 use Rattle.cluster.specs.Terms.{mostNodes}
 use Rattle.levels.specs.ModelGraph.{arcCells}
-use Rattle.graph.specs.ModelKept.{mostLeaves, parts, keptCells, unionTo}
-use Rattle.graph.proofs.Unions.{union-none, unite-turn}
-use Rattle.graph.proofs.united.Statement.{statement}
-use Rattle.graph.proofs.united.Tie as tie
+use Rattle.unions.specs.ModelUnions.{mostLeaves, parts, keptCells, unionTo}
+use Rattle.unions.proofs.Unions.{union-none, unite-turn}
+use Rattle.unions.proofs.united.Statement.{statement}
+use Rattle.unions.proofs.united.Tie as tie
 
 abbrev Inv-loop : tie.InvT-loop
 Inv-loop kept k j held₀ b₀ held b =

@@ -1,4 +1,4 @@
--- `graph::unite` meets its contract. The loop's invariant: the cells passed are united. Assumes nothing.
+-- `unions::unite` meets its contract. The loop's invariant: the cells passed are united. Assumes nothing.
 use borrow.Author.Needs.{needs}
 use native.Mathlib.Omega.{arith}
 use Prim.Native.Nat.{ℕ, _+_, _-_, _≤_}
@@ -8,9 +8,9 @@ use Rattle.sets.specs.ModelBits.{unionOf}
 use Rattle.cells.specs.ModelCells.{put}
 use Rattle.cells.proofs.Cells.{put-none}
 use Rattle.cluster.specs.Terms.{mostNodes}
-use Rattle.graph.proofs.Unions.{put-joined}
-use Rattle.graph.proofs.unite.Statement.{statement}
-use Rattle.graph.proofs.unite.Tie as tie
+use Rattle.unions.proofs.Unions.{put-joined}
+use Rattle.unions.proofs.unite.Statement.{statement}
+use Rattle.unions.proofs.unite.Tie as tie
 
 abbrev Inv-loop : tie.InvT-loop
 Inv-loop held₀ kept at t₀ held t =

@@ -1,13 +1,13 @@
--- `evens::stands` meets its contract. The cells have the first v nodes by their levels. Assumes nothing.
+-- `leads::stands` meets its contract. The cells have the first v nodes by their levels. Assumes nothing.
 use Prim.Native.Nat.{ℕ, _+_, _-_, _≤_}
 use mathlib.Core.Path.{_≡_, refl, subst}
 use native.Mathlib.Omega.{arith}
 use borrow.Author.Needs.{needs}
 use lib.ListN.{length, getD, length-set}
 use Rattle.cluster.specs.Terms.{mostNodes}
-use Rattle.evens.proofs.Standing.{Stood, stood-none, stood-more}
-use Rattle.evens.proofs.stands.Statement.{statement}
-use Rattle.evens.proofs.stands.Tie as tie
+use Rattle.leads.proofs.Standing.{Stood, stood-none, stood-more}
+use Rattle.leads.proofs.stands.Statement.{statement}
+use Rattle.leads.proofs.stands.Tie as tie
 
 abbrev Inv-loop : tie.InvT-loop
 Inv-loop levels n at₀ v₀ at v =

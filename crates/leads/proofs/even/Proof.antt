@@ -1,4 +1,4 @@
--- `evens::even` meets its contract. The cells of the nodes before a have the sets of the levels about theirs. Assumes nothing.
+-- `leads::even` meets its contract. The cells of the nodes before a have the sets of the levels about theirs. Assumes nothing.
 use Prim.Native.Nat.{ℕ, _+_, _-_, _≤_}
 use mathlib.Core.Path.{_≡_, subst}
 use native.Mathlib.Omega.{arith}
@@ -6,9 +6,9 @@ use borrow.Author.Needs.{needs}
 use lib.ListN.{length, getD, length-set}
 use Rattle.cluster.specs.Terms.{mostNodes}
 use Rattle.levels.specs.ModelGraph.{arcCells}
-use Rattle.evens.proofs.Standing.{Sided, sided-more, sided-levelled}
-use Rattle.evens.proofs.even.Statement.{statement}
-use Rattle.evens.proofs.even.Tie as tie
+use Rattle.leads.proofs.Standing.{Sided, sided-more, sided-levelled}
+use Rattle.leads.proofs.even.Statement.{statement}
+use Rattle.leads.proofs.even.Tie as tie
 
 abbrev Inv-loop : tie.InvT-loop
 Inv-loop levels n at even₀ a₀ even a =

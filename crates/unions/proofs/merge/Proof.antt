@@ -1,4 +1,4 @@
--- `graph::merge` meets its contract. Assumes nothing.
+-- `unions::merge` meets its contract. Assumes nothing.
 use borrow.Author.Needs.{needs}
 use Prim.Native.Nat.{ℕ, _+_, _*_}
 use mathlib.Core.Path.{_≡_, ap, _∙_}
@@ -6,10 +6,10 @@ use lib.ListN.{length, getD}
 use Rattle.cells.specs.ModelCells.{put}
 use native.Mathlib.Omega.{arith}
 use Rattle.levels.specs.ModelGraph.{arcCells}
-use Rattle.graph.specs.ModelKept.{parts, mostLeaves, unionAt}
-use Rattle.graph.proofs.Unions.{stored-none, stored-more, union-kept, merged}
-use Rattle.graph.proofs.merge.Statement.{statement}
-use Rattle.graph.proofs.merge.Tie as tie
+use Rattle.unions.specs.ModelUnions.{parts, mostLeaves, unionAt}
+use Rattle.unions.proofs.Unions.{stored-none, stored-more, union-kept, merged}
+use Rattle.unions.proofs.merge.Statement.{statement}
+use Rattle.unions.proofs.merge.Tie as tie
 
 mul-k : tie.Need-mul-k
 mul-k c = search needs

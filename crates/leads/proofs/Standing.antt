@@ -8,7 +8,6 @@ use native.Mathlib.Omega.{arith}
 use lib.Dec.{ltb}
 use lib.ListN.{length, getD, set, length-set, replicate, getD-replicate}
 use lib.Seq.{getD-set-same, getD-set-other}
-use borrow.Author.Tests.{lt-ltb, le-ltb}
 use Rattle.cluster.specs.Terms.{mostNodes}
 use Rattle.levels.specs.ModelGraph.{arcCells}
 use Rattle.sums.specs.TermsSums.{one-if}
@@ -16,17 +15,8 @@ use Rattle.sums.specs.ModelSums.{is}
 use Rattle.sums.proofs.Sum.{lt-or-ge, eq-or-ne, is-eq, is-ne, is-le}
 use Rattle.sets.specs.ModelBits.{bit, withOf, unionOf, meetOf}
 use Rattle.sets.proofs.Laws.{bit-zero, bit-with}
 use Rattle.evens.specs.ModelEvens.{Levelled, leadOf}
-
--- ---- tests of order as numbers
-
-pub one-lt : (a b : ℕ) → a < b → one-if (ltb a b) ≡ 1
-unfolding one-if
-one-lt a b l = ap one-if (lt-ltb a b l)
-
-pub one-ge : (a b : ℕ) → b ≤ a → one-if (ltb a b) ≡ 0
-unfolding one-if
-one-ge a b l = ap one-if (le-ltb a b l)
+use Rattle.evens.proofs.Turns.{one-lt, one-ge}
 
 -- ---- the sets of the levels
 

@@ -1,4 +1,4 @@
--- `graph::store` meets its contract. The loop's invariant: the cells passed are written. Assumes nothing.
+-- `unions::store` meets its contract. The loop's invariant: the cells passed are written. Assumes nothing.
 use borrow.Author.Needs.{needs}
 use native.Mathlib.Omega.{arith}
 use Prim.Native.Nat.{ℕ, _+_, _-_, _≤_}
@@ -7,8 +7,8 @@ use mathlib.Core.List.{List}
 use lib.ListN.{length, getD, set}
 use Rattle.cells.specs.ModelCells.{put}
 use Rattle.cells.proofs.Cells.{put-none, put-more}
-use Rattle.graph.proofs.store.Statement.{statement}
-use Rattle.graph.proofs.store.Tie as tie
+use Rattle.unions.proofs.store.Statement.{statement}
+use Rattle.unions.proofs.store.Tie as tie
 
 abbrev Inv-loop : tie.InvT-loop
 Inv-loop kept₀ at cells t₀ kept t =
