@@ -1,10 +1,9 @@
-// What stands before the rows of a layout record: its numbers, their table, and their fields, read and written.
+// What stands before the rows of a layout record: its numbers, their table, and their fields, read.
 ghost use mathlib.Core.Path.{_≡_};
 ghost use Rattle.layout_head.specs.RecordHeadFaults.{noNumbers};
 
 pub mod reading;
 pub mod table;
-pub mod writing;
 
 // The numbers of a layout record.
 pub struct Numbers {

@@ -15,7 +15,7 @@ pub struct Entry {
 }
 
 // The fields before the rows, in their order.
-pub(crate) const HEAD: [Entry; 6] = [
+pub const HEAD: [Entry; 6] = [
     // 1 bits.
     Entry {
         tag: 1,

@@ -11,7 +11,6 @@ use super::range;
 use cluster::Cluster;
 use layout_head::Numbers;
 use layout_head::table;
-use layout_head::writing;
 
 // Puts the ids in the cells from `from` on, four bytes each.
 fn put_ids(out: &mut [u8], at: usize, cells: &[u32], from: usize, count: usize)
@@ -55,7 +54,7 @@ pub(crate) fn put_record(numbers: Numbers, cells: &[u32], out: &mut [u8])
     requires { ⌜ writeFault numbers (now cells) (length (now out)) ≡ 0 ⌝ }
     ensures { λ _. ⌜ now (out .exit) ≡ over (layoutRecord numbers (rowsIn (2 ^ (numbers .bits)) (now (cells .entry)))) (now (out .entry)) ⌝ }
 {
-    writing::put_numbers(out, numbers);
+    head_writing::put_numbers(out, numbers);
     put_rows(
         out,
         cells,

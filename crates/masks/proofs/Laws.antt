@@ -1,31 +1,25 @@
--- What the models mean: a mask read from cells has the nodes that the row names, written cells are those of the layout of the masks, and formed rows
--- are a former layout.
+-- What the models mean: a mask read from cells has the nodes that the row names, and formed rows are a former layout.
 -- Assumes nothing.
-use Prim.Native.Nat.{ℕ, _≤_, _<_, min}
+use Prim.Native.Nat.{ℕ, _<_}
 use mathlib.Core.Path.{_≡_, ap, ap₂, _∙_}
-use mathlib.Core.List.{List, _++_}
+use mathlib.Core.List.{List}
 use mathlib.Core.Bool.{Bool, true, _&&_, cond}
 use native.Mathlib.Omega.{arith}
 use lib.Dec.{ltb, leb}
-use lib.ListN.{length, take, drop, getD}
-use lib.Seq.{take-all}
+use lib.ListN.{length}
 use borrow.Author.Tests.{ltb-true, lt-ltb, le-leb}
-use Rattle.sums.specs.TermsSums.{sumTo, everyTo}
-use Rattle.sums.proofs.Sum.{sum-cong}
-use Rattle.sets.specs.ModelBits.{bit, maskOf}
-use Rattle.sets.proofs.Laws.{bit-le}
-use Rattle.cells.proofs.Cells.{tab-cong}
-use Rattle.cluster.specs.Terms.{rowCells, bufferRows, layoutCells, Topology, partitions, idsOf, rising, Layout, IsFormer, cellsOf, rowAt, idsIn, formed, rowsIn}
+use Rattle.sums.specs.TermsSums.{everyTo}
+use Rattle.sets.specs.ModelBits.{maskOf}
+use Rattle.cluster.specs.Terms.{bufferRows, Topology, partitions, idsOf, rising, IsFormer, rowAt, idsIn, formed, rowsIn}
 use Rattle.cell_rows.specs.ModelRows.{HoldsRows, illFormed, hasRow, rowIds}
-use Rattle.incidence.specs.ModelIncidence.{bitsOf, idsWhere, layoutOf}
+use Rattle.incidence.specs.ModelIncidence.{bitsOf}
 use Rattle.cluster.specs.declared.Node.{Node}
 use Rattle.sums.proofs.Tests.{both, every-at, every-all}
 use Rattle.cell_rows.proofs.CellRows.{formed-rising}
 use Rattle.cell_rows.proofs.CellLayouts.{few-ids, length-rowsIn, row-rowsIn}
 use Rattle.cell_rows.proofs.RowScans.{row-ids-formed, hold-ids}
-use Rattle.masks.specs.ModelMasks.{named, rowMask, rowsWhere, cellsWritten, rowsFormed}
+use Rattle.masks.specs.ModelMasks.{named, rowMask, rowsFormed}
 use Rattle.masks.proofs.Named.{named-bits}
-use Rattle.masks.proofs.Where.{where-length}
 
 -- ---- masks read
 
@@ -53,31 +47,6 @@ holds-formed n cells h =
     ap₂ _&&_ (le-leb n bufferRows (h .few-rows))
     (every-all n (λ q. ltb (rowIds cells q) illFormed)
     (λ q l. lt-ltb (rowIds cells q) illFormed (omega (arith, hold-ids n cells h q l, few-ids cells q))))
-
--- ---- cells written
-
--- The layout of masks of at most eight nodes each is the layout of their bits.
-pub rowsWhere-layout : (t : Topology) (masks : List ℕ) → ((p : ℕ) → p < partitions t → sumTo (length (t .nodes)) (bit (getD masks p 0)) ≤ rowCells)
-    → rowsWhere (t .nodes) masks (partitions t) ≡ layoutOf t (λ p b. bit (getD masks p 0) b)
-unfolding rowsWhere layoutOf
-rowsWhere-layout t masks few =
-    tab-cong (λ p. take rowCells (idsWhere (t .nodes) (bit (getD masks p 0)))) (λ p. idsWhere (t .nodes) (λ b. bit (getD masks p 0) b)) (partitions t)
-    (λ p l. take-all rowCells (idsWhere (t .nodes) (bit (getD masks p 0)))
-    (omega (
-      arith,
-      few p l,
-      where-length (t .nodes) (bit (getD masks p 0)),
-      sum-cong (length (t .nodes)) (λ b. min 1 (bit (getD masks p 0) b)) (bit (getD masks p 0)) (λ b k. omega (arith, bit-le (getD masks p 0) b)),
-    )))
-
--- What is written of such masks are the cells of the layout of their bits, and the cells after a buffer as they were.
-pub written-layout : (t : Topology) (masks cells : List ℕ) → partitions t ≤ bufferRows → partitions t ≤ length masks → layoutCells ≤ length cells
-    → ((p : ℕ) → p < partitions t → sumTo (length (t .nodes)) (bit (getD masks p 0)) ≤ rowCells)
-    → cellsWritten (t .nodes) masks (partitions t) cells ≡ cellsOf (layoutOf t (λ p b. bit (getD masks p 0) b)) ++ drop layoutCells cells
-unfolding cellsWritten
-written-layout t masks cells rows long whole few =
-    simp (le-leb (partitions t) bufferRows rows, le-leb (partitions t) (length masks) long, le-leb layoutCells (length cells) whole)
-    (ap (λ (L : Layout). cellsOf L ++ drop layoutCells cells) (rowsWhere-layout t masks few))
 
 -- ---- the former layout
 

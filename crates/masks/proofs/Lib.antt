@@ -1,4 +1,3 @@
 pub mod Named
 pub mod Where
-pub mod Written
 pub mod Laws

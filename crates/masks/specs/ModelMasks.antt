@@ -1,17 +1,16 @@
--- Between rows of ids in lent cells and sets of nodes as masks: what each function of the crate yields. Nobody has to believe this file:
+-- From rows of ids in lent cells to sets of nodes as masks: what each function of the crate yields. Nobody has to believe this file:
 -- the theorems of proofs/Laws.antt say what it achieves.
 -- Assumes nothing.
 use Prim.Native.Nat.{ℕ, _+_, _*_}
 use mathlib.Core.List.{List, [], _∷_, _++_}
 use mathlib.Core.Bool.{Bool, _&&_, cond}
 use lib.Dec.{ltb, leb}
-use lib.ListN.{length, take, drop, getD}
+use lib.ListN.{length, drop, getD}
 use Rattle.sums.specs.TermsSums.{everyTo, tab}
 use Rattle.sums.specs.ModelSums.{is}
-use Rattle.sets.specs.ModelBits.{bit}
-use Rattle.cluster.specs.Terms.{rowCells, bufferRows, layoutCells, noNode, Layout, rowAt, idsIn, cellsOf}
+use Rattle.cluster.specs.Terms.{bufferRows, noNode, rowAt, idsIn}
 use Rattle.cell_rows.specs.ModelRows.{illFormed, hasRow, rowIds}
-use Rattle.incidence.specs.ModelIncidence.{idsWhere, column}
+use Rattle.incidence.specs.ModelIncidence.{column}
 use Rattle.cluster.specs.declared.Node.{Node}
 
 -- The ids of the nodes, then zeros: what the rows are walked over.
@@ -38,17 +37,6 @@ rowMask ns cells p = cond (hasRow cells p) (named ns (idsIn (rowAt cells p))) 0
 unfoldable pub masksRead : List Node → List ℕ → ℕ → List ℕ → List ℕ
 masksRead ns cells n masks =
     cond (leb n bufferRows && leb n (length masks)) (tab (λ p. rowMask ns cells p) n ++ drop n masks) masks
-
--- ---- from masks to cells
-
--- The layout whose row p has the ids of the nodes in mask p, in their order; a row has room for eight.
-unfoldable pub rowsWhere : List Node → List ℕ → ℕ → Layout
-rowsWhere ns masks n = tab (λ p. take rowCells (idsWhere ns (bit (getD masks p 0)))) n
-
--- Its cells in the place of the first 2,048; the cells themselves where these are fewer, or n is more than a buffer has rows or than there are masks.
-unfoldable pub cellsWritten : List Node → List ℕ → ℕ → List ℕ → List ℕ
-cellsWritten ns masks n cells =
-    cond (leb n bufferRows && (leb n (length masks) && leb layoutCells (length cells))) (cellsOf (rowsWhere ns masks n) ++ drop layoutCells cells) cells
 
 -- ---- the rows of cells
 

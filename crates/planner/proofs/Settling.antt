@@ -18,8 +18,10 @@ use Rattle.incidence.specs.ModelIncidence.{bitsOf, incidence}
 use Rattle.cluster.specs.declared.Cluster.{Cluster}
 use Rattle.cluster.proofs.Accepting.{few-partitions, accepted}
 use Rattle.cell_rows.proofs.CellLayouts.{row-rowsIn}
-use Rattle.masks.specs.ModelMasks.{masksRead, rowMask, cellsWritten, rowsFormed}
-use Rattle.masks.proofs.Laws.{mask-bits, formed-each, written-layout}
+use Rattle.masks.specs.ModelMasks.{masksRead, rowMask, rowsFormed}
+use Rattle.masks.proofs.Laws.{mask-bits, formed-each}
+use Rattle.mask_cells.specs.ModelMaskCells.{cellsWritten}
+use Rattle.mask_cells.proofs.Layouts.{written-layout}
 use Rattle.sizing.specs.ModelSizing.{nodesOf, sizeOf}
 use Rattle.allowances.specs.ModelRun.{Ran}
 use Rattle.agreement.specs.ModelAgreement.{agreementIn}

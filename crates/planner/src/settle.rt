@@ -33,7 +33,7 @@ pub(crate) fn settle(
     masks::read_masks(c, former, partitions, &mut before);
     let mut rows = [0u32; Cluster::PARTITIONS];
     let ended = nearest::improved(c, size, &before, allowance, &mut rows, kept);
-    masks::write_cells(c, &rows, partitions, assignment);
+    mask_cells::write_cells(c, &rows, partitions, assignment);
     let sent = agreement::sent(c.replication, &before, &rows, partitions);
     Planned {
         refusal: 0,

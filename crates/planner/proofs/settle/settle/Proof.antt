@@ -8,7 +8,7 @@ use Rattle.planner.proofs.settle.settle.Tie as tie
 use Rattle.planner.proofs.settle.settle.Reads as reads
 use Rattle.planner.proofs.settle.settle.Lts as lts
 use Rattle.masks.proofs.read_masks.Reads as read-masks-reads
-use Rattle.masks.proofs.write_cells.Reads as write-cells-reads
+use Rattle.mask_cells.proofs.write_cells.Reads as write-cells-reads
 use Rattle.nearest.proofs.improved.Reads as improved-reads
 use Rattle.agreement.proofs.sent.Reads as sent-reads
 

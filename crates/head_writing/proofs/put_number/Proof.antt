@@ -1,4 +1,4 @@
--- `layout_head::writing::put_number` meets its contract: the head, and then the number in its bytes.
+-- `head_writing::put_number` meets its contract: the head, and then the number in its bytes.
 -- Assumes nothing.
 use borrow.Author.Needs.{needs}
 use native.Mathlib.Omega.{arith}
@@ -6,8 +6,8 @@ use Prim.Native.Nat.{_-_}
 use mathlib.Core.Path.{_≡_}
 use mathlib.Core.Logic.{⊎-elim}
 use Rattle.fields.proofs.Puts.{put-value}
-use Rattle.layout_head.proofs.writing.put_number.Statement.{statement}
-use Rattle.layout_head.proofs.writing.put_number.Tie as tie
+use Rattle.head_writing.proofs.put_number.Statement.{statement}
+use Rattle.head_writing.proofs.put_number.Tie as tie
 
 put-head-requires : tie.Need-put-head-requires
 put-head-requires c κs = (omega arith, ⊎-elim (λ e. omega arith) (⊎-elim (λ e. omega arith) (λ e. omega arith)) (c .before .before .pre .2))

@@ -1,4 +1,4 @@
--- `layout_head::writing::put_numbers` meets its contract. The loop's invariant: with the fields from here on the fields before the rows are written.
+-- `head_writing::put_numbers` meets its contract. The loop's invariant: with the fields from here on the fields before the rows are written.
 -- Assumes nothing.
 use borrow.Author.Needs.{needs}
 use native.Mathlib.Omega.{arith}
@@ -7,11 +7,11 @@ use mathlib.Core.Path.{_≡_, refl, sym, ap, _∙_}
 use mathlib.Core.List.{List}
 use lib.ListN.{length, drop}
 use Rattle.fields.specs.RecordField.{written}
 use Rattle.layout_head.specs.RecordHead.{headTable, numberFields}
 use Rattle.layout_head.proofs.NumberFields.{lawful-at, length-step, put-step, fields-end, length-head}
 use Rattle.fields.proofs.Written.{written-none}
-use Rattle.layout_head.proofs.writing.put_numbers.Statement.{statement}
-use Rattle.layout_head.proofs.writing.put_numbers.Tie as tie
+use Rattle.head_writing.proofs.put_numbers.Statement.{statement}
+use Rattle.head_writing.proofs.put_numbers.Tie as tie
 
 abbrev Inv-loop : tie.InvT-loop
 Inv-loop out₀ values at₀ i₀ out at i =

@@ -1,13 +1,13 @@
-// Writing the fields before the rows, from front to back, where they fit.
+// Writing the fields before the rows of a layout record, from front to back, where they fit.
 ghost use mathlib.Core.Path.{_≡_};
 ghost use mathlib.Core.Logic.{_⊎_};
 ghost use Prim.Native.Nat.{_+_, _≤_, _<_};
 ghost use lib.ListN.{length};
 ghost use Rattle.fields.specs.RecordField.{bytesOf, written, field};
 ghost use Rattle.layout_head.specs.RecordHead.{headFields};
-use super::Numbers;
-use super::table;
-use super::table::Entry;
+use layout_head::Numbers;
+use layout_head::table;
+use layout_head::table::Entry;
 
 // Puts a field of one number of one, two or four bytes.
 fn put_number(out: &mut [u8], at: usize, tag: u32, width: usize, value: u32)

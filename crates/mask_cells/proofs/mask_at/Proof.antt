@@ -1,9 +1,9 @@
--- `masks::mask_at` meets its contract.
+-- `mask_cells::mask_at` meets its contract.
 -- Assumes nothing.
 use borrow.Author.Needs.{needs}
 use borrow.Author.Tests.{lt-ltb, le-ltb}
-use Rattle.masks.proofs.mask_at.Statement.{statement}
-use Rattle.masks.proofs.mask_at.Tie as tie
+use Rattle.mask_cells.proofs.mask_at.Statement.{statement}
+use Rattle.mask_cells.proofs.mask_at.Tie as tie
 
 mul-result : tie.Need-mul-result
 mul-result c = search needs

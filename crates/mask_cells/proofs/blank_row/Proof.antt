@@ -1,4 +1,4 @@
--- `masks::blank_row` meets its contract. The loop's invariant: the cells passed are 0.
+-- `mask_cells::blank_row` meets its contract. The loop's invariant: the cells passed are 0.
 -- Assumes nothing.
 use borrow.Author.Needs.{needs}
 use native.Mathlib.Omega.{arith}
@@ -9,8 +9,8 @@ use lib.ListN.{length, set}
 use Rattle.cells.specs.ModelCells.{put}
 use Rattle.cells.proofs.Cells.{put-none, put-more}
 use Rattle.cluster.specs.Terms.{rowCells}
-use Rattle.masks.proofs.blank_row.Statement.{statement}
-use Rattle.masks.proofs.blank_row.Tie as tie
+use Rattle.mask_cells.proofs.blank_row.Statement.{statement}
+use Rattle.mask_cells.proofs.blank_row.Tie as tie
 
 abbrev Inv-loop : tie.InvT-loop
 Inv-loop cells₀ from j₀ cells j = (j ≤ rowCells) × (length cells ≡ length cells₀) × (cells ≡ put from (λ _. 0) j cells₀)

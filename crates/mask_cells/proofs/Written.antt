@@ -20,8 +20,8 @@ use Rattle.cells.proofs.Cells.{length-tab, getD-tab, tab-more, put-cong, put-ov
 use Rattle.cluster.specs.Terms.{rowCells, row}
 use Rattle.incidence.specs.ModelIncidence.{idsWhere}
 use Rattle.cluster.specs.declared.Node.{Node}
-use Rattle.masks.specs.ModelMasks.{rowsWhere}
+use Rattle.mask_cells.specs.ModelMaskCells.{rowsWhere}
 use Rattle.masks.proofs.Where.{where-empty}
 
 -- ---- lists
 

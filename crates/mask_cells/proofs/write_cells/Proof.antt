@@ -1,4 +1,4 @@
--- `masks::write_cells` meets its contract. The loop's invariant: the cells of the rows passed are those of the layout.
+-- `mask_cells::write_cells` meets its contract. The loop's invariant: the cells of the rows passed are those of the layout.
 -- Assumes nothing.
 use borrow.Author.Needs.{needs}
 use native.Mathlib.Omega.{arith}
@@ -11,10 +11,11 @@ use Rattle.sums.specs.TermsSums.{tab}
 use Rattle.cells.proofs.Cells.{tab-none}
 use Rattle.cluster.specs.Terms.{rowCells, bufferRows, layoutCells, topology, row, cellsOf}
 use Rattle.cluster.specs.declared.Node.{Node}
-use Rattle.masks.specs.ModelMasks.{idCells, rowsWhere, cellsWritten}
-use Rattle.masks.proofs.Written.{row-written}
-use Rattle.masks.proofs.write_cells.Statement.{statement}
-use Rattle.masks.proofs.write_cells.Tie as tie
+use Rattle.masks.specs.ModelMasks.{idCells}
+use Rattle.mask_cells.specs.ModelMaskCells.{rowsWhere, cellsWritten}
+use Rattle.mask_cells.proofs.Written.{row-written}
+use Rattle.mask_cells.proofs.write_cells.Statement.{statement}
+use Rattle.mask_cells.proofs.write_cells.Tie as tie
 
 abbrev Inv-loop : tie.InvT-loop
 Inv-loop masks partitions cells₀ n ids p₀ cells p =

@@ -1,4 +1,4 @@
--- `masks::write_row` meets its contract. The loop's invariant: the ids before the cell are written into a blank row, and those from it on are
+-- `mask_cells::write_row` meets its contract. The loop's invariant: the ids before the cell are written into a blank row, and those from it on are
 -- the ids of what is left of the mask.
 -- Assumes nothing.
 use borrow.Author.Needs.{needs}
@@ -14,11 +14,11 @@ use Rattle.cells.specs.ModelCells.{put}
 use Rattle.cells.proofs.Cells.{put-none, put-more}
 use Rattle.cluster.specs.Terms.{mostNodes, rowCells, noNode}
 use Rattle.incidence.specs.ModelIncidence.{idsWhere}
 use Rattle.masks.specs.ModelMasks.{idCells}
 use Rattle.masks.proofs.Where.{past-id, id-cell, where-next, where-others, where-end}
-use Rattle.masks.proofs.Written.{blank-written}
-use Rattle.masks.proofs.write_row.Statement.{statement}
-use Rattle.masks.proofs.write_row.Tie as tie
+use Rattle.mask_cells.proofs.Written.{blank-written}
+use Rattle.mask_cells.proofs.write_row.Statement.{statement}
+use Rattle.mask_cells.proofs.write_row.Tie as tie
 
 abbrev Inv-loop : tie.InvT-loop
 Inv-loop ids n mask cells₀ from rest₀ j₀ cells rest j =
