@@ -1,30 +1,50 @@
 -- A cluster has no fault exactly where it is accepted; it has then as many nodes as its count says, and no more partitions than a buffer has rows.
 -- Assumes nothing.
-use Prim.Native.Nat.{ℕ, _^_, _≤_, min}
-use mathlib.Core.Path.{_≡_, refl, ap, _∙_}
-use mathlib.Core.Bool.{Bool, true, false, _||_, _&&_, cond}
+use Prim.Native.Nat.{ℕ, zero, suc, _^_, _≤_, min}
+use mathlib.Core.Path.{_≡_, refl, ap, ap₂}
+use mathlib.Core.Bool.{Bool, true, false, _||_, cond}
 use mathlib.Core.List.{List, [], _∷_}
 use native.Mathlib.Omega.{arith}
 use mathlib.Core.Logic.{⊎-elim}
 use native.Mathlib.Nat.{eq-zero-or-pos}
 use lib.Dec.{ltb, eqb}
-use lib.ListN.{length, length-take}
+use lib.ListN.{length, getD, length-take}
 use lib.Pow.{pow-mono}
-use borrow.Author.Tests.{ltb-true, ltb-false, eqb-false, le-ltb, ne-eqb}
+use borrow.Author.Tests.{ltb-false, eqb-false, le-ltb, ne-eqb}
 use Rattle.sums.proofs.Tests.{neither}
-use Rattle.cluster.specs.Terms.{mostBits, mostCopies, mostNodes, bufferRows, Topology, topology, idsOf, mem, risingFrom, rising, outOfRange, faultOf}
+use Rattle.cluster.specs.Terms.{mostBits, mostCopies, mostNodes, mostCeiling, bufferRows, Topology, topology, noNode, idsOf, risingFrom, rising, nodeOutOfRange, someOutOfRange, outOfRange, faultOf}
 use Rattle.cluster.specs.TermsReading.{Accepted}
 use Rattle.cluster.specs.declared.Cluster.{Cluster}
+use Rattle.cluster.specs.declared.Node.{Node}
+use Rattle.cluster.proofs.Lists.{rising-head, rising-tail}
 
--- Rising ids have no 0 among them.
-rising-no-zero : (k : ℕ) (l : List ℕ) → risingFrom k l ≡ true → mem 0 l ≡ false
-unfolding mem risingFrom
-rising-no-zero k [] e = refl
-rising-no-zero k (x ∷ xs) e = go (λ h. rising-no-zero x xs h) (ltb k x) refl e
-  where
-    go : (risingFrom x xs ≡ true → mem 0 xs ≡ false) → (t : Bool) → ltb k x ≡ t → (t && risingFrom x xs) ≡ true → (eqb 0 x || mem 0 xs) ≡ false
-    go rest false q h = let z : _≡_ {A = ℕ} 0 1 = cc in absurd (omega arith)
-    go rest true q h = ap (λ (t : Bool). t || mem 0 xs) (ne-eqb 0 x (λ n. omega (arith, ltb-true k x q))) ∙ rest h
+-- A number that is not 0.
+pub positive : (n : ℕ) → eqb n 0 ≡ false → 1 ≤ n
+positive n h = ⊎-elim (λ z. absurd (eqb-false n 0 h z)) (λ l. l) (eq-zero-or-pos n)
+
+-- A node is in range exactly where its id is not 0 and its ceiling at most 256.
+pub node-in-range : (n : Node) → 1 ≤ n .id → n .ceiling ≤ mostCeiling → nodeOutOfRange n ≡ false
+unfolding nodeOutOfRange
+node-in-range n h k = simp (ne-eqb (n .id) 0 (λ e. omega arith), le-ltb mostCeiling (n .ceiling) k)
+
+pub in-range-node : (n : Node) → nodeOutOfRange n ≡ false → (1 ≤ n .id) × (n .ceiling ≤ mostCeiling)
+unfolding nodeOutOfRange
+in-range-node n e = let a = neither _ _ e in (positive (n .id) (a .0), ltb-false mostCeiling (n .ceiling) (a .1))
+
+-- Nodes whose ids rise and whose ceilings are at most 256 are in range,
+nodes-in-range : (k : ℕ) (l : List Node) → risingFrom k (idsOf l) ≡ true → ((b : ℕ) → getD l b noNode .ceiling ≤ mostCeiling) → someOutOfRange l ≡ false
+unfolding someOutOfRange idsOf
+nodes-in-range k [] e h = refl
+nodes-in-range k (n ∷ ns) e h =
+    ap₂ _||_ (node-in-range n (omega (arith, rising-head k (n .id) (idsOf ns) e)) (h 0))
+    (nodes-in-range (n .id) ns (rising-tail k (n .id) (idsOf ns) e) (λ b. h (suc b)))
+
+-- and nodes in range have no ceiling above 256.
+in-range-ceilings : (l : List Node) → someOutOfRange l ≡ false → (b : ℕ) → getD l b noNode .ceiling ≤ mostCeiling
+unfolding someOutOfRange
+in-range-ceilings [] e b = omega arith
+in-range-ceilings (n ∷ ns) e zero = in-range-node n (neither (nodeOutOfRange n) (someOutOfRange ns) e .0) .1
+in-range-ceilings (n ∷ ns) e (suc b) = in-range-ceilings ns (neither (nodeOutOfRange n) (someOutOfRange ns) e .1) b
 
 -- Numbers in range, from the test.
 in-range : (t : Topology) → length (t .nodes) ≤ mostNodes → rising (idsOf (t .nodes)) ≡ true → outOfRange t ≡ false → Accepted t
@@ -37,14 +57,12 @@ in-range t few ids e =
     let g = neither _ _ (f .0) in
     record {
       bits = ltb-false mostBits (t .bits) (g .0);
-      replication = (pos (t .replication) (g .1), ltb-false mostCopies (t .replication) (f .1));
-      redundancy = (pos (t .redundancy) (d .1), ltb-false (t .replication) (t .redundancy) (b .1));
+      replication = (positive (t .replication) (g .1), ltb-false mostCopies (t .replication) (f .1));
+      redundancy = (positive (t .redundancy) (d .1), ltb-false (t .replication) (t .redundancy) (b .1));
       few = few;
       ids = ids;
+      ceilings = in-range-ceilings (t .nodes) (a .1);
     }
-  where
-    pos : (n : ℕ) → eqb n 0 ≡ false → 1 ≤ n
-    pos n h = ⊎-elim (λ z. absurd (eqb-false n 0 h z)) (λ l. l) (eq-zero-or-pos n)
 
 -- A cluster without fault is accepted.
 pub accepted : (c : Cluster) → faultOf c ≡ 0 → Accepted (topology c)
@@ -78,7 +96,7 @@ no-fault c few a =
       le-ltb mostCopies (t .replication) (a .replication .1),
       ne-eqb (t .redundancy) 0 (λ e. omega (arith, a .redundancy)),
       le-ltb (t .replication) (t .redundancy) (a .redundancy .1),
-      rising-no-zero 0 (idsOf (t .nodes)) (a .ids),
+      nodes-in-range 0 (t .nodes) (a .ids) (a .ceilings),
       a .ids,
     )
 

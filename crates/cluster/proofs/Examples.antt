@@ -10,7 +10,7 @@ use Rattle.cluster.specs.Terms.{Topology, mem, risingFrom, rising, diffe
 use Rattle.cluster.specs.declared.Node.{Node}
 
 abbrev pub node : ℕ → ℕ → ℕ → Node
-node i z c = record { id = i; zone = z; capacity = c }
+node i z c = record { id = i; zone = z; capacity = c; ceiling = 256 }
 
 abbrev pub A : Topology
 A = record { bits = 1; replication = 3; redundancy = 2; nodes = node 1 1 100 ∷ node 2 1 70 ∷ node 3 2 50 ∷ [] }

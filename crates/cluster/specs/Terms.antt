@@ -24,6 +24,10 @@ mostCopies = 8
 abbrev pub mostNodes : ℕ
 mostNodes = 32
 
+-- 2026-05: "a last number of 0 to 256, the most copies this box may hold"
+abbrev pub mostCeiling : ℕ
+mostCeiling = 256
+
 -- "eight to a partition"
 abbrev pub rowCells : ℕ
 rowCells = 8
@@ -57,7 +61,7 @@ partitions t = 2 ^ (t .bits)
 
 -- A slot that is not in use.
 abbrev pub noNode : Node
-noNode = record { id = 0; zone = 0; capacity = 0 }
+noNode = record { id = 0; zone = 0; capacity = 0; ceiling = 0 }
 
 -- Node b of the cluster, in the order of ids; b is below the number of nodes wherever this is asked.
 abbrev pub nodeAt : Topology → ℕ → Node
@@ -122,16 +126,18 @@ unfoldable pub usable : Node → ℕ
 usable n = n .capacity - n .capacity / 16
 
 -- "valid at size s, s at least 1, when each row names R different boxes of the cluster, these lie in at least Z zones, and for each box,
--- copies held times s is at most its capacity", by 2026-02 its usable capacity. A node with no copies puts no limit on s.
+-- copies held times s is at most its capacity", by 2026-02 its usable capacity. A node with no copies puts no limit on s. 2026-05: "A layout is
+-- valid only if every box stays within its ceiling too."
 pub record ValidAt (t : Topology) (L : Layout) (s : ℕ) : Type 0 where
   pub positive : 1 ≤ s
   pub partition-rows : length L ≡ partitions t
   pub rows : (p : ℕ) → p < partitions t → ValidRow t (row L p)
   pub capacities : (b : ℕ) → b < length (t .nodes) → copiesIn L (nodeAt t b .id) * s ≤ usable (nodeAt t b)
+  pub ceilings : (b : ℕ) → b < length (t .nodes) → copiesIn L (nodeAt t b .id) ≤ nodeAt t b .ceiling
 
--- Whether a node takes so many copies at size s: "copies held times s is at most its" usable capacity, as a test.
+-- Whether a node takes so many copies at size s: it "stays within its ceiling", and "copies held times s is at most its" usable capacity, as a test.
 unfoldable pub takes : Node → ℕ → ℕ → Bool
-takes n copies s = leb (copies * s) (usable n)
+takes n copies s = leb copies (n .ceiling) && leb (copies * s) (usable n)
 
 -- "The size of a cluster is the largest whole s with a layout valid at s."
 pub record IsSize (t : Topology) (s : ℕ) : Type 0 where
@@ -191,11 +197,20 @@ formed l = formedFrom 0 l
 unfoldable pub rowsIn : ℕ → List ℕ → Layout
 rowsIn n cells = tab (λ p. idsIn (rowAt cells p)) n
 
--- "bits, replication, redundancy or an id out of range": k 0 to 8, R 1 to 8, Z 1 to R, an id never 0.
+-- An id "never 0", and 2026-05: "a ceiling above 256 gets 4": whether a number of a node is out of its range.
+unfoldable pub nodeOutOfRange : Node → Bool
+nodeOutOfRange n = eqb (n .id) 0 || ltb mostCeiling (n .ceiling)
+
+-- Whether one of some nodes has such a number.
+unfoldable pub someOutOfRange : List Node → Bool
+someOutOfRange [] = false
+someOutOfRange (n ∷ ns) = nodeOutOfRange n || someOutOfRange ns
+
+-- "bits, replication, redundancy or an id out of range": k 0 to 8, R 1 to 8, Z 1 to R; or a number of a node in use.
 unfoldable pub outOfRange : Topology → Bool
 outOfRange t =
     ltb mostBits (t .bits) || eqb (t .replication) 0 || ltb mostCopies (t .replication) || eqb (t .redundancy) 0 || ltb (t .replication) (t .redundancy)
-    || mem 0 (idsOf (t .nodes))
+    || someOutOfRange (t .nodes)
 
 -- "6: more than 32 boxes. 4: bits, replication, redundancy or an id out of range. 5: ids not rising"; 0 where there is no fault.
 unfoldable pub faultOf : Cluster → ℕ

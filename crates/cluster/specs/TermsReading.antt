@@ -6,7 +6,7 @@ use mathlib.Core.Path.{_≡_}
 use mathlib.Core.Bool.{true}
 use mathlib.Core.List.{_++_}
 use lib.ListN.{length, replicate}
-use Rattle.cluster.specs.Terms.{Topology, noNode, nodeAt, idsOf, rising, mostBits, mostCopies, mostNodes}
+use Rattle.cluster.specs.Terms.{Topology, noNode, nodeAt, idsOf, rising, mostBits, mostCopies, mostNodes, mostCeiling}
 use Rattle.cluster.specs.declared.Cluster.{Cluster}
 
 -- ---- the limits of figures and of a layout record
@@ -47,13 +47,14 @@ slotsOf t = record {
   nodes = t .nodes ++ replicate (mostNodes - length (t .nodes)) noNode;
 }
 
--- A cluster without fault, of which planning and check speak.
+-- A cluster without fault, of which planning and check speak. Past its nodes `nodeAt` has a slot that is not in use, whose ceiling is 0.
 pub record Accepted (t : Topology) : Type 0 where
   pub bits : t .bits ≤ mostBits
   pub replication : (1 ≤ t .replication) × (t .replication ≤ mostCopies)
   pub redundancy : (1 ≤ t .redundancy) × (t .redundancy ≤ t .replication)
   pub few : length (t .nodes) ≤ mostNodes
   pub ids : rising (idsOf (t .nodes)) ≡ true
+  pub ceilings : (b : ℕ) → nodeAt t b .ceiling ≤ mostCeiling
 
 -- "a capacity in megabytes (32 bits ..)": capacities as every cluster in hand has them.
 abbrev pub Fits32 : Topology → Type 0

@@ -1,18 +1,19 @@
 // The faults of a cluster in hand, over the nodes in use only.
 ghost use mathlib.Core.Path.{_≡_};
 ghost use Prim.Native.Nat.{_≤_};
-ghost use Rattle.cluster.specs.Terms.{mostNodes, topology, idsOf, mem, rising, outOfRange};
+ghost use Rattle.cluster.specs.Terms.{mostNodes, topology, idsOf, rising, someOutOfRange, outOfRange};
 use super::Cluster;
 
-// Whether a used id is 0.
-fn has_zero_id(c: Cluster) -> bool
+// Whether a number of a node in use is out of its range.
+fn some_out_of_range(c: Cluster) -> bool
     requires { ⌜ c .count ≤ mostNodes ⌝ }
-    ensures { λ r. ⌜ r ≡ mem 0 (idsOf (topology c .nodes)) ⌝ }
+    ensures { λ r. ⌜ r ≡ someOutOfRange (topology c .nodes) ⌝ }
 {
     let n = c.count;
     let mut i = 0;
     while i < n {
-        if c.nodes[i].id == 0 {
+        let node = c.nodes[i];
+        if node.out_of_range() {
             return true;
         }
         i += 1;
@@ -20,7 +21,7 @@ fn has_zero_id(c: Cluster) -> bool
     false
 }
 
-// Whether a number of the cluster or a used id is out of its range.
+// Whether a number of the cluster or of a node in use is out of its range.
 pub(crate) fn out_of_range(c: Cluster) -> bool
     requires { ⌜ c .count ≤ mostNodes ⌝ }
     ensures { λ r. ⌜ r ≡ outOfRange (topology c) ⌝ }
@@ -40,7 +41,7 @@ pub(crate) fn out_of_range(c: Cluster) -> bool
     if c.replication < c.redundancy {
         return true;
     }
-    has_zero_id(c)
+    some_out_of_range(c)
 }
 
 // Whether the used ids rise.

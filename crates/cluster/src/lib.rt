@@ -2,7 +2,7 @@
 ghost use mathlib.Core.Path.{_≡_};
 ghost use Prim.Native.Nat.{_^_, _≤_, _<_, min};
 ghost use Rattle.cluster.specs.TermsReading.{noNodes};
-ghost use Rattle.cluster.specs.Terms.{mostBits, bufferRows, usable, takes, faultOf};
+ghost use Rattle.cluster.specs.Terms.{mostBits, bufferRows, noNode, usable, takes, nodeOutOfRange, faultOf};
 
 mod faults;
 pub mod refusal;
@@ -12,9 +12,19 @@ pub struct Node {
     pub id: u32,
     pub zone: u16,
     pub capacity: u32,
+    // The most copies that it may hold.
+    pub ceiling: u16,
 }
 
 impl Node {
+    // A slot that is not in use.
+    pub const NONE: Node = Node {
+        id: 0,
+        zone: 0,
+        capacity: 0,
+        ceiling: 0,
+    };
+
     // What of the node's disk may be filled: a sixteenth of it stays free. That the capacity is a number of 32 bits is known here, and told
     // with it.
     pub fn usable(self) -> u32
@@ -27,8 +37,21 @@ impl Node {
     pub fn takes(self, copies: u32, size: u32) -> bool
         ensures { λ r. ⌜ r ≡ takes self copies size ⌝ }
     {
+        if (self.ceiling as u32) < copies {
+            return false;
+        }
         let usable = self.usable();
         (copies as u64) * (size as u64) <= usable as u64
+    }
+
+    // Whether its id or its ceiling is out of range.
+    pub fn out_of_range(self) -> bool
+        ensures { λ r. ⌜ r ≡ nodeOutOfRange self ⌝ }
+    {
+        if self.id == 0 {
+            return true;
+        }
+        Cluster::CEILING < self.ceiling
     }
 }
 
@@ -59,6 +82,8 @@ impl Cluster {
     pub const REPLICATION: u32 = 8;
     // The most nodes.
     pub const NODES: usize = 32;
+    // The highest ceiling of a node.
+    pub const CEILING: u16 = 256;
     // The cells of a row in a lent buffer: as many as a partition has copies at most.
     pub const ROW: usize = Cluster::REPLICATION as usize;
     // The rows of a lent layout.
@@ -87,16 +112,12 @@ impl Cluster {
             replication: 1,
             redundancy: 1,
             count: 0,
-            nodes: [Node {
-                id: 0,
-                zone: 0,
-                capacity: 0,
-            }; Cluster::NODES],
+            nodes: [Node::NONE; Cluster::NODES],
         }
     }
 
-    // The first fault of a cluster in hand, as planning and check refuse it: too many nodes, a number or an id out of
-    // range, ids not rising; 0 where there is none.
+    // The first fault of a cluster in hand, as planning and check refuse it: too many nodes, a number of it or of a
+    // node out of range, ids not rising; 0 where there is none.
     pub fn fault(self) -> u32
         ensures { λ r. ⌜ r ≡ faultOf self ⌝ }
     {

@@ -22,7 +22,7 @@ pub const NO_LAYOUT: u32 = 9;
 pub const ROW: u32 = 10;
 // A row in too few zones.
 pub const ZONES: u32 = 11;
-// A node with more copies than its usable capacity takes.
+// A node with more copies than its usable capacity takes, or than its ceiling allows.
 pub const CAPACITY: u32 = 12;
 // An id to be added that is there already.
 pub const PRESENT: u32 = 13;

@@ -11,7 +11,7 @@ use Rattle.sums.specs.TermsSums.{one-if, tab}
 use Rattle.cells.proofs.Cells.{length-tab, getD-tab, tab-cong, tab-more}
 use Rattle.sets.specs.ModelBits.{bit}
 use Rattle.cluster.specs.Terms.{mostNodes, Topology, nodeAt, mem, Layout, copiesIn, rowAt, idsIn, rowsIn}
-use Rattle.sums.proofs.Tests.{one-if-le}
+use Rattle.cluster.proofs.Taking.{copies-few}
 use Rattle.cell_rows.proofs.CellLayouts.{length-rowsIn}
 use Rattle.copies.specs.ModelCopies.{rowNodes, copiesSoFar}
 use Rattle.copies.proofs.RowNodes.{bit-nodes}
@@ -28,12 +28,6 @@ unfolding rowsIn tab
 copies-more cells p i =
     ap (λ (n : ℕ). copiesIn (tab (λ q. idsIn (rowAt cells q)) n) i) (add-one p)
     ∙ copies-append (tab (λ q. idsIn (rowAt cells q)) p) (idsIn (rowAt cells p)) i
-
--- No id has more copies than there are rows.
-pub copies-few : (L : Layout) (i : ℕ) → copiesIn L i ≤ length L
-unfolding copiesIn
-copies-few [] i = omega arith
-copies-few (r ∷ rs) i = omega (arith, copies-few rs i, one-if-le (mem i r))
 
 -- ---- the walk
 

@@ -1,4 +1,4 @@
--- An example that passes the test holds; and every example of the table passes.
+-- An example that passes the test holds; and every example of both tables passes.
 -- Assumes nothing.
 use Prim.Native.Nat.{ℕ, suc, _≤_}
 use mathlib.Core.Path.{_≡_, refl, sym, ap₂, _∙_}
@@ -14,6 +14,7 @@ use Rattle.cluster.specs.Terms.{usable, takes, Topology, idsOf, mem, risingFrom
 use Rattle.cluster.specs.TermsFirst.{Before}
 use Rattle.sums.proofs.Tests.{both}
 use Rattle.examples.specs.TermsExamples.{Expected, no-layout, planned, Comes, Example, Holds, table, EveryHolds, Table}
+use Rattle.examples.specs.TermsCeilings.{ceilingTable, CeilingTable}
 use Rattle.examples.specs.ModelExamples.{every, implies, choices, before, layoutsOf, candidates, rowTest, nodeTest, validTest, acceptedTest, formerRowTest, formerTest, sameRow, sameLayout, rowBeforeTest, beforeTest, nearest, agrees, outcomeTest, passes}
 use Rattle.examples.proofs.Listing.{candidate}
 use Rattle.examples.proofs.Testing.{test-valid, valid-test, valid-below, test-accepted, test-former, test-before}
@@ -118,13 +119,17 @@ unfolding every
 all-hold [] h = tt
 all-hold (e ∷ es) h = let a = both (passes e) (every passes es) h in (passes-holds e (a .0), all-hold es (a .1))
 
--- The test of the whole table, by computing.
-pub table-passes : every passes table ≡ true
+-- The tests of both tables, by computing.
+pub tables-pass : (every passes table ≡ true) × (every passes ceilingTable ≡ true)
 unfolding
     every implies choices before layoutsOf candidates rowTest nodeTest validTest acceptedTest formerRowTest formerTest sameRow sameLayout
     rowBeforeTest beforeTest nearest agrees outcomeTest passes sumTo one-if idsOf mem risingFrom different zonesNamed copiesIn usable takes onlyIn sent
-table-passes = refl
+tables-pass = (refl, refl)
 
 -- The paper's table: every starred example holds, of the terms.
 pub table-holds : Table
-table-holds = all-hold table table-passes
+table-holds = all-hold table (tables-pass .0)
+
+-- Request 2026-05: every example with a ceiling holds, of the terms.
+pub ceilings-hold : CeilingTable
+ceilings-hold = all-hold ceilingTable (tables-pass .1)

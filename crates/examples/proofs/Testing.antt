@@ -1,6 +1,6 @@
 -- The tests mean the terms: validity, both ways; acceptance, former layouts and the order, from the test to the term.
 -- Assumes nothing.
-use Prim.Native.Nat.{ℕ, zero, suc, _≤_, _<_}
+use Prim.Native.Nat.{ℕ, zero, suc, _*_, _≤_, _<_}
 use mathlib.Core.Path.{_≡_, refl, ap, ap₂, _∙_}
 use mathlib.Core.Bool.{Bool, true, false, _&&_, _||_, false≢true}
 use mathlib.Core.Logic.{_⊎_, inl, inr, ⊎-elim}
@@ -11,9 +11,10 @@ use lib.Dec.{ltb, leb, eqb}
 use lib.ListN.{length, getD}
 use borrow.Author.Tests.{ltb-true, lt-ltb, leb-true, le-leb, eqb-true, eq-eqb}
 use Rattle.cluster.proofs.Taking.{takes-held}
-use Rattle.cluster.specs.Terms.{mostBits, mostCopies, mostNodes, Topology, partitions, noNode, nodeAt, idsOf, mem, rising, zonesOf, Layout, row, copiesIn, ValidRow, ValidAt, IsFormer}
+use Rattle.cluster.specs.Terms.{mostBits, mostCopies, mostNodes, mostCeiling, Topology, partitions, noNode, nodeAt, idsOf, mem, rising, zonesOf, Layout, row, copiesIn, ValidRow, usable, ValidAt, IsFormer}
 use Rattle.cluster.specs.TermsReading.{Accepted}
 use Rattle.cluster.specs.TermsFirst.{RowBefore, Before}
+use Rattle.cluster.specs.declared.Node.{Node}
 use Rattle.sums.proofs.Tests.{both}
 use Rattle.cluster.proofs.Lists.{mem-head, mem-tail, mem-none, mem-cases}
 use Rattle.examples.specs.ModelExamples.{every, rowTest, nodeTest, validTest, acceptedTest, formerRowTest, formerTest, sameRow, sameLayout, rowBeforeTest, beforeTest}
@@ -80,9 +81,13 @@ test-valid t L s h =
       positive = ltb-true 0 s (a .0);
       partition-rows = e;
       rows = λ p l. row-valid t (row L p) (every-at (rowTest t) L [] (c .0) p (omega (arith, e)));
-      capacities = λ b l.
-          takes-held (nodeAt t b) (copiesIn L (nodeAt t b .id)) s .0 (every-at (nodeTest L s) (t .nodes) noNode (c .1) b l);
+      capacities = λ b l. held (c .1) b l .0;
+      ceilings = λ b l. held (c .1) b l .1;
     }
+  where
+    held : every (nodeTest L s) (t .nodes) ≡ true → (b : ℕ) → b < length (t .nodes)
+        → (copiesIn L (nodeAt t b .id) * s ≤ usable (nodeAt t b)) × (copiesIn L (nodeAt t b .id) ≤ nodeAt t b .ceiling)
+    held e b l = takes-held (nodeAt t b) (copiesIn L (nodeAt t b .id)) s .0 (every-at (nodeTest L s) (t .nodes) noNode e b l)
 
 -- and what is valid passes it.
 pub valid-test : (t : Topology) (L : Layout) (s : ℕ) → ValidAt t L s → validTest t L s ≡ true
@@ -92,7 +97,7 @@ valid-test t L s v =
     (ap₂ _&&_ (eq-eqb (length L) (partitions t) (v .partition-rows))
     (ap₂ _&&_ (at-every (rowTest t) L [] (λ p l. valid-row t (row L p) (v .rows p (omega (arith, v .partition-rows)))))
     (at-every (nodeTest L s) (t .nodes) noNode
-    (λ b l. takes-held (nodeAt t b) (copiesIn L (nodeAt t b .id)) s .1 (v .capacities b l)))))
+    (λ b l. takes-held (nodeAt t b) (copiesIn L (nodeAt t b .id)) s .1 (v .capacities b l, v .ceilings b l)))))
 
 -- What is valid at a size is valid at each smaller one.
 pub valid-below : (t : Topology) (L : Layout) (s s′ : ℕ) → 1 ≤ s → s ≤ s′ → ValidAt t L s′ → ValidAt t L s
@@ -101,9 +106,17 @@ valid-below t L s s′ one le v = record {
   partition-rows = v .partition-rows;
   rows = v .rows;
   capacities = λ b l. omega (arith, v .capacities b l, mul-le-mul-left (copiesIn L (nodeAt t b .id)) le);
+  ceilings = v .ceilings;
 }
 
 -- ---- acceptance, and the former layout
+
+-- Nodes that pass have no ceiling above 256, nor has a slot not in use.
+ceilings-low : (l : List Node) → every (λ (n : Node). leb (n .ceiling) mostCeiling) l ≡ true → (b : ℕ) → getD l b noNode .ceiling ≤ mostCeiling
+unfolding every
+ceilings-low [] h b = omega arith
+ceilings-low (n ∷ ns) h zero = leb-true (n .ceiling) mostCeiling (both (leb (n .ceiling) mostCeiling) _ h .0)
+ceilings-low (n ∷ ns) h (suc b) = ceilings-low ns (both (leb (n .ceiling) mostCeiling) _ h .1) b
 
 pub test-accepted : (t : Topology) → acceptedTest t ≡ true → Accepted t
 unfolding acceptedTest
@@ -114,12 +127,14 @@ test-accepted t h =
     let d = both (ltb 0 (t .redundancy)) _ (c .1) in
     let e = both (leb (t .redundancy) (t .replication)) _ (d .1) in
     let f = both (leb (length (t .nodes)) mostNodes) _ (e .1) in
+    let g = both (rising (idsOf (t .nodes))) _ (f .1) in
     record {
       bits = leb-true (t .bits) mostBits (a .0);
       replication = (ltb-true 0 (t .replication) (b .0), leb-true (t .replication) mostCopies (c .0));
       redundancy = (ltb-true 0 (t .redundancy) (d .0), leb-true (t .redundancy) (t .replication) (e .0));
       few = leb-true (length (t .nodes)) mostNodes (f .0);
-      ids = f .1;
+      ids = g .0;
+      ceilings = ceilings-low (t .nodes) (g .1);
     }
 
 pub test-former : (t : Topology) (F : Layout) → formerTest t F ≡ true → IsFormer t F

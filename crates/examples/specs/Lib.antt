@@ -1,2 +1,3 @@
 pub mod TermsExamples
+pub mod TermsCeilings
 pub mod ModelExamples

@@ -6,7 +6,7 @@ use mathlib.Core.Bool.{Bool, true, false, not, _&&_, _||_}
 use mathlib.Core.List.{List, [], _∷_, _++_, map}
 use lib.Dec.{ltb, leb, eqb}
 use lib.ListN.{length}
-use Rattle.cluster.specs.Terms.{takes, mostBits, mostCopies, mostNodes, Topology, partitions, idsOf, mem, rising, zonesOf, Layout, copiesIn, sent}
+use Rattle.cluster.specs.Terms.{takes, mostBits, mostCopies, mostNodes, mostCeiling, Topology, partitions, idsOf, mem, rising, zonesOf, Layout, copiesIn, sent}
 use Rattle.cluster.specs.declared.Node.{Node}
 use Rattle.examples.specs.TermsExamples.{Expected, no-layout, planned, Example}
 
@@ -67,7 +67,8 @@ acceptedTest t =
     && (ltb 0 (t .replication)
     && (leb (t .replication) mostCopies
     && (ltb 0 (t .redundancy)
-    && (leb (t .redundancy) (t .replication) && (leb (length (t .nodes)) mostNodes && rising (idsOf (t .nodes)))))))
+    && (leb (t .redundancy) (t .replication)
+    && (leb (length (t .nodes)) mostNodes && (rising (idsOf (t .nodes)) && every (λ (n : Node). leb (n .ceiling) mostCeiling) (t .nodes)))))))
 
 -- What IsFormer asks of a row.
 unfoldable pub formerRowTest : List ℕ → Bool

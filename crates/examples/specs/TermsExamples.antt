@@ -48,9 +48,9 @@ pub record Holds (e : Example) : Type 0 where
 
 -- ---- the columns
 
--- "Boxes as id/zone/capacity."
+-- "Boxes as id/zone/capacity."; 2026-05: "The examples carry 256".
 abbrev pub node : ℕ → ℕ → ℕ → Node
-node i z c = record { id = i; zone = z; capacity = c }
+node i z c = record { id = i; zone = z; capacity = c; ceiling = 256 }
 
 -- "k, R, Z", and the boxes.
 abbrev pub cluster : ℕ → ℕ → ℕ → List Node → Topology

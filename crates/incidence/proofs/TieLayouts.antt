@@ -83,24 +83,9 @@ module _ (t : Topology) (ids : rising (idsOf (t .nodes)) ≡ true) where
       (λ p h. where-row 0 0 (t .nodes) (row L p) ids (v p h .ids) (v p h .known))
       ∙ (ap (tab (λ p. row L p)) (sym e) ∙ tab-getD L [])
 
-  -- A layout valid at a size is, as 0/1 rows, within the caps of that size.
-  pub within-of-valid : (L : Layout) (s : ℕ) → ValidAt t L s
-      → Within (partitions t) (length (t .nodes)) (t .replication) (t .redundancy) (zoneIndex t) (capAt t s) (incidence t L)
-  unfolding incidence capAt
-  within-of-valid L s v =
-      record {
-        rows = λ p h. valid-bits (row L p) (v .rows p h);
-        caps = λ b h. le-min (few b) (takes-few (nodeAt t b) _ s (v .positive) .0 (takes-held (nodeAt t b) _ s .1 (held b h)));
-      }
-    where
-      few : (b : ℕ) → copies (partitions t) (incidence t L) b ≤ partitions t
-      few b =
-          unfold copies in
-          omega
-          (arith, sum-le (partitions t) (λ p. incidence t L p b) (λ p. 1) (λ p h. incidence-le t L p b), sum-const (partitions t) 1)
-
-      held : (b : ℕ) → b < length (t .nodes) → copies (partitions t) (incidence t L) b * s ≤ usable (nodeAt t b)
-      held b h = subst (λ (n : ℕ). n * s ≤ usable (nodeAt t b)) (copies-bits t L b (v .partition-rows)) (v .capacities b h)
+  -- So many copies are within the usable capacity of node b at a size, and within its ceiling.
+  abbrev Holds : ℕ → ℕ → ℕ → Type 0
+  Holds b s n = (n * s ≤ usable (nodeAt t b)) × (n ≤ nodeAt t b .ceiling)
 
   -- 0/1 rows within the caps of a size are, as ids, a layout valid at that size.
   pub valid-of-within : (S : ℕ → ℕ → ℕ) (s : ℕ) → 1 ≤ s
@@ -110,7 +95,8 @@ module _ (t : Topology) (ids : rising (idsOf (t .nodes)) ≡ true) where
         positive = l;
         partition-rows = length-layout t S;
         rows = λ p h. subst (ValidRow t) (sym (row-layout t S p h)) (valid-ids (S p) (w .rows p h));
-        capacities = λ b h. subst (λ (n : ℕ). n * s ≤ usable (nodeAt t b)) (sym (copies-bits t (layoutOf t S) b (length-layout t S) ∙ same b h)) (held b h);
+        capacities = λ b h. held b h .0;
+        ceilings = λ b h. held b h .1;
       }
     where
       same : (b : ℕ) → b < length (t .nodes) → copies (partitions t) (incidence t (layoutOf t S)) b ≡ copies (partitions t) S b
@@ -118,8 +104,30 @@ module _ (t : Topology) (ids : rising (idsOf (t .nodes)) ≡ true) where
           copies-cong (partitions t) (length (t .nodes)) (incidence t (layoutOf t S)) S
           (λ p k b h. incidence-layout S p b k h (w .rows p k .bits b h))
 
-      held : (b : ℕ) → b < length (t .nodes) → copies (partitions t) S b * s ≤ usable (nodeAt t b)
-      held b h = takes-held (nodeAt t b) _ s .0 (takes-few (nodeAt t b) (copies (partitions t) S b) s l .1 (unfold capAt in omega (arith, w .caps b h)))
+      held : (b : ℕ) → b < length (t .nodes) → Holds b s (copiesIn (layoutOf t S) (nodeAt t b .id))
+      held b h =
+          subst (Holds b s) (sym (copies-bits t (layoutOf t S) b (length-layout t S) ∙ same b h))
+          (takes-held (nodeAt t b) _ s .0
+          (takes-few (nodeAt t b) (copies (partitions t) S b) s l .1 (unfold capAt in omega (arith, w .caps b h), unfold capAt in omega (arith, w .caps b h))))
+
+  -- A layout valid at a size is, as 0/1 rows, within the caps of that size.
+  pub within-of-valid : (L : Layout) (s : ℕ) → ValidAt t L s
+      → Within (partitions t) (length (t .nodes)) (t .replication) (t .redundancy) (zoneIndex t) (capAt t s) (incidence t L)
+  unfolding incidence capAt
+  within-of-valid L s v =
+      record {
+        rows = λ p h. valid-bits (row L p) (v .rows p h);
+        caps = λ b h. let k = takes-few (nodeAt t b) _ s (v .positive) .0 (takes-held (nodeAt t b) _ s .1 (held b h)) in le-min (le-min (few b) (k .1)) (k .0);
+      }
+    where
+      few : (b : ℕ) → copies (partitions t) (incidence t L) b ≤ partitions t
+      few b =
+          unfold copies in
+          omega
+          (arith, sum-le (partitions t) (λ p. incidence t L p b) (λ p. 1) (λ p h. incidence-le t L p b), sum-const (partitions t) 1)
+
+      held : (b : ℕ) → b < length (t .nodes) → Holds b s (copies (partitions t) (incidence t L) b)
+      held b h = subst (Holds b s) (copies-bits t L b (v .partition-rows)) (v .capacities b h, v .ceilings b h)
 
   -- The copies that a layout made of valid 0/1 rows sends, and the agreement of its rows with the former layout, are all its copies.
   pub sent-bits : (S : ℕ → ℕ → ℕ) (F : Layout)

@@ -16,9 +16,9 @@ use Rattle.cluster.specs.declared.Node.{Node}
 unfoldable pub zoneIndex : Topology → ℕ → ℕ
 zoneIndex t b = firstFrom (λ c. eqb (nodeAt t c .zone) (nodeAt t b .zone)) (length (t .nodes)) 0
 
--- The most copies that node b may hold at size s. The one place that knows of capacities.
+-- The most copies that node b may hold at size s. The one place that knows of capacities and ceilings.
 unfoldable pub capAt : Topology → ℕ → ℕ → ℕ
-capAt t s b = min (partitions t) (usable (nodeAt t b) / s)
+capAt t s b = min (min (partitions t) (nodeAt t b .ceiling)) (usable (nodeAt t b) / s)
 
 -- A row of ids over node indices: 1 where it names node b, else 0.
 abbrev pub bitsOf : List Node → List ℕ → ℕ → ℕ

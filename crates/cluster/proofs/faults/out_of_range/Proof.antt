@@ -5,7 +5,7 @@ use Rattle.cluster.proofs.faults.out_of_range.Statement.{statement}
 use Rattle.cluster.proofs.faults.out_of_range.Tie as tie
 use Rattle.cluster.proofs.faults.out_of_range.Reads as reads
 use Rattle.cluster.proofs.faults.out_of_range.Lts as lts
-use Rattle.cluster.proofs.faults.has_zero_id.Reads as has-zero-id-reads
+use Rattle.cluster.proofs.faults.some_out_of_range.Reads as some-out-of-range-reads
 
 returns : tie.Need-returns
 unfolding outOfRange
@@ -37,14 +37,14 @@ returns-5 c =
     let k = c .before .before .before .before .before .before .before .before .before .before .args .c in
     simp (le-ltb mostBits (k .bits) (search needs), ne-eqb (k .replication) 0 (search needs), le-ltb mostCopies (k .replication) (search needs), ne-eqb (k .redundancy) 0 (search needs), lt-ltb (k .replication) (k .redundancy) (search needs))
 
-has-zero-id-requires : tie.Need-has-zero-id-requires
-has-zero-id-requires c κs = search needs
+some-out-of-range-requires : tie.Need-some-out-of-range-requires
+some-out-of-range-requires c κs = search needs
 
 returns-6 : tie.Need-returns-6
 unfolding outOfRange
 returns-6 c =
     let k = c .before .before .before .before .before .before .before .before .before .before .before .args .c in
-    simp (le-ltb mostBits (k .bits) (search needs), ne-eqb (k .replication) 0 (search needs), le-ltb mostCopies (k .replication) (search needs), ne-eqb (k .redundancy) 0 (search needs), le-ltb (k .replication) (k .redundancy) (search needs)) (c .has-zero-id .ensures)
+    simp (le-ltb mostBits (k .bits) (search needs), ne-eqb (k .replication) 0 (search needs), le-ltb mostCopies (k .replication) (search needs), ne-eqb (k .redundancy) 0 (search needs), le-ltb (k .replication) (k .redundancy) (search needs)) (c .some-out-of-range .ensures)
 
 pub out-of-range-spec : {M : Type 1} → statement M
-out-of-range-spec = tie.close (tie.spec returns returns-2 returns-3 returns-4 returns-5 has-zero-id-requires returns-6)
+out-of-range-spec = tie.close (tie.spec returns returns-2 returns-3 returns-4 returns-5 some-out-of-range-requires returns-6)
