@@ -8,9 +8,10 @@ use native.Mathlib.Omega.{arith}
 use lib.Dec.{ltb, leb, eqb}
 use lib.ListN.{length}
 use borrow.Author.Tests.{le-ltb}
-use Rattle.cluster.specs.Terms.{mostBits, mostCopies, mostNodes, Topology, idsOf, mem, rising}
+use Rattle.cluster.specs.Terms.{mostBits, mostCopies, mostNodes, Topology, idsOf, mem, rising, nodeOutOfRange}
+use Rattle.cluster.specs.declared.Node.{Node}
 use Rattle.fields.specs.RecordField.{numberAt, nodeAtByte, idsAt}
-use Rattle.cluster_fields.specs.RecordClusterFaults.{itemIn, lastOf, faultIn}
+use Rattle.cluster_fields.specs.RecordClusterFaults.{OneNode, itemIn, lastOf, faultIn}
 use Rattle.cluster_fields.proofs.Items.{below-one, item-bits, item-replication, item-redundancy, item-node, item-five}
 
 -- What is said of a fault r of a row in a body of len bytes, in a cluster of so many bits.
@@ -38,13 +39,12 @@ module _ (t : Topology) (next : ℕ) (s : List ℕ) (tag start len : ℕ) where
       f ∙ (ap (λ (b : Bool). cond (b || ltb (t .replication) v) 4 0) (below-one v)
       ∙ (ap (λ (k : ℕ). cond (eqb k 0 || ltb (t .replication) k) 4 0) d ∙ ap (faultIn t next) (sym (item-redundancy s start len tag e))))
 
-  pub node-fault : (id last count r : ℕ) → tag ≡ 4 → id ≡ nodeAtByte s start .id → last ≡ lastOf 0 (idsOf (t .nodes)) → count ≡ length (t .nodes)
-      → r ≡ cond (eqb id 0) 4 (cond (leb id last) 5 (cond (leb mostNodes count) 6 0)) → r ≡ faultIn t next (itemIn s tag start len)
+  pub node-fault : (n : Node) (last count r : ℕ) → tag ≡ 4 → n ≡ nodeAtByte s start → last ≡ lastOf 0 (idsOf (t .nodes)) → count ≡ length (t .nodes)
+      → r ≡ cond (nodeOutOfRange n) 4 (cond (leb (n .id) last) 5 (cond (leb mostNodes count) 6 0)) → r ≡ faultIn t next (itemIn s tag start len)
   unfolding faultIn
-  node-fault id last count r e d l n f =
-      f ∙ (ap₂ (λ (x y : ℕ). cond (eqb id 0) 4 (cond (leb id x) 5 (cond (leb mostNodes y) 6 0))) l n
-      ∙ (ap (λ (x : ℕ). cond (eqb x 0) 4 (cond (leb x (lastOf 0 (idsOf (t .nodes)))) 5 (cond (leb mostNodes (length (t .nodes))) 6 0))) d
-      ∙ ap (faultIn t next) (sym (item-node s start len tag e))))
+  node-fault n last count r e d l k f =
+      f ∙ (ap₂ (λ (x y : ℕ). cond (nodeOutOfRange n) 4 (cond (leb (n .id) x) 5 (cond (leb mostNodes y) 6 0))) l k
+      ∙ (ap (λ (x : Node). faultIn t next (OneNode x)) d ∙ ap (faultIn t next) (sym (item-node s start len tag e))))
 
   pub row-fault : (r : ℕ) → tag ≡ 5 → RowFault s (t .bits) next start len r → r ≡ faultIn t next (itemIn s tag start len)
   unfolding faultIn

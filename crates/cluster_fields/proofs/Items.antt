@@ -13,7 +13,8 @@ use borrow.Author.Tests.{ltb-false, leb-false, not-false, lt-ltb, le-ltb, lt-leb
 use Rattle.sums.proofs.Sum.{eq-or-ne}
 use Rattle.sums.proofs.Tests.{neither}
 use Rattle.cluster.specs.declared.Node.{Node}
-use Rattle.cluster.specs.Terms.{mostNodes, Topology, partitions, Layout, noNode, idsOf, mem, rising, risingFrom}
+use Rattle.cluster.specs.Terms.{mostNodes, mostCeiling, Topology, partitions, Layout, noNode, idsOf, mem, rising, risingFrom, nodeOutOfRange}
+use Rattle.cluster.proofs.Accepting.{node-in-range, in-range-node}
 use Rattle.cluster.proofs.Lists.{rising-head, rising-cons, rising-tail, rising-none, rising-fresh}
 use Rattle.fields.specs.RecordField.{numberAt, nodeAtByte, idsAt}
 use Rattle.cluster_fields.specs.RecordClusterFaults.{BitsOf, ReplicationOf, RedundancyOf, OneNode, FormerRow, itemIn, formerWith, lastOf, faultIn}
@@ -96,17 +97,20 @@ in-range true e = absurd (omega arith)
 in-range false e = refl
 
 module _ (t : Topology) (next : ℕ) where
-  -- a node without fault has an id above the last, and a slot,
-  pub sound-node : (n : Node) → faultIn t next (OneNode n) ≡ 0 → (lastOf 0 (idsOf (t .nodes)) < n .id) × (length (t .nodes) < mostNodes)
+  -- a node without fault has an id above the last, a slot, and a ceiling in range,
+  pub sound-node : (n : Node) → faultIn t next (OneNode n) ≡ 0
+      → (lastOf 0 (idsOf (t .nodes)) < n .id) × (length (t .nodes) < mostNodes) × (n .ceiling ≤ mostCeiling)
   unfolding faultIn
-  sound-node n = go (eqb (n .id) 0) (leb (n .id) (lastOf 0 (idsOf (t .nodes)))) (leb mostNodes (length (t .nodes))) refl refl
+  sound-node n = go (nodeOutOfRange n) (leb (n .id) (lastOf 0 (idsOf (t .nodes)))) (leb mostNodes (length (t .nodes))) refl refl refl
     where
-      go : (a b c : Bool) → leb (n .id) (lastOf 0 (idsOf (t .nodes))) ≡ b → leb mostNodes (length (t .nodes)) ≡ c
-          → _≡_ {A = ℕ} (cond a 4 (cond b 5 (cond c 6 0))) 0 → (lastOf 0 (idsOf (t .nodes)) < n .id) × (length (t .nodes) < mostNodes)
-      go true b c d e z = absurd (omega arith)
-      go false true c d e z = absurd (omega arith)
-      go false false true d e z = absurd (omega arith)
-      go false false false d e z = (leb-false (n .id) (lastOf 0 (idsOf (t .nodes))) d, leb-false mostNodes (length (t .nodes)) e)
+      go : (a b c : Bool) → nodeOutOfRange n ≡ a → leb (n .id) (lastOf 0 (idsOf (t .nodes))) ≡ b → leb mostNodes (length (t .nodes)) ≡ c
+          → _≡_ {A = ℕ} (cond a 4 (cond b 5 (cond c 6 0))) 0
+          → (lastOf 0 (idsOf (t .nodes)) < n .id) × (length (t .nodes) < mostNodes) × (n .ceiling ≤ mostCeiling)
+      go true b c f d e z = absurd (omega arith)
+      go false true c f d e z = absurd (omega arith)
+      go false false true f d e z = absurd (omega arith)
+      go false false false f d e z =
+          (leb-false (n .id) (lastOf 0 (idsOf (t .nodes))) d, leb-false mostNodes (length (t .nodes)) e, in-range-node n f .1)
 
   -- and a row without fault is one of the cluster's, not passed, of rising ids.
   pub sound-row : (p : ℕ) (ids : List ℕ) → faultIn t next (FormerRow p ids) ≡ 0 → (p < partitions t) × (next ≤ p) × (rising ids ≡ true)
@@ -122,11 +126,10 @@ module _ (t : Topology) (next : ℕ) where
           (leb-false (partitions t) p (neither (leb (partitions t) p) (mem 0 ids) d .0), ltb-false p next (up .0), not-false (rising ids) (up .1))
 
   -- The other way round.
-  pub node-sound : (n : Node) → lastOf 0 (idsOf (t .nodes)) < n .id → length (t .nodes) < mostNodes → faultIn t next (OneNode n) ≡ 0
+  pub node-sound : (n : Node) → lastOf 0 (idsOf (t .nodes)) < n .id → length (t .nodes) < mostNodes → n .ceiling ≤ mostCeiling → faultIn t next (OneNode n) ≡ 0
   unfolding faultIn
-  node-sound n a b =
-      let some : (n .id ≡ 0 → ⊥) = λ e. omega arith in
-      simp (ne-eqb (n .id) 0 some, lt-leb (n .id) (lastOf 0 (idsOf (t .nodes))) a, lt-leb mostNodes (length (t .nodes)) b)
+  node-sound n a b h =
+      simp (node-in-range n (omega arith) h, lt-leb (n .id) (lastOf 0 (idsOf (t .nodes))) a, lt-leb mostNodes (length (t .nodes)) b)
 
   pub row-sound : (p : ℕ) (ids : List ℕ) → p < partitions t → next ≤ p → rising ids ≡ true → faultIn t next (FormerRow p ids) ≡ 0
   unfolding faultIn

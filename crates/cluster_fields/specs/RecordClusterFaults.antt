@@ -6,7 +6,7 @@ use mathlib.Core.Bool.{not, _||_, cond}
 use mathlib.Core.List.{List, [], _∷_, _++_}
 use lib.Dec.{ltb, leb, eqb}
 use lib.ListN.{length, replicate}
-use Rattle.cluster.specs.Terms.{mostBits, mostCopies, mostNodes, Topology, partitions, Layout, idsOf, mem, rising}
+use Rattle.cluster.specs.Terms.{mostBits, mostCopies, mostNodes, Topology, partitions, Layout, idsOf, mem, rising, nodeOutOfRange}
 use Rattle.cluster.specs.declared.Node.{Node}
 use Rattle.fields.specs.RecordField.{numberAt, nodeAtByte, idsAt}
 
@@ -60,11 +60,12 @@ lastOf d [] = d
 lastOf d (x ∷ xs) = lastOf x xs
 
 -- "4, a value outside its range (id 0 and partition at or above P included); 5, id or partition not rising; 6, a 33rd box": the first fault of
--- what a field says, 0 where there is none. The ranges: k 0 to 8, R 1 to 8, Z 1 to R; the partitions before `next` are passed.
+-- what a field says, 0 where there is none. The ranges: k 0 to 8, R 1 to 8, Z 1 to R, a ceiling 0 to 256 (2026-05); the partitions before `next` are
+-- passed.
 unfoldable pub faultIn : Topology → ℕ → Item → ℕ
 faultIn t next (BitsOf k) = cond (ltb mostBits k) 4 0
 faultIn t next (ReplicationOf k) = cond (eqb k 0 || ltb mostCopies k) 4 0
 faultIn t next (RedundancyOf k) = cond (eqb k 0 || ltb (t .replication) k) 4 0
 faultIn t next (OneNode n) =
-    cond (eqb (n .id) 0) 4 (cond (leb (n .id) (lastOf 0 (idsOf (t .nodes)))) 5 (cond (leb mostNodes (length (t .nodes))) 6 0))
+    cond (nodeOutOfRange n) 4 (cond (leb (n .id) (lastOf 0 (idsOf (t .nodes)))) 5 (cond (leb mostNodes (length (t .nodes))) 6 0))
 faultIn t next (FormerRow p ids) = cond (leb (partitions t) p || mem 0 ids) 4 (cond (ltb p next || not (rising ids)) 5 0)

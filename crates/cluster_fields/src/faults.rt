@@ -3,10 +3,11 @@
 ghost use mathlib.Core.Path.{_≡_};
 ghost use mathlib.Core.Bool.{_||_, cond};
 ghost use Prim.Native.Nat.{ℕ, _≤_};
-ghost use lib.Dec.{ltb, leb, eqb};
-ghost use Rattle.cluster.specs.Terms.{mostNodes, topology, idsOf};
+ghost use lib.Dec.{ltb, leb};
+ghost use Rattle.cluster.specs.Terms.{mostNodes, topology, idsOf, nodeOutOfRange};
 ghost use Rattle.cluster_fields.specs.RecordClusterFaults.{itemIn, lastOf, faultIn};
 use cluster::Cluster;
+use cluster::Node;
 use cluster::refusal;
 
 // Of a number from `least` to `most`.
@@ -34,14 +35,14 @@ fn last_id(c: Cluster) -> u32
     c.nodes[n - 1].id
 }
 
-// Of a node's id, after nodes the last of which has the id `last`.
-fn node_fault(count: usize, last: u32, id: u32) -> u32
-    ensures { λ r. ⌜ r ≡ cond (eqb id 0) 4 (cond (leb id last) 5 (cond (leb mostNodes count) 6 0)) ⌝ }
+// Of a node, after so many nodes, the last of which has the id `last`.
+fn node_fault(count: usize, last: u32, node: Node) -> u32
+    ensures { λ r. ⌜ r ≡ cond (nodeOutOfRange node) 4 (cond (leb (node .id) last) 5 (cond (leb mostNodes count) 6 0)) ⌝ }
 {
-    if id == 0 {
+    if node.out_of_range() {
         return refusal::RANGE;
     }
-    if id <= last {
+    if node.id <= last {
         return refusal::ORDER;
     }
     if Cluster::NODES <= count {
@@ -64,6 +65,6 @@ pub fn field_fault(bytes: &[u8], c: Cluster, tag: u8, start: usize) -> u32
     if tag == 3 {
         return number_fault(1, c.replication, fields::byte_at(bytes, start));
     }
-    let n = fields::node_at(bytes, start);
-    node_fault(c.count, last_id(c), n.id)
+    let node = node_bytes::node_at(bytes, start);
+    node_fault(c.count, last_id(c), node)
 }

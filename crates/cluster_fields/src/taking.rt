@@ -28,7 +28,7 @@ pub fn cluster_with(bytes: &[u8], c: Cluster, tag: u8, start: usize) -> Cluster
         return next;
     }
     let at = c.count;
-    next.nodes[at] = fields::node_at(bytes, start);
+    next.nodes[at] = node_bytes::node_at(bytes, start);
     next.count = at + 1;
     next
 }

@@ -11,13 +11,13 @@ use lib.Seq.{append-snoc}
 use borrow.Author.Tests.{le-ltb, ne-eqb}
 use Rattle.sums.proofs.Sum.{lt-or-ge}
 use Rattle.cluster.specs.declared.Node.{Node}
-use Rattle.cluster.specs.Terms.{mostBits, mostCopies, mostNodes, Topology, partitions, Layout, noNode, row, idsOf, rising, risingFrom}
+use Rattle.cluster.specs.Terms.{mostBits, mostCopies, mostNodes, mostCeiling, Topology, partitions, Layout, noNode, row, idsOf, rising, risingFrom}
 use Rattle.cluster.specs.TermsReading.{Accepted}
 use Rattle.cluster.proofs.Lists.{rising-head, rising-tail, rising-none}
 use Rattle.fields.specs.RecordField.{bytesOf, nodeBytes, FitsNode, field, fieldAt, ruleOf, legal, idBytes, idsAt}
 use Rattle.fields.specs.declared.Field.the-variants.{Body}
 use Rattle.fields.proofs.Numbers.{length-bytes, number-here, after-number}
-use Rattle.fields.proofs.Nodes.{length-node, node-here}
+use Rattle.node_bytes.proofs.Nodes.{length-node, node-here}
 use Rattle.fields.proofs.RecordField.{legal-true, legal-any, length-field, body-here, rest-here, field-here}
 use Rattle.cluster_record.specs.RecordCluster.{bitsField, replicationField, redundancyField, nodeField, nodeFields, formerField, formerFields, clusterRecord, IsClusterRecord}
 use Rattle.cluster_fields.specs.RecordClusterFaults.{Item, BitsOf, ReplicationOf, RedundancyOf, OneNode, FormerRow, itemIn, withItem, upTo, formerWith, lastOf, faultIn}
@@ -100,20 +100,21 @@ above k [] n ns h = rising-head k (n .id) (idsOf ns) h
 above k (x ∷ l) n ns h = above (x .id) l n ns (rising-tail k (x .id) (idsOf (l ++ (n ∷ ns))) h)
 
 reach-nodes : (s rest : List ℕ) (t : Topology) (ns l : List Node) (last : ℕ) → 3 ≤ last → last < 5 → rising (idsOf (l ++ ns)) ≡ true → length (l ++ ns) ≤ mostNodes
-    → ((b : ℕ) → FitsNode (getD ns b noNode)) → Reaches s (withNodes last t l) (nodeFields ns ++ rest) → (m : ℕ) × (3 ≤ m) × (m < 5) × Reaches s (withNodes m t (l ++ ns)) rest
+    → ((b : ℕ) → getD ns b noNode .ceiling ≤ mostCeiling) → ((b : ℕ) → FitsNode (getD ns b noNode)) → Reaches s (withNodes last t l) (nodeFields ns ++ rest)
+    → (m : ℕ) × (3 ≤ m) × (m < 5) × Reaches s (withNodes m t (l ++ ns)) rest
 unfolding nodeFields
-reach-nodes s rest t [] l last a b up few fit q = (last, a, b, subst (λ (x : List Node). Reaches s (withNodes last t x) rest) (sym (append-nil l)) q)
-reach-nodes s rest t (n ∷ ns) l last a b up few fit q =
+reach-nodes s rest t [] l last a b up few low fit q = (last, a, b, subst (λ (x : List Node). Reaches s (withNodes last t x) rest) (sym (append-nil l)) q)
+reach-nodes s rest t (n ∷ ns) l last a b up few low fit q =
     let e : l ++ (n ∷ []) ++ ns ≡ l ++ (n ∷ ns) = append-snoc l n ns in
     let h = reach-nodes s rest t ns (l ++ (n ∷ [])) 4 (omega arith) (omega arith) (ap (λ (x : List Node). rising (idsOf x)) e ∙ up) (omega (arith, ap (λ (x : List Node). length x) e))
-    (λ j. fit (suc j)) (one (subst (Reaches s (withNodes last t l)) (append-assoc (nodeField n) (nodeFields ns) rest) q)) in
+    (λ j. low (suc j)) (λ j. fit (suc j)) (one (subst (Reaches s (withNodes last t l)) (append-assoc (nodeField n) (nodeFields ns) rest) q)) in
     (h .0, h .1, h .2, subst (λ (x : List Node). Reaches s (withNodes (h .0) t x) rest) e (h .3))
   where
     r : Reading
     r = withNodes last t l
 
     none : faultIn (r .cluster) 0 (OneNode n) ≡ 0
-    none = node-sound (r .cluster) 0 n (above 0 l n ns up) (omega (arith, length-append l (n ∷ ns)))
+    none = node-sound (r .cluster) 0 n (above 0 l n ns up) (omega (arith, length-append l (n ∷ ns))) (low 0)
 
     lawful : legal 4 (length (nodeBytes n)) ≡ true
     lawful = ap (legal 4) (length-node n) ∙ (unfold legal ruleOf in refl)
@@ -209,7 +210,7 @@ records-read s t F q =
     let w = q .former in
     let start = reach-numbers s (nodeFields (t .nodes) ++ formerFields 0 F) t a (subst (Reaches s nothingRead) (q .bytes) (reach-start s)) in
     let n = reach-nodes s (formerFields 0 F) t (t .nodes) [] 3 (omega arith) (omega arith) (a .ids) (a .few)
-    (q .fits .nodes) start in
+    (a .ceilings) (q .fits .nodes) start in
     reach-rows s t F (a .bits) F [] 0 (n .0) (n .1) (omega arith) (omega (arith, w .partition-rows)) refl
     (record {
       ids = λ p. ⊎-elim (λ l. w .ids p (omega (arith, w .partition-rows))) (λ g. ap rising (List·getD-eq-default F [] g) ∙ rising-none 0) (lt-or-ge p (length F));

@@ -1,4 +1,4 @@
--- The longest record, and that the first 9,937 bytes decide every reading.
+-- The longest record, and that the first 10,001 bytes decide every reading.
 -- Assumes nothing.
 use Prim.Native.Nat.{ℕ, suc, _+_, _-_, _*_, _/_, _≤_, _<_, min}
 use mathlib.Core.Path.{_≡_, refl, sym, ap, _∙_}
@@ -15,7 +15,7 @@ use Rattle.cluster.specs.Terms.{mostCopies, layoutCells, cellsOf, Topology, Lay
 use Rattle.cluster.specs.TermsReading.{Accepted}
 use Rattle.fields.specs.RecordField.{nodeWidth, nodeBytes, rowWidth, headWidth, longestField, bytesOf, numberAt, field, fieldAt, Whole, nodeAtByte, idBytes, idsAt}
 use Rattle.fields.specs.declared.Field.the-variants.{Body}
-use Rattle.fields.proofs.Nodes.{length-node}
+use Rattle.node_bytes.proofs.Nodes.{length-node}
 use Rattle.fields.proofs.Cut.{number-same, ids-same, node-same, field-same}
 use Rattle.fields.proofs.Numbers.{length-bytes}
 use Rattle.fields.proofs.RecordField.{whole, length-field, refused-some}
@@ -51,7 +51,7 @@ length-rows p [] h = omega arith
 length-rows p (r ∷ F) h =
     omega (arith, length-append (formerField p r) (formerFields (suc p) F), length-row p r (h 0 (omega arith)), length-rows (suc p) F (λ q l. h (suc q) (omega arith)))
 
--- No record has more than 9,900 bytes.
+-- No record has more than 9,964 bytes.
 pub longest : (t : Topology) (F : Layout) → Accepted t → IsFormer t F → length (clusterRecord t F) ≤ longestRecord
 unfolding clusterRecord bitsField replicationField redundancyField
 longest t F a f =
@@ -197,7 +197,7 @@ module _ (s : List ℕ) (n : ℕ) where
             ∙ ap (λ (i : Item). walk (q .fuel - 1) (take n s) (start + len) (readingWith r tag i)) same-item);
       }
 
-    -- A record of 9,937 bytes or more is refused, and any 9,937 of its first bytes are refused in the same way.
+    -- A record of 10,001 bytes or more is refused, and any 10,001 of its first bytes are refused in the same way.
     pub decided : (readCluster (take n s) ≡ readCluster s) × (readCluster s .refusal ≡ 0 → ⊥)
     unfolding readCluster
     decided =
@@ -211,7 +211,7 @@ module _ (s : List ℕ) (n : ℕ) where
         (length s) 0 nothingRead (omega arith)
         (record { well = well-nothing; small = unfold Small in omega arith; fuel = length (take n s); enough = omega arith; here = refl })
 
--- The first bytes of a record, 9,937 or more, are read as the whole: the same refusal and byte, or the same cluster and former layout.
+-- The first bytes of a record, 10,001 or more, are read as the whole: the same refusal and byte, or the same cluster and former layout.
 pub first-bytes : (s : List ℕ) (n : ℕ) → decidingBytes ≤ n → readCluster (take n s) ≡ readCluster s
 first-bytes s n h =
     ⊎-elim (λ l. decided s n (omega arith) h .0) (λ g. ap readCluster (take-all n s g)) (lt-or-ge n (length s))

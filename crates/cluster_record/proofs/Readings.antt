@@ -10,7 +10,7 @@ use lib.Dec.{ltb, eqb}
 use lib.ListN.{length, length-append}
 use borrow.Author.Tests.{ltb-false, eqb-false, lt-ltb, le-ltb}
 use Rattle.sums.proofs.Sum.{lt-or-ge}
-use Rattle.cluster.specs.Terms.{mostBits, mostCopies, bufferRows, partitions, Layout, row, idsOf, mem, rising}
+use Rattle.cluster.specs.Terms.{mostBits, mostCopies, mostCeiling, bufferRows, partitions, Layout, noNode, row, idsOf, mem, rising}
 use Rattle.cluster.specs.declared.Node.{Node}
 use Rattle.cluster.specs.TermsReading.{Accepted}
 use Rattle.cluster.proofs.Lists.{mem-head, mem-tail, mem-cases, rising-none}
@@ -119,7 +119,7 @@ rows-few r w = omega (arith, w .rows-le, few-partitions (r .cluster .bits) (w .a
 pub well-nothing : Well nothingRead
 unfolding nothingRead idsOf
 well-nothing = record {
-  accepted = record { bits = omega arith; replication = (omega arith, omega arith); redundancy = (omega arith, omega arith); few = omega arith; ids = rising-none 0 };
+  accepted = record { bits = omega arith; replication = (omega arith, omega arith); redundancy = (omega arith, omega arith); few = omega arith; ids = rising-none 0; ceilings = λ b. omega arith };
   alone = λ l. refl;
   no-nodes = λ l. refl;
   no-rows = λ l. refl;
@@ -135,7 +135,7 @@ module _ (r : Reading) (tag : ℕ) (w : Well r) where
   unfolding readingWith withItem formerWith faultIn
   well-bits k z e f =
       record {
-        accepted = record { bits = ltb-false mostBits k (in-range (ltb mostBits k) f); replication = w .accepted .replication; redundancy = w .accepted .redundancy; few = w .accepted .few; ids = w .accepted .ids };
+        accepted = record { bits = ltb-false mostBits k (in-range (ltb mostBits k) f); replication = w .accepted .replication; redundancy = w .accepted .redundancy; few = w .accepted .few; ids = w .accepted .ids; ceilings = w .accepted .ceilings };
         alone = λ l. w .alone (omega arith);
         no-nodes = λ l. w .no-nodes (omega arith);
         no-rows = λ l. w .no-rows (omega arith);
@@ -151,7 +151,7 @@ module _ (r : Reading) (tag : ℕ) (w : Well r) where
       let n = neither (eqb k 0) (ltb mostCopies k) (in-range (eqb k 0 || ltb mostCopies k) f) in
       let some : (k ≡ 0 → ⊥) = eqb-false k 0 (n .0) in
       record {
-        accepted = record { bits = w .accepted .bits; replication = (omega arith, ltb-false mostCopies k (n .1)); redundancy = (w .accepted .redundancy .0, omega (arith, w .alone (omega arith))); few = w .accepted .few; ids = w .accepted .ids };
+        accepted = record { bits = w .accepted .bits; replication = (omega arith, ltb-false mostCopies k (n .1)); redundancy = (w .accepted .redundancy .0, omega (arith, w .alone (omega arith))); few = w .accepted .few; ids = w .accepted .ids; ceilings = w .accepted .ceilings };
         alone = λ l. w .alone (omega arith);
         no-nodes = λ l. w .no-nodes (omega arith);
         no-rows = λ l. w .no-rows (omega arith);
@@ -167,7 +167,7 @@ module _ (r : Reading) (tag : ℕ) (w : Well r) where
       let n = neither (eqb k 0) (ltb (r .cluster .replication) k) (in-range (eqb k 0 || ltb (r .cluster .replication) k) f) in
       let some : (k ≡ 0 → ⊥) = eqb-false k 0 (n .0) in
       record {
-        accepted = record { bits = w .accepted .bits; replication = w .accepted .replication; redundancy = (omega arith, ltb-false (r .cluster .replication) k (n .1)); few = w .accepted .few; ids = w .accepted .ids };
+        accepted = record { bits = w .accepted .bits; replication = w .accepted .replication; redundancy = (omega arith, ltb-false (r .cluster .replication) k (n .1)); few = w .accepted .few; ids = w .accepted .ids; ceilings = w .accepted .ceilings };
         alone = λ l. absurd (omega arith);
         no-nodes = λ l. w .no-nodes (omega arith);
         no-rows = λ l. w .no-rows (omega arith);
@@ -189,6 +189,7 @@ module _ (r : Reading) (tag : ℕ) (w : Well r) where
           redundancy = w .accepted .redundancy;
           few = omega (arith, length-append l (n ∷ []), h .1);
           ids = ap rising (ids-snoc l n) ∙ rising-snoc 0 (idsOf l) (n .id) (w .accepted .ids) (h .0);
+          ceilings = every-snoc (λ (x : Node). x .ceiling ≤ mostCeiling) noNode l n (w .accepted .ceilings) (h .2) (omega arith);
         };
         alone = λ l. absurd (omega arith);
         no-nodes = λ l. absurd (omega arith);

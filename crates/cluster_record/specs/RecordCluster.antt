@@ -19,7 +19,7 @@ replicationField t = field 2 (bytesOf 1 (t .replication))
 unfoldable pub redundancyField : Topology → List ℕ
 redundancyField t = field 3 (bytesOf 1 (t .redundancy))
 
--- "4 box (10: id 4, zone 2, capacity 4)"
+-- "4 box (.. id 4, zone 2, capacity 4)", by 2026-05 with the ceiling
 unfoldable pub nodeField : Node → List ℕ
 nodeField n = field 4 (nodeBytes n)
 
@@ -54,10 +54,10 @@ pub record IsClusterRecord (s : List ℕ) (t : Topology) (F : Layout) : Type 0 w
   pub former : IsFormer t F
   pub fits : FitsRecord t F
 
--- The bytes of the longest record: three fields of one byte, one for each of 32 nodes, and the longest row for each of 256. It is 9,900.
+-- The bytes of the longest record: three fields of one byte, one for each of 32 nodes, and the longest row for each of 256. It is 9,964.
 abbrev pub longestRecord : ℕ
 longestRecord = 3 * (headWidth + 1) + mostNodes * (headWidth + nodeWidth) + bufferRows * longestField
 
--- The bytes that decide every reading: those of the longest record and of one more field. It is 9,937.
+-- The bytes that decide every reading: those of the longest record and of one more field. It is 10,001.
 abbrev pub decidingBytes : ℕ
 decidingBytes = longestRecord + longestField

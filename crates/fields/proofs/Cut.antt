@@ -42,6 +42,7 @@ module _ (s : List ℕ) (n : ℕ) where
         number-same at 4 (omega arith) (omega arith),
         number-same (at + 4) 2 (omega arith) (omega arith),
         number-same (at + 6) 4 (omega arith) (omega arith),
+        number-same (at + 10) 2 (omega arith) (omega arith),
       )
 
   -- The longest field has to end before the cut, since a longer one could not be legal.

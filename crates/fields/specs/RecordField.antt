@@ -53,18 +53,20 @@ over p s = p ++ drop (length p) s
 
 -- The bytes of a node, in this order.
 unfoldable pub nodeBytes : Node → List ℕ
-nodeBytes n = bytesOf 4 (n .id) ++ (bytesOf 2 (n .zone) ++ bytesOf 4 (n .capacity))
+nodeBytes n = bytesOf 4 (n .id) ++ (bytesOf 2 (n .zone) ++ (bytesOf 4 (n .capacity) ++ bytesOf 2 (n .ceiling)))
 
 -- The numbers of a node fit these bytes.
 pub record FitsNode (n : Node) : Type 0 where
   pub id : n .id < 2 ^ 32
   pub zone : n .zone < 2 ^ 16
   pub capacity : n .capacity < 2 ^ 32
+  pub ceiling : n .ceiling < 2 ^ 16
 
 -- The node in the bytes of s from byte `at` on; all its numbers are 0 where s does not have them all.
 unfoldable pub nodeAtByte : List ℕ → ℕ → Node
 nodeAtByte s at =
-    cond (has (length s) at nodeWidth) (record { id = numberAt s at 4; zone = numberAt s (at + 4) 2; capacity = numberAt s (at + 6) 4 }) noNode
+    cond (has (length s) at nodeWidth)
+    (record { id = numberAt s at 4; zone = numberAt s (at + 4) 2; capacity = numberAt s (at + 6) 4; ceiling = numberAt s (at + 10) 2 }) noNode
 
 -- The m ids from a byte on, "id 4" bytes each.
 unfoldable pub idsAt : List ℕ → ℕ → ℕ → List ℕ

@@ -4,8 +4,7 @@ ghost use mathlib.Core.List.{_++_};
 ghost use Prim.Native.Nat.{_+_, _^_, _≤_, _<_};
 ghost use lib.ListN.{length};
 ghost use Rattle.fields.specs.ModelTags.{tagsOf};
-ghost use Rattle.fields.specs.RecordField.{has, bytesOf, numberAt, written, nodeBytes, nodeAtByte, headWidth, fieldAt, Within, refusalOf, placeOf};
-use cluster::Node;
+ghost use Rattle.fields.specs.RecordField.{has, bytesOf, numberAt, written, headWidth, fieldAt, Within, refusalOf, placeOf};
 
 pub mod ids;
 pub mod reader;
@@ -17,7 +16,7 @@ pub enum Field {
 }
 
 // Whether a record of n bytes has `width` bytes from byte `at` on.
-fn reaches(n: usize, at: usize, width: usize) -> bool
+pub fn reaches(n: usize, at: usize, width: usize) -> bool
     ensures { λ r. ⌜ r ≡ has n at width ⌝ }
 {
     if n < at {
@@ -63,25 +62,6 @@ pub fn word_at(s: &[u8], at: usize) -> u32
     }
 }
 
-// The node in ten bytes; all its numbers are 0 where the record does not have them all.
-pub fn node_at(s: &[u8], at: usize) -> Node
-    ensures { λ r. ⌜ r ≡ nodeAtByte (now (s .entry)) at ⌝ }
-{
-    if reaches(s.len(), at, lengths::NODE) {
-        Node {
-            id: word_at(s, at),
-            zone: pair_at(s, at + 4) as u16,
-            capacity: word_at(s, at + 6),
-        }
-    } else {
-        Node {
-            id: 0,
-            zone: 0,
-            capacity: 0,
-        }
-    }
-}
-
 // Writes the lowest byte of a number; nothing where the buffer has no such byte.
 pub fn put_byte(out: &mut [u8], at: usize, value: u32)
     ensures { λ _. ⌜ now (out .exit) ≡ written (now (out .entry)) at (bytesOf 1 value) ⌝ }
@@ -108,17 +88,6 @@ pub fn put_word(out: &mut [u8], at: usize, value: u32)
     if reaches(out.len(), at, 4) {
         put_pair(out, at, value / 65536);
         put_pair(out, at + 2, value);
-    }
-}
-
-// Writes the ten bytes of a node; nothing where the buffer does not have them all.
-pub fn put_node(out: &mut [u8], at: usize, node: Node)
-    ensures { λ _. ⌜ now (out .exit) ≡ written (now (out .entry)) at (nodeBytes node) ⌝ }
-{
-    if reaches(out.len(), at, lengths::NODE) {
-        put_word(out, at, node.id);
-        put_pair(out, at + 4, node.zone as u32);
-        put_word(out, at + 6, node.capacity);
     }
 }
 

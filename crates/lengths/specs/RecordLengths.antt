@@ -8,9 +8,9 @@ use lib.ListN.{getD}
 use Rattle.cluster.specs.Terms.{mostCopies}
 use Rattle.lengths.specs.declared.Rule.{Rule}
 
--- "id 4, zone 2, capacity 4": the bytes of a node.
+-- "id 4, zone 2, capacity 4", and 2026-05: "The box field becomes 12 bytes with a last number": the bytes of a node.
 abbrev pub nodeWidth : ℕ
-nodeWidth = 10
+nodeWidth = 12
 
 -- 2026-04: "21 remove (id, 4)"
 abbrev pub removeWidth : ℕ
@@ -40,7 +40,7 @@ rules =
     ∷ rule 1 1 1
     ∷ rule 1 1 1
     ∷ rule 1 1 1
-    -- "4 box (10: id 4, zone 2, capacity 4)"
+    -- "4 box", 2026-05: "12 bytes"
     ∷ rule nodeWidth nodeWidth 1
     -- "5 former row (2 + 4m: partition 2, then m rising ids, m from 1 to 8)"
     ∷ rule (rowWidth 1) (rowWidth mostCopies) 4
@@ -61,7 +61,7 @@ rules =
     ∷ noLength
     ∷ noLength
     ∷ noLength
-    -- 2026-04: "20 add a box (10 bytes as in field 4), 21 remove (id, 4), 22 resize (id and capacity, 8)"
+    -- 2026-04: "20 add a box (.. as in field 4), 21 remove (id, 4), 22 resize (id and capacity, 8)"; 2026-05: "change 20 grows likewise"
     ∷ rule nodeWidth nodeWidth 1
     ∷ rule removeWidth removeWidth 1
     ∷ rule resizeWidth resizeWidth 1

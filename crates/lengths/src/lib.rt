@@ -3,8 +3,8 @@ ghost use mathlib.Core.Path.{_≡_};
 ghost use Prim.Native.Nat.{ℕ, _<_};
 ghost use Rattle.lengths.specs.RecordLengths.{ruleOf, legalAs};
 
-// The bytes of a node: id 4, zone 2, capacity 4.
-pub const NODE: usize = 10;
+// The bytes of a node: id 4, zone 2, capacity 4, ceiling 2.
+pub const NODE: usize = 12;
 // The bytes of a removal: id 4.
 pub const REMOVE: usize = 4;
 // The bytes of a change of capacity: id 4, capacity 4.

@@ -1,11 +1,10 @@
 -- `cluster_fields::faults::field_fault` meets its contract: the faults by the tag.
 -- Assumes nothing.
-use mathlib.Core.Path.{_≡_, sym, ap}
+use mathlib.Core.Path.{_≡_, sym}
 use lib.ListN.{length}
 use lib.Seq.{length-take-le}
 use Rattle.cells.proofs.Cells.{length-of-map}
 use Rattle.cluster.specs.Terms.{topology}
-use Rattle.cluster.specs.declared.Node.{Node}
 use Rattle.cluster_fields.proofs.FieldFaults.{bits-fault, replication-fault, redundancy-fault, node-fault}
 use borrow.Author.Needs.{needs}
 use native.Mathlib.Omega.{arith}
@@ -17,7 +16,7 @@ use Rattle.cluster_fields.proofs.faults.last_id.Reads as last-id-reads
 use Rattle.cluster_fields.proofs.faults.node_fault.Reads as node-fault-reads
 use Rattle.cluster_fields.proofs.faults.number_fault.Reads as number-fault-reads
 use Rattle.fields.proofs.byte_at.Reads as byte-at-reads
-use Rattle.fields.proofs.node_at.Reads as node-at-reads
+use Rattle.node_bytes.proofs.node_at.Reads as node-at-reads
 
 long : (c : tie.Start) → length (c .args .c .nodes) ≡ 32
 long c = search length-of-map
@@ -72,8 +71,8 @@ returns-4 c = λ next len.
     let k = c .before .before .before in
     let b = k .before .before .before .before in
     let a = b .args in
-    node-fault (topology (a .c)) next (a .bytes .now) (a .tag) (a .start) len (c .before .before .node-at .result .id) (c .before .last-id .result)
-    (a .c .count) (c .node-fault .result) (omega arith) (ap (λ (n : Node). n .id) (c .before .before .node-at .ensures)) (c .before .last-id .ensures)
+    node-fault (topology (a .c)) next (a .bytes .now) (a .tag) (a .start) len (c .before .before .node-at .result) (c .before .last-id .result)
+    (a .c .count) (c .node-fault .result) (omega arith) (c .before .before .node-at .ensures) (c .before .last-id .ensures)
     (sym (length-take-le (a .c .count) (a .c .nodes) (omega (arith, long b, b .pre .0)))) (c .node-fault .ensures)
 
 pub field-fault-spec : {M : Type 1} → statement M

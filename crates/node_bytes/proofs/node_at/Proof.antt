@@ -1,15 +1,15 @@
--- `fields::node_at` meets its contract: the three numbers, each at its byte.
+-- `node_bytes::node_at` meets its contract: the four numbers, each at its byte.
 -- Assumes nothing.
-use Prim.Native.Nat.{ℕ, _+_, _≤_}
-use mathlib.Core.Path.{sym, ap, ap₂, _∙_}
+use Prim.Native.Nat.{_+_, _≤_}
+use mathlib.Core.Path.{sym, _∙_}
 use borrow.Author.Needs.{needs}
 use native.Mathlib.Omega.{arith}
 use lib.ListN.{length}
-use Rattle.fields.specs.RecordField.{numberAt, nodeWidth}
+use Rattle.fields.specs.RecordField.{nodeWidth}
 use Rattle.fields.proofs.Numbers.{true-has, false-has}
-use Rattle.fields.proofs.Nodes.{node-there, node-none}
-use Rattle.fields.proofs.node_at.Statement.{statement}
-use Rattle.fields.proofs.node_at.Tie as tie
+use Rattle.node_bytes.proofs.Nodes.{node-cong, node-there, node-none}
+use Rattle.node_bytes.proofs.node_at.Statement.{statement}
+use Rattle.node_bytes.proofs.node_at.Tie as tie
 
 there : (c : tie.Then1) → c .before .before .before .args .at + nodeWidth ≤ length (c .before .before .before .args .s .now)
 there c =
@@ -37,13 +37,21 @@ add-word-at c = omega (arith, there (c .before .before))
 word-at-requires-2 : tie.Need-word-at-requires-2
 word-at-requires-2 c κs = search needs
 
+add-pair-at-2 : tie.Need-add-pair-at-2
+add-pair-at-2 c = omega (arith, there (c .before .before .before))
+
+pair-at-requires-2 : tie.Need-pair-at-requires-2
+pair-at-requires-2 c κs = search needs
+
+cast-t14 : tie.Need-cast-t14
+cast-t14 c = search needs
+
 returns : tie.Need-returns
 returns c =
-    let k = c .before .before .before in
+    let k = c .before .before .before .before in
     let a = k .before .before .before .args in
-    ap₂ (λ (x y : ℕ). record { id = x; zone = y; capacity = c .word-at2 .result }) (c .before .before .word-at .ensures .0) (c .before .pair-at .ensures .0)
-    ∙ (ap (λ (x : ℕ). record { id = numberAt (a .s .now) (a .at) 4; zone = numberAt (a .s .now) (a .at + 4) 2; capacity = x }) (c .word-at2 .ensures .0)
-    ∙ sym (node-there (a .s .now) (a .at) (there k)))
+    node-cong _ _ _ _ _ _ _ _ (c .before .before .before .word-at .ensures .0) (c .before .before .pair-at .ensures .0) (c .before .word-at2 .ensures .0) (c .pair-at2 .ensures .0)
+    ∙ sym (node-there (a .s .now) (a .at) (there k))
 
 returns-2 : tie.Need-returns-2
 returns-2 c =
@@ -61,5 +69,8 @@ node-at-spec =
     cast-t9
     add-word-at
     word-at-requires-2
+    add-pair-at-2
+    pair-at-requires-2
+    cast-t14
     returns
     returns-2)

@@ -1,4 +1,4 @@
--- `fields::put_node` meets its contract: the three numbers are written one after the other.
+-- `node_bytes::put_node` meets its contract: the four numbers are written one after the other.
 -- Assumes nothing.
 use Prim.Native.Nat.{ℕ, _+_, _≤_}
 use mathlib.Core.Path.{_≡_, refl, sym, ap, _∙_}
@@ -6,12 +6,12 @@ use mathlib.Core.List.{List, _++_, append-assoc}
 use borrow.Author.Needs.{needs}
 use native.Mathlib.Omega.{arith}
 use lib.ListN.{length}
 use Rattle.fields.specs.RecordField.{bytesOf, nodeWidth, nodeBytes, written}
 use Rattle.fields.proofs.Numbers.{length-bytes, true-has, false-has}
-use Rattle.fields.proofs.Nodes.{length-node, put-numbers}
+use Rattle.node_bytes.proofs.Nodes.{length-node, put-numbers}
 use Rattle.fields.proofs.Written.{written-not}
-use Rattle.fields.proofs.put_node.Statement.{statement}
-use Rattle.fields.proofs.put_node.Tie as tie
+use Rattle.node_bytes.proofs.put_node.Statement.{statement}
+use Rattle.node_bytes.proofs.put_node.Tie as tie
 
 there : (c : tie.Then1) → c .before .before .before .args .at + nodeWidth ≤ length (c .before .before .before .args .out .now)
 there c =
@@ -39,17 +39,27 @@ add-put-word c = omega (arith, there (c .before .before .before .before .before 
 put-word-requires-2 : tie.Need-put-word-requires-2
 put-word-requires-2 c κs = search needs
 
+add-put-pair-2 : tie.Need-add-put-pair-2
+add-put-pair-2 c = omega (arith, there (c .before .before .before .before .before .before .before .before .before .before .before .before .before .before))
+
+cast-put-pair-2 : tie.Need-cast-put-pair-2
+cast-put-pair-2 c = search needs
+
+put-pair-requires-2 : tie.Need-put-pair-requires-2
+put-pair-requires-2 c κs = search needs
+
 same-length : tie.Need-same-length
 same-length c = search needs
 
 returns : tie.Need-returns
 returns c =
     let last = c .before .before in
-    let mid = last .before .before .before .before in
+    let third = last .before .before .before .before .before in
+    let mid = third .before .before .before .before in
     let first = mid .before .before .before .before .before in
     let a = first .before .before .before .before .before .args in
-    last .put-word2 .ensures
-    ∙ put-numbers (a .out .now) _ _ (a .node) (a .at) (first .put-word .ensures) (mid .put-pair .ensures) (there (first .before .before))
+    last .put-pair2 .ensures
+    ∙ put-numbers (a .out .now) _ _ _ (a .node) (a .at) (first .put-word .ensures) (mid .put-pair .ensures) (third .put-word2 .ensures) (there (first .before .before))
 
 returns-2 : tie.Need-returns-2
 returns-2 c =
@@ -67,6 +77,9 @@ put-node-spec =
     put-pair-requires
     add-put-word
     put-word-requires-2
+    add-put-pair-2
+    cast-put-pair-2
+    put-pair-requires-2
     same-length
     returns
     returns-2)

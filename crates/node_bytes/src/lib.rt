@@ -1,0 +1,32 @@
+// The bytes of a node: read from a record, and put into one.
+ghost use mathlib.Core.Path.{_≡_};
+ghost use Rattle.fields.specs.RecordField.{written, nodeBytes, nodeAtByte};
+use cluster::Node;
+
+// The node in its bytes; all its numbers are 0 where the record does not have them all.
+pub fn node_at(s: &[u8], at: usize) -> Node
+    ensures { λ r. ⌜ r ≡ nodeAtByte (now (s .entry)) at ⌝ }
+{
+    if fields::reaches(s.len(), at, lengths::NODE) {
+        Node {
+            id: fields::word_at(s, at),
+            zone: fields::pair_at(s, at + 4) as u16,
+            capacity: fields::word_at(s, at + 6),
+            ceiling: fields::pair_at(s, at + 10) as u16,
+        }
+    } else {
+        Node::NONE
+    }
+}
+
+// Writes the bytes of a node; nothing where the buffer does not have them all.
+pub fn put_node(out: &mut [u8], at: usize, node: Node)
+    ensures { λ _. ⌜ now (out .exit) ≡ written (now (out .entry)) at (nodeBytes node) ⌝ }
+{
+    if fields::reaches(out.len(), at, lengths::NODE) {
+        fields::put_word(out, at, node.id);
+        fields::put_pair(out, at + 4, node.zone as u32);
+        fields::put_word(out, at + 6, node.capacity);
+        fields::put_pair(out, at + 10, node.ceiling as u32);
+    }
+}
