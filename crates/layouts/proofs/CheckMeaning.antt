@@ -66,6 +66,8 @@ module _ (c : Cluster) (cells : List ℕ) (size : ℕ) where
       let w = all-pass c cells size e in
       let s = sound c size (w .1) in
       let rows : (p : ℕ) → p < bufferRows → rowFault t cells p ≡ 0 = each-row t cells (w .2) in
+      let nodes : (b : ℕ) → b < length (t .nodes) → nodeFault t L size b ≡ 0 = λ b l.
+      unfold nodesFault in none-found (length (t .nodes)) 0 (λ x. fault (nodeFault t L size x) (nodeAt t x .id)) (w .3) b (omega arith) (omega arith) in
       let few = few-partitions (t .bits) (accepted c (s .0) .bits) in
       let own : (p : ℕ) → p < partitions t → (formed (rowAt cells p) ≡ true) × ValidRow t (idsIn (rowAt cells p)) = λ p l. own-row t cells p l (rows p (omega arith)) in
       let holds : HoldsRows (partitions t) cells = record {
@@ -82,8 +84,8 @@ module _ (c : Cluster) (cells : List ℕ) (size : ℕ) where
           positive = s .1;
           partition-rows = length-rowsIn (partitions t) cells;
           rows = λ p l. subst (ValidRow t) (sym (row-rowsIn (partitions t) cells p l)) (own p l .1);
-          capacities = λ b l. node-held t L size b
-              (unfold nodesFault in none-found (length (t .nodes)) 0 (λ x. fault (nodeFault t L size x) (nodeAt t x .id)) (w .3) b (omega arith) (omega arith));
+          capacities = λ b l. node-held t L size b (nodes b l) .0;
+          ceilings = λ b l. node-held t L size b (nodes b l) .1;
         };
         written = sym (cellsOf-rowsIn (partitions t) cells holds);
       }
@@ -100,7 +102,7 @@ module _ (c : Cluster) (cells : List ℕ) (size : ℕ) where
       (λ o. row-other t cells p o (k .zeros p o l)) (lt-or-ge p (partitions t)) in
       order-nodes c cells size (h .whole) (no-cluster-fault c size (h .accepted-cluster) (v .positive))
       (ap (λ (r : Checked). r .refusal) (find-none bufferRows 0 (λ q. fault (rowFault t cells q) q) (λ p l m. row-none p (omega arith))))
-      ∙ find-none (length (t .nodes)) 0 (λ x. fault (nodeFault t L size x) (nodeAt t x .id)) (λ b l m. held-node t L size b (v .capacities b (omega arith)))
+      ∙ find-none (length (t .nodes)) 0 (λ x. fault (nodeFault t L size x) (nodeAt t x .id)) (λ b l m. held-node t L size b (v .capacities b (omega arith)) (v .ceilings b (omega arith)))
 
   -- Check answers 0 exactly where the cells are a layout valid at the size.
   pub check-valid : (checkOf c cells size .refusal ≡ 0 → Passes c cells size) × (Passes c cells size → checkOf c cells size .refusal ≡ 0)

@@ -79,8 +79,9 @@ pub row-other : (t : Topology) (cells : List ℕ) (p : ℕ) → partitions t ≤
 unfolding rowFault
 row-other t cells p h f = simp (le-ltb p (partitions t) h, f)
 
--- A node without fault holds no more than its usable capacity takes,
-pub node-held : (t : Topology) (L : Layout) (size b : ℕ) → nodeFault t L size b ≡ 0 → copiesIn L (nodeAt t b .id) * size ≤ usable (nodeAt t b)
+-- A node without fault holds no more than its usable capacity takes and its ceiling allows,
+pub node-held : (t : Topology) (L : Layout) (size b : ℕ) → nodeFault t L size b ≡ 0
+    → (copiesIn L (nodeAt t b .id) * size ≤ usable (nodeAt t b)) × (copiesIn L (nodeAt t b .id) ≤ nodeAt t b .ceiling)
 unfolding nodeFault
 node-held t L size b e = takes-held (nodeAt t b) (copiesIn L (nodeAt t b .id)) size .0 (go (takes (nodeAt t b) (copiesIn L (nodeAt t b .id)) size) e)
   where
@@ -89,9 +90,10 @@ node-held t L size b e = takes-held (nodeAt t b) (copiesIn L (nodeAt t b .id)) s
     go false h = absurd (omega arith)
 
 -- and the other way round.
-pub held-node : (t : Topology) (L : Layout) (size b : ℕ) → copiesIn L (nodeAt t b .id) * size ≤ usable (nodeAt t b) → nodeFault t L size b ≡ 0
+pub held-node : (t : Topology) (L : Layout) (size b : ℕ)
+    → copiesIn L (nodeAt t b .id) * size ≤ usable (nodeAt t b) → copiesIn L (nodeAt t b .id) ≤ nodeAt t b .ceiling → nodeFault t L size b ≡ 0
 unfolding nodeFault
-held-node t L size b h = simp (takes-held (nodeAt t b) (copiesIn L (nodeAt t b .id)) size .1 h)
+held-node t L size b h k = simp (takes-held (nodeAt t b) (copiesIn L (nodeAt t b .id)) size .1 (h, k))
 
 -- Where no row has a fault, each row has none,
 pub each-row : (t : Topology) (cells : List ℕ) → rowsFault t cells .refusal ≡ 0 → (p : ℕ) → p < bufferRows → rowFault t cells p ≡ 0

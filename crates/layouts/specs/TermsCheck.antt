@@ -38,7 +38,7 @@ rowFault t cells p =
     (cond (rightIds t (rowAt cells p)) (cond (ltb (zonesOf (t .nodes) (idsIn (rowAt cells p))) (t .redundancy)) 11 0) 10)
     (cond (blank (rowAt cells p)) 0 10)
 
--- "12: copies times size above capacity", by 2026-02 above the usable capacity
+-- "12: copies times size above capacity", by 2026-02 above the usable capacity; 2026-05: "check answers 12 for a ceiling passed"
 unfoldable pub nodeFault : Topology → Layout → ℕ → ℕ → ℕ
 nodeFault t L size b = cond (takes (nodeAt t b) (copiesIn L (nodeAt t b .id)) size) 0 12
 

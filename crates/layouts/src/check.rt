@@ -51,7 +51,7 @@ fn rows_fault(c: Cluster, cells: &[u32]) -> Checked
     }
 }
 
-// The first node with more copies than its usable capacity takes.
+// The first node with more copies than its usable capacity takes or its ceiling allows.
 fn nodes_fault(c: Cluster, cells: &[u32], size: u32) -> Checked
     requires { ⌜ (faultOf c ≡ 0) × (layoutCells ≤ length (now cells)) × (rowsFault (topology c) (now cells) .refusal ≡ 0) ⌝ }
     ensures { λ r. ⌜ r ≡ nodesFault (topology c) (rowsIn (partitions (topology c)) (now (cells .entry))) size ⌝ }

@@ -1,15 +1,29 @@
-// Runs check, figures and showing a row on example M and on the order of faults, and prints a line for each.
+// Runs check, figures and showing a row on example M, on the order of faults, on capacities and on ceilings, and prints a line for each.
 use cluster::Cluster;
 use cluster::Node;
 use layouts::check;
 
 mod print;
 
-// The cluster with node b in its slot.
+// The cluster with node b in its slot, of the highest ceiling.
 fn with_node(c: Cluster, b: usize, id: u32, zone: u16, capacity: u32) -> Cluster {
     let mut next = c;
     if b < Cluster::NODES {
-        next.nodes[b] = Node { id, zone, capacity };
+        next.nodes[b] = Node {
+            id,
+            zone,
+            capacity,
+            ceiling: 256,
+        };
+    }
+    next
+}
+
+// The cluster with another ceiling in slot b.
+fn with_ceiling(c: Cluster, b: usize, ceiling: u16) -> Cluster {
+    let mut next = c;
+    if b < Cluster::NODES {
+        next.nodes[b].ceiling = ceiling;
     }
     next
 }
@@ -147,6 +161,45 @@ fn products() {
     check_twice(b"twice 2147483648", two, 7, 2147483648);
 }
 
+// Two copies on a node of capacity 100 with a ceiling: above it, where the disk takes them, and at it, up to the brim.
+fn ceilings() {
+    let mut c = Cluster::none();
+    c.count = 1;
+    c.bits = 1;
+    let node = with_node(c, 0, 7, 65535, 100);
+    check_twice(b"ceiling 0, twice 1", with_ceiling(node, 0, 0), 7, 1);
+    check_twice(b"ceiling 1, twice 1", with_ceiling(node, 0, 1), 7, 1);
+    check_twice(b"ceiling 2, twice 47", with_ceiling(node, 0, 2), 7, 47);
+    check_twice(b"ceiling 2, twice 48", with_ceiling(node, 0, 2), 7, 48);
+}
+
+// Rows come before ceilings, and the first node with a ceiling or a capacity passed decides. A ceiling of a node that holds nothing is kept.
+fn ceilings_in_order() {
+    let k = with_ceiling(example_k(), 1, 0);
+    check_row(b"ceiling of node 2, capacity of node 4", k, 1, 2, 4, 2);
+    let small = with_node(k, 0, 1, 1, 1);
+    check_row(b"capacity of node 1, ceiling of node 2", small, 1, 2, 4, 2);
+    check_row(b"ceiling 0 of node 2, row 1 3 4", k, 1, 3, 4, 1);
+    let mut two = k;
+    two.bits = 1;
+    check_rows(b"10 in row 1, ceiling of node 2", two, 1, 2, 4, 8, 1);
+}
+
+// Ceilings out of range: of nodes in use, before ids that fall and rows; and in a slot not in use.
+fn ceilings_in_range() {
+    let k = example_k();
+    check_row(b"ceiling 256", k, 1, 2, 4, 1);
+    let high = with_ceiling(k, 3, 257);
+    check_row(b"ceiling 257", high, 1, 2, 4, 1);
+    check_row(b"ceiling 257, row 1 1 4", high, 1, 1, 4, 1);
+    let falling = with_node(high, 1, 1, 1, 9);
+    check_row(b"ceiling 257, ids of nodes fall", falling, 1, 2, 4, 1);
+    let highest = with_ceiling(k, 0, 65535);
+    check_row(b"ceiling 65535", highest, 1, 2, 4, 1);
+    let unused = with_ceiling(k, 4, 65535);
+    check_row(b"ceiling 65535 of no node", unused, 1, 2, 4, 1);
+}
+
 // Check of one id in row 0 and in row 1.
 fn check_twice(name: &[u8], c: Cluster, a: u32, size: u32) {
     let mut cells = [0u32; Cluster::CELLS];
@@ -179,8 +232,8 @@ fn figure(name: &[u8], c: Cluster, a: u32, b: u32, d: u32, again: usize, size: u
     some_figures(&cells);
 }
 
-// Example A, at its size, above it, and at the size that its whole disks would take: bits 1, replication 3, redundancy 2, nodes 1/1/100 2/1/70 3/2/50.
-fn example_a() {
+// Example A: bits 1, replication 3, redundancy 2, nodes 1/1/100 2/1/70 3/2/50.
+fn example_a() -> Cluster {
     let mut c = Cluster::none();
     c.bits = 1;
     c.replication = 3;
@@ -188,7 +241,12 @@ fn example_a() {
     c.count = 3;
     let c1 = with_node(c, 0, 1, 1, 100);
     let c2 = with_node(c1, 1, 2, 1, 70);
-    let a = with_node(c2, 2, 3, 2, 50);
+    with_node(c2, 2, 3, 2, 50)
+}
+
+// Figures of example A at its size, above it, and at the size that its whole disks would take.
+fn figures_of_a() {
+    let a = example_a();
     figure(b"A at 23", a, 1, 2, 3, 8, 23);
     figure(b"A at 24", a, 1, 2, 3, 8, 24);
     figure(b"A at 25", a, 1, 2, 3, 8, 25);
@@ -198,6 +256,16 @@ fn example_a() {
     many.count = 33;
     let r = figures::figures(many, &assignment, 1, &mut cells);
     print::answer(b"short figures, count 33", r.refusal, r.place);
+}
+
+// Figures refuse ceilings as check does, and the size to hope for does not know them: example K with a node that may hold nothing.
+fn figures_of_ceilings() {
+    let low = with_ceiling(example_a(), 2, 1);
+    figure(b"A at 23, ceiling 1 of node 3", low, 1, 2, 3, 8, 23);
+    let high = with_ceiling(example_a(), 2, 257);
+    figure(b"A at 23, ceiling 257 of node 3", high, 1, 2, 3, 8, 23);
+    let k = with_ceiling(example_k(), 2, 0);
+    figure(b"K at 1, ceiling 0 of node 3", k, 1, 2, 4, 0, 1);
 }
 
 // Figures of 32 nodes of one capacity.
@@ -210,6 +278,7 @@ fn alike(name: &[u8], capacity: u32) {
             id: b as u32 + 1,
             zone: b as u16,
             capacity,
+            ceiling: 256,
         };
         b += 1;
     }
@@ -244,7 +313,11 @@ fn main() {
     before_rows();
     capacities();
     products();
-    example_a();
+    ceilings();
+    ceilings_in_order();
+    ceilings_in_range();
+    figures_of_a();
+    figures_of_ceilings();
     alike(b"32 nodes of 15", 15);
     alike(b"32 nodes of 4294967295", 4294967295);
     shown();

@@ -44,7 +44,8 @@ pub fn caps(c: Cluster, size: u32) -> [u32; Cluster::NODES]
     while b < n {
         let node = c.nodes[b];
         let usable = node.usable();
-        caps[b] = nodes::cap(usable, most, size);
+        let highest = totals::least(most, node.ceiling as u32);
+        caps[b] = nodes::cap(usable, highest, size);
         b += 1;
     }
     caps

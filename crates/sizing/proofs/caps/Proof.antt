@@ -43,6 +43,12 @@ element-copy-out-node c = search needs
 usable-requires : tie.Need-usable-requires Inv-loop μ-loop
 usable-requires c κs = search needs
 
+cast-least : tie.Need-cast-least Inv-loop μ-loop
+cast-least c = search needs
+
+least-requires : tie.Need-least-requires Inv-loop μ-loop
+least-requires c κs = search needs
+
 cap-requires : tie.Need-cap-requires Inv-loop μ-loop
 cap-requires c κs = search needs
 
@@ -61,7 +67,8 @@ loop-less c = search needs
 loop-again : tie.Need-loop-again Inv-loop μ-loop
 unfolding capAt
 loop-again c =
-    let k = c .before .before .before .before in
+    let u = c .before .before .before in
+    let k = u .before .before .before in
     let q = k .before in
     let a = q .before .before .args in
     let e = node-slot (a .t1) (k .loop .b) (omega arith) in (
@@ -69,8 +76,11 @@ loop-again c =
       search needs,
       search needs,
       column-next (capAt (cutBits (topology (a .t1))) (a .size)) (k .loop .caps) (k .loop .b) _ (k .loop .inv .3)
-          (c .cap .ensures ∙ ap₂ (λ (m n : ℕ). min m (n / a .size)) (q .partitions .ensures .0) (c .before .usable .ensures .0 ∙ ap usable (sym e))),
-      below-more _ _ (k .loop .inv .4) (omega (arith, c .before .usable .ensures .1, ap (λ (n : Node). n .capacity) e)),
+          (c .cap .ensures
+          ∙ ap₂ (λ (m n : ℕ). min m (n / a .size))
+          (c .before .least .ensures ∙ ap₂ min (q .partitions .ensures .0) (ap (λ (n : Node). n .ceiling) (sym e)))
+          (u .usable .ensures .0 ∙ ap usable (sym e))),
+      below-more _ _ (k .loop .inv .4) (omega (arith, u .usable .ensures .1, ap (λ (n : Node). n .capacity) e)),
     )
 
 returns : tie.Need-returns Inv-loop μ-loop
@@ -93,6 +103,8 @@ caps-spec =
     mul-node
     element-copy-out-node
     usable-requires
+    cast-least
+    least-requires
     cap-requires
     mul-caps
     array-write-caps
