@@ -17,7 +17,7 @@ use Rattle.fields.specs.declared.Field.the-variants.{Body}
 use Rattle.fields.proofs.Numbers.{length-bytes, length-part, part-append, bytes-byte, bytes-join, bytes-there, number-at-lt, number-here, after-number}
 use Rattle.fields.proofs.Written.{written-fits}
 use Rattle.fields.proofs.Puts.{put-next, put-body}
-use Rattle.fields.proofs.Nodes.{length-node, node-here, node-bytes, fits-node}
+use Rattle.node_bytes.proofs.Nodes.{length-node, bytes-node, node-here, node-bytes, fits-node}
 use Rattle.fields.proofs.RecordField.{one-tag, whole, field-back, length-field, field-bytes, body-here, field-here}
 use Rattle.change_fields.specs.RecordChange.{changeField, changeRecord, changeTags, changeIn, FitsChange, longestChange, reverseBytes}
 use Rattle.change_fields.specs.declared.Change.{Change}
@@ -95,10 +95,7 @@ pub change-pos : (x : Change) → 7 ≤ length (changeField x)
 change-pos x = omega (arith, length-is x, width-ge x)
 
 body-bytes : (x : Change) → Bytes (bodyOf x)
-unfolding nodeBytes
-body-bytes (Add n) =
-    bytes-join (bytesOf 4 (n .id)) (bytesOf 2 (n .zone) ++ bytesOf 4 (n .capacity)) (bytes-byte 4 (n .id))
-    (bytes-join (bytesOf 2 (n .zone)) (bytesOf 4 (n .capacity)) (bytes-byte 2 (n .zone)) (bytes-byte 4 (n .capacity)))
+body-bytes (Add n) = bytes-node n
 body-bytes (Remove i) = bytes-byte 4 i
 body-bytes (Resize i k) = bytes-join (bytesOf 4 i) (bytesOf 4 k) (bytes-byte 4 i) (bytes-byte 4 k)
 

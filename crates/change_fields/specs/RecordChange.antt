@@ -1,4 +1,4 @@
--- What a change of the boxes is, and what a change record is, as bytes: document 02, request 2026-04. "Box" in the papers is a node here.
+-- What a change of the boxes is, and what a change record is, as bytes: document 02, requests 2026-04 and 2026-05. "Box" in the papers is a node here.
 -- Assumes nothing.
 use Prim.Native.Nat.{ℕ, _+_, _-_, _^_, _<_}
 use mathlib.Core.Bool.{cond}
@@ -17,7 +17,7 @@ idOf (Add n) = n .id
 idOf (Remove i) = i
 idOf (Resize i k) = i
 
--- "20 add a box (10 bytes as in field 4), 21 remove (id, 4), 22 resize (id and capacity, 8)": the bytes of a change's field.
+-- "20 add a box (.. as in field 4), 21 remove (id, 4), 22 resize (id and capacity, 8)": the bytes of a change's field.
 unfoldable pub changeField : Change → List ℕ
 changeField (Add n) = field 20 (nodeBytes n)
 changeField (Remove i) = field 21 (bytesOf 4 i)

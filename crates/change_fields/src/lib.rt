@@ -55,7 +55,7 @@ pub fn change_in(s: &[u8], tag: u8, start: usize) -> Change
 {
     if tag as u32 == ADD {
         return Change::Add {
-            node: fields::node_at(s, start),
+            node: node_bytes::node_at(s, start),
         };
     }
     let id = fields::word_at(s, start);
@@ -86,7 +86,7 @@ fn put_change(x: Change, out: &mut [u8]) -> usize
     match x {
         Change::Add { node } => {
             fields::put_head(out, 0, ADD, lengths::NODE);
-            fields::put_node(out, 3, node);
+            node_bytes::put_node(out, 3, node);
             3 + lengths::NODE
         }
         Change::Remove { id } => {

@@ -12,7 +12,8 @@ use Rattle.fields.specs.declared.Field.{Field}
 use Rattle.fields.specs.declared.Field.the-variants.{Body, Refused}
 use Rattle.change_fields.specs.RecordChange.{changeTags, changeIn}
 use Rattle.change_fields.specs.declared.Change.{Change}
-use Rattle.changes.specs.TermsChanges.{changeFault, changeRefused, changeMade, changeRead, changeAt, changeOf}
+use Rattle.making.specs.TermsMaking.{changeFault}
+use Rattle.changes.specs.TermsChanges.{changeRefused, changeMade, changeRead, changeAt, changeOf}
 use Rattle.changes.specs.declared.Made.{Made}
 
 -- A property of both arms is one of the test.

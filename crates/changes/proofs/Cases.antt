@@ -1,58 +1,24 @@
--- The fault of a change by whether its id is there, and the answers of a call case by case: what the code tests is what the definitions say.
+-- The answers of a call case by case: what the code tests is what the definitions say.
 -- Assumes nothing.
 use Prim.Native.Nat.{ℕ, _+_, _≤_, _<_}
-use mathlib.Core.Path.{_≡_, refl, sym, ap, _∙_}
+use mathlib.Core.Path.{_≡_, refl, sym, ap}
 use mathlib.Core.Bool.{Bool, cond}
 use mathlib.Core.List.{List, [], _∷_}
 use mathlib.Core.Logic.{⊎-elim}
 use native.Mathlib.Omega.{arith}
-use lib.Dec.{ltb, leb, eqb}
 use lib.ListN.{length}
 use borrow.Author.Tests.{eq-eqb, ne-eqb, le-leb, lt-leb}
-use Rattle.cluster.specs.Terms.{mostNodes, topology, idsOf, mem, faultOf}
+use Rattle.cluster.specs.Terms.{topology, faultOf}
 use Rattle.cluster.specs.declared.Cluster.{Cluster}
-use Rattle.cluster.specs.declared.Node.{Node}
 use Rattle.cluster.proofs.Lists.{mem-cases}
 use Rattle.fields.specs.RecordField.{fieldAt, ruleOf, Whole}
 use Rattle.fields.proofs.RecordField.{one-tag}
 use Rattle.fields.specs.declared.Field.{Field}
 use Rattle.fields.specs.declared.Field.the-variants.{Body, Refused}
-use Rattle.splices.specs.TermsReplaced.{nodesWith}
-use Rattle.splices.proofs.Places.{with-mem}
-use Rattle.change_fields.specs.RecordChange.{idOf, changeTags, changeIn}
+use Rattle.change_fields.specs.RecordChange.{changeTags, changeIn}
 use Rattle.change_fields.specs.declared.Change.{Change}
-use Rattle.change_fields.specs.declared.Change.the-variants.{Add, Remove, Resize}
-use Rattle.changes.specs.TermsChanges.{faultAmong, changeFault, changeRefused, changeMade, changeRead, changeAt, changeOf}
-use Rattle.changes.specs.declared.Made.{Made}
-
--- ---- the fault of a change
-
--- The fault of a change whose id is not 0, by whether the id is there and by the number of nodes.
-abbrev pub verdict : Change → Bool → ℕ → ℕ
-verdict (Add n) is k = cond is 13 (cond (leb mostNodes k) 6 0)
-verdict (Remove i) is k = cond is 0 14
-verdict (Resize i c) is k = cond is 0 14
-
-among : (l : List Node) (x : Change) → faultAmong l x ≡ verdict x (mem (idOf x) (idsOf l)) (length l)
-unfolding faultAmong idOf
-among l (Add n) = refl
-among l (Remove i) = refl
-among l (Resize i k) = refl
-
-pub fault-zero : (l : List Node) (x : Change) (id : ℕ) → id ≡ idOf x → id ≡ 0 → 4 ≡ changeFault l x
-unfolding changeFault
-fault-zero l x id e z = sym (ap (λ (t : Bool). cond t 4 (faultAmong l x)) (eq-eqb (idOf x) 0 (sym e ∙ z)))
-
-pub fault-is : (l : List Node) (x : Change) (id w : ℕ) → id ≡ idOf x → (id ≡ 0 → ⊥) → w ≡ length (nodesWith id l)
-    → changeFault l x ≡ verdict x (ltb 0 w) (length l)
-unfolding changeFault
-fault-is l x id w e z f =
-    ap (λ (t : Bool). cond t 4 (faultAmong l x)) (ne-eqb (idOf x) 0 (λ q. z (e ∙ q)))
-    ∙ (among l x
-    ∙ ap (λ (t : Bool). verdict x t (length l))
-    (with-mem (idOf x) l ∙ ap (λ (k : ℕ). ltb 0 k) (sym (f ∙ ap (λ (i : ℕ). length (nodesWith i l)) e))))
-
--- ---- the cases of a call
+use Rattle.making.specs.TermsMaking.{changeFault}
+use Rattle.changes.specs.TermsChanges.{changeRefused, changeMade, changeRead, changeAt, changeOf}
 
 module _ (c : Cluster) (x : Change) (at next : ℕ) where
   pub read-refused : (changeFault (topology c .nodes) x ≡ 0 → ⊥) → changeRefused c (changeFault (topology c .nodes) x) at ≡ changeRead c x at next

@@ -23,9 +23,10 @@ use Rattle.change_fields.specs.RecordChange.{changeField, changeTags, changeIn,
 use Rattle.change_fields.specs.declared.Change.{Change}
 use Rattle.change_fields.proofs.Changes.{length-change, change-pos, reverse-given, change-here, change-back}
 use Rattle.changes.specs.declared.Made.{Made}
-use Rattle.changes.specs.TermsChanges.{changedNodes, reverseOf, changeFault, changeRefused, changeMade, changeRead, changeAt, changeOf}
+use Rattle.making.specs.TermsMaking.{changedNodes, reverseOf, changeFault}
+use Rattle.making.proofs.Changing.{changed-rising, changed-few, changed-ceilings, reverse-made, changed-fit, reverse-fit}
+use Rattle.changes.specs.TermsChanges.{changeRefused, changeMade, changeRead, changeAt, changeOf}
 use Rattle.changes.specs.TermsUndo.{Accepts, clusterAfter, byteAfter, reverseGiven, FitsNodes, Sound, Undone, Owed}
-use Rattle.changes.proofs.Changing.{changed-rising, changed-few, reverse-made, changed-fit, reverse-fit}
 
 -- ---- the call, case by case
 
@@ -98,7 +99,14 @@ left-sound c x sound good =
     let a = accepted c sound in
     let few = changed-few (t .nodes) x (a .ids) good (a .few) in
     let kept : Accepted (left c x) =
-    record { bits = a .bits; replication = a .replication; redundancy = a .redundancy; few = few; ids = changed-rising (t .nodes) x (a .ids) good } in
+    record {
+      bits = a .bits;
+      replication = a .replication;
+      redundancy = a .redundancy;
+      few = few;
+      ids = changed-rising (t .nodes) x (a .ids) good;
+      ceilings = changed-ceilings (t .nodes) x good (a .ceilings);
+    } in
     record {
       sound = no-fault (slotsOf (left c x)) few (subst Accepted (sym (topology-slots (left c x))) kept);
       slots = ap slotsOf (sym (topology-slots (left c x)));
@@ -152,7 +160,7 @@ undo-taken c x u rest b sound good fit e =
     let d = slotsOf (left c x) in
     let y = reverseOf l x in
     let a = accepted c sound in
-    let r = reverse-made l x (a .few) (a .ids) good in
+    let r = reverse-made l x (a .few) (a .ids) (a .ceilings) good in
     let f = change-here u rest y b e fit in
     let read : changeIn u (f .0) (b + headWidth) ≡ y = f .1 .1 .1 .0 in
     let same : topology d ≡ left c x = topology-slots (left c x) in

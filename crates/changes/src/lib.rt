@@ -9,8 +9,6 @@ use cluster::Cluster;
 use cluster::refusal;
 use fields::Field;
 
-mod making;
-
 // What a call answers: the refusal, 0 for none, the byte after the change or, where it is refused, the given one, and the reverse.
 pub struct Outcome {
     pub refusal: u32,

@@ -7,34 +7,49 @@ use cluster::Node;
 mod print;
 
 // The cluster with node b in its slot.
-fn with_node(c: Cluster, b: usize, id: u32, zone: u16, capacity: u32) -> Cluster {
+fn with_node(c: Cluster, b: usize, id: u32, zone: u16, capacity: u32, ceiling: u16) -> Cluster {
     let mut next = c;
     if b < Cluster::NODES {
-        next.nodes[b] = Node { id, zone, capacity };
+        next.nodes[b] = Node {
+            id,
+            zone,
+            capacity,
+            ceiling,
+        };
     }
     next
 }
 
-// Nodes 1/1/100 2/1/70 5/2/50, and junk in the first slot that is not in use and in the last.
+// Nodes 1/1/100/256 2/1/70/7 5/2/50/0, and junk in the first slot that is not in use and, a ceiling alone, in the last.
 fn three() -> Cluster {
     let mut c = Cluster::none();
     c.bits = 1;
     c.replication = 3;
     c.redundancy = 2;
     c.count = 3;
-    let c1 = with_node(c, 0, 1, 1, 100);
-    let c2 = with_node(c1, 1, 2, 1, 70);
-    let c3 = with_node(c2, 2, 5, 2, 50);
-    let c4 = with_node(c3, 3, 9, 9, 9);
-    with_node(c4, 31, 7, 7, 7)
+    let c1 = with_node(c, 0, 1, 1, 100, 256);
+    let c2 = with_node(c1, 1, 2, 1, 70, 7);
+    let c3 = with_node(c2, 2, 5, 2, 50, 0);
+    let c4 = with_node(c3, 3, 9, 9, 9, 257);
+    with_node(c4, 31, 0, 0, 0, 65535)
 }
 
-// The same with ids that do not rise.
+// The same with a ceiling above 256.
+fn high() -> Cluster {
+    with_node(three(), 2, 5, 2, 50, 257)
+}
+
+// The first with ids that do not rise.
 fn falling() -> Cluster {
-    with_node(three(), 2, 2, 2, 50)
+    with_node(three(), 2, 2, 2, 50, 0)
 }
 
-// The same with a redundancy above the replication.
+// The same with a ceiling above 256.
+fn high_falling() -> Cluster {
+    with_node(falling(), 0, 1, 1, 100, 65535)
+}
+
+// The ids that do not rise, with a redundancy above the replication.
 fn wide() -> Cluster {
     let mut c = falling();
     c.redundancy = 4;
@@ -48,7 +63,7 @@ fn many() -> Cluster {
     c
 }
 
-// As many nodes as a cluster has at most: ids 2, 4 and on to 64.
+// As many nodes as a cluster has at most: ids 2, 4 and on to 64, ceilings 0, 1 and on to 31.
 fn full() -> Cluster {
     let mut c = Cluster::none();
     c.count = Cluster::NODES;
@@ -58,6 +73,7 @@ fn full() -> Cluster {
             id: 2 * b as u32 + 2,
             zone: 0,
             capacity: 1,
+            ceiling: b as u16,
         };
         b += 1;
     }
@@ -68,7 +84,9 @@ fn full() -> Cluster {
 fn cluster_of(letter: u8, last: Cluster) -> Cluster {
     match letter {
         b'T' => three(),
+        b'H' => high(),
         b'F' => falling(),
+        b'G' => high_falling(),
         b'W' => wide(),
         b'M' => many(),
         b'U' => full(),

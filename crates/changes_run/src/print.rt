@@ -38,7 +38,10 @@ pub fn nodes(c: Cluster) {
             after(b" ", node.id as u64);
             after(b"/", node.zone as u64);
             after(b"/", node.capacity as u64);
-        } else if node.id as u64 + node.zone as u64 + node.capacity as u64 != 0 {
+            after(b"/", node.ceiling as u64);
+        } else if node.id as u64 + node.zone as u64 + node.capacity as u64 + node.ceiling as u64
+            != 0
+        {
             left = true;
         }
         b += 1;

@@ -29,6 +29,6 @@ nodeWith i (n ∷ ns) = cond (eqb (n .id) i) n (nodeWith i ns)
 unfoldable pub replaced : ℕ → List Node → List Node → List Node
 replaced i new l = nodesBelow i l ++ (new ++ nodesAbove i l)
 
--- A cluster with other nodes; "k, R and Z" are kept.
+-- A cluster with other nodes; its k, R and Z are kept.
 abbrev pub withNodes : Topology → List Node → Topology
 withNodes t l = record { bits = t .bits; replication = t .replication; redundancy = t .redundancy; nodes = l }

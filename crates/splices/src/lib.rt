@@ -18,13 +18,6 @@ pub struct Place {
     pub with: usize,
 }
 
-// A slot that is not in use.
-pub const NONE: Node = Node {
-    id: 0,
-    zone: 0,
-    capacity: 0,
-};
-
 // The place of an id among the nodes in use.
 pub fn find(c: Cluster, id: u32) -> Place
     requires { ⌜ c .count ≤ mostNodes ⌝ }
@@ -61,7 +54,7 @@ pub fn node_with(c: Cluster, id: u32) -> Node
         }
         i += 1;
     }
-    NONE
+    Node::NONE
 }
 
 // Slot b of the cluster in which `out` nodes from place `at` on give way to `new` times a node.
@@ -79,7 +72,7 @@ fn slot(c: Cluster, at: usize, out: usize, node: Node, new: usize, b: usize) -> 
     if from < c.count {
         return c.nodes[from];
     }
-    NONE
+    Node::NONE
 }
 
 // The cluster in which the node of an id, if there is one, gives way to `new` times a node; its other slots are zero.
@@ -89,7 +82,7 @@ pub fn replace(c: Cluster, id: u32, node: Node, new: usize) -> Cluster
     ensures { λ r. ⌜ r ≡ slotsOf (withNodes (topology c) (replaced id (take new (node ∷ [])) (topology c .nodes))) ⌝ }
 {
     let place = find(c, id);
-    let mut nodes = [NONE; Cluster::NODES];
+    let mut nodes = [Node::NONE; Cluster::NODES];
     let mut b = 0;
     while b < Cluster::NODES {
         nodes[b] = slot(c, place.below, place.with, node, new, b);

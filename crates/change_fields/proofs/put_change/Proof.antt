@@ -1,7 +1,9 @@
 -- `change_fields::put_change` meets its contract: the head of the field, then its body.
 -- Assumes nothing.
+use Prim.Native.Nat.{_+_}
 use mathlib.Core.Path.{sym, subst}
 use native.Mathlib.Omega.{arith}
+use Rattle.fields.specs.RecordField.{headWidth, nodeWidth, removeWidth, resizeWidth}
 use Rattle.change_fields.specs.declared.Change.the-variants.{Add, Remove, Resize}
 use Rattle.change_fields.proofs.Changes.{IsPut, put-field, put-words}
 use borrow.Author.Needs.{needs}
@@ -56,7 +58,7 @@ returns c =
     let head = last .before .before .before .before in
     let known = head .before .before .before in
     let s = known .before .before .before .args .out .now in
-    subst (IsPut s (last .put-node .last .0) 13) (sym (known .x .given .1))
+    subst (IsPut s (last .put-node .last .0) (headWidth + nodeWidth)) (sym (known .x .given .1))
     (put-field s _ _ (Add (known .x .given .0 .0)) (omega arith) (head .put-head .ensures) (last .put-node .ensures))
 
 same-length-2 : tie.Need-same-length-2
@@ -68,7 +70,7 @@ returns-2 c =
     let head = last .before .before .before .before in
     let known = head .before .before .before in
     let s = known .before .before .before .args .out .now in
-    subst (IsPut s (last .put-word .last .0) 7) (sym (known .x2 .given .1))
+    subst (IsPut s (last .put-word .last .0) (headWidth + removeWidth)) (sym (known .x2 .given .1))
     (put-field s _ _ (Remove (known .x2 .given .0 .0)) (omega arith) (head .put-head2 .ensures) (last .put-word .ensures))
 
 same-length-3 : tie.Need-same-length-3
@@ -83,7 +85,7 @@ returns-3 c =
     let s = known .before .before .before .args .out .now in
     let i = known .x3 .given .0 .0 in
     let k = known .x3 .given .0 .1 .0 in
-    subst (IsPut s (last .put-word3 .last .0) 11) (sym (known .x3 .given .1))
+    subst (IsPut s (last .put-word3 .last .0) (headWidth + resizeWidth)) (sym (known .x3 .given .1))
     (put-field s _ _ (Resize i k) (omega arith) (head .put-head3 .ensures)
     (put-words _ _ _ i k (omega arith) (first .put-word2 .ensures) (last .put-word3 .ensures)))
 

@@ -27,8 +27,11 @@ mul-t6 c = search needs
 add-t7 : tie.Need-add-t7 Inv-loop μ-loop
 add-t7 c = search needs
 
-mul-t9 : tie.Need-mul-t9 Inv-loop μ-loop
-mul-t9 c = search needs
+cast-t8 : tie.Need-cast-t8 Inv-loop μ-loop
+cast-t8 c = search needs
+
+mul-t10 : tie.Need-mul-t10 Inv-loop μ-loop
+mul-t10 c = search needs
 
 element-set-from-c : tie.Need-element-set-from-c Inv-loop μ-loop
 element-set-from-c c = search needs
@@ -56,7 +59,8 @@ full-spec =
     cast-t5
     mul-t6
     add-t7
-    mul-t9
+    cast-t8
+    mul-t10
     element-set-from-c
     add-b
     loop-less

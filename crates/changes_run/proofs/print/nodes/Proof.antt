@@ -7,10 +7,10 @@ use Rattle.changes_run.proofs.print.nodes.Statement.{statement}
 use Rattle.changes_run.proofs.print.nodes.Tie as tie
 
 abbrev Inv-loop : tie.InvT-loop
-Inv-loop c left₀ b₀ t7 t8 t9 t10 t11 left b = b ≤ mostNodes
+Inv-loop c left₀ b₀ t7 t8 t9 t10 t11 t12 left b = b ≤ mostNodes
 
 abbrev μ-loop : tie.MeasureT-loop
-μ-loop c left₀ b₀ t7 t8 t9 t10 t11 left b = mostNodes - b
+μ-loop c left₀ b₀ t7 t8 t9 t10 t11 t12 left b = mostNodes - b
 
 slice-aggregate-write-all : tie.Need-slice-aggregate-write-all Inv-loop μ-loop
 slice-aggregate-write-all c = search needs
@@ -54,6 +54,15 @@ cast-after-3 c = search needs
 after-requires-3 : tie.Need-after-requires-3 Inv-loop μ-loop
 after-requires-3 c κs = search needs
 
+slice-aggregate-after-4 : tie.Need-slice-aggregate-after-4 Inv-loop μ-loop
+slice-aggregate-after-4 c = search needs
+
+cast-after-4 : tie.Need-cast-after-4 Inv-loop μ-loop
+cast-after-4 c = search needs
+
+after-requires-4 : tie.Need-after-requires-4 Inv-loop μ-loop
+after-requires-4 c κs = search needs
+
 cast-if2 : tie.Need-cast-if2 Inv-loop μ-loop
 cast-if2 c = search needs
 
@@ -68,6 +77,12 @@ cast-if2-3 c = search needs
 
 add-if2-2 : tie.Need-add-if2-2 Inv-loop μ-loop
 add-if2-2 c = search needs
+
+cast-if2-4 : tie.Need-cast-if2-4 Inv-loop μ-loop
+cast-if2-4 c = search needs
+
+add-if2-3 : tie.Need-add-if2-3 Inv-loop μ-loop
+add-if2-3 c = search needs
 
 add-b : tie.Need-add-b Inv-loop μ-loop
 add-b c = search needs
@@ -113,11 +128,16 @@ nodes-spec =
     slice-aggregate-after-3
     cast-after-3
     after-requires-3
+    slice-aggregate-after-4
+    cast-after-4
+    after-requires-4
     cast-if2
     cast-if2-2
     add-if2
     cast-if2-3
     add-if2-2
+    cast-if2-4
+    add-if2-3
     add-b
     loop-less
     loop-again

@@ -1,13 +1,13 @@
--- `changes::making::reverse_of` meets its contract.
+-- `making::reverse_of` meets its contract.
 -- Assumes nothing.
 use borrow.Author.Needs.{needs}
 use mathlib.Core.Path.{sym, ap, _∙_}
 use Rattle.cluster.specs.Terms.{topology}
 use Rattle.cluster.specs.declared.Node.{Node}
 use Rattle.change_fields.specs.declared.Change.the-variants.{Add, Resize}
-use Rattle.changes.specs.TermsChanges.{reverseOf}
-use Rattle.changes.proofs.making.reverse_of.Statement.{statement}
-use Rattle.changes.proofs.making.reverse_of.Tie as tie
+use Rattle.making.specs.TermsMaking.{reverseOf}
+use Rattle.making.proofs.reverse_of.Statement.{statement}
+use Rattle.making.proofs.reverse_of.Tie as tie
 
 enum-known-x : tie.Need-enum-known-x
 enum-known-x c = search needs

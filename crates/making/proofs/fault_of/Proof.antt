@@ -1,4 +1,4 @@
--- `changes::making::fault_of` meets its contract.
+-- `making::fault_of` meets its contract.
 -- Assumes nothing.
 use borrow.Author.Needs.{needs}
 use mathlib.Core.Path.{_≡_, sym, ap, ap₂, _∙_}
@@ -10,36 +10,38 @@ use Rattle.cells.proofs.Cells.{length-of-map}
 use Rattle.cluster.specs.Terms.{mostNodes, topology}
 use Rattle.cluster.proofs.Accepting.{nodes-count}
 use Rattle.change_fields.specs.declared.Change.{Change}
-use Rattle.changes.specs.TermsChanges.{changeFault}
-use Rattle.changes.proofs.Cases.{verdict, fault-zero, fault-is}
-use Rattle.changes.proofs.making.fault_of.Statement.{statement}
-use Rattle.changes.proofs.making.fault_of.Tie as tie
+use Rattle.making.specs.TermsMaking.{changeFault}
+use Rattle.making.proofs.Faults.{verdict, fault-range, fault-is}
+use Rattle.making.proofs.fault_of.Statement.{statement}
+use Rattle.making.proofs.fault_of.Tie as tie
 
 long : (c : tie.Start) → length (c .args .c .nodes) ≡ mostNodes
 long c = search length-of-map
 
 -- The fault, by how many nodes have the id.
-known : (c : tie.After-find) → changeFault (topology (c .before .before .before .args .c) .nodes) (c .before .before .before .args .x)
-    ≡ verdict (c .before .before .before .args .x) (ltb 0 (c .find .result .with)) (c .before .before .before .args .c .count)
+known : (c : tie.After-find) → changeFault (topology (c .before .before .before .before .args .c) .nodes) (c .before .before .before .before .args .x)
+    ≡ verdict (c .before .before .before .before .args .x) (ltb 0 (c .find .result .with)) (c .before .before .before .before .args .c .count)
 known c =
-    let k = c .before .before in
+    let k = c .before .before .before in
     let a = k .before .args in
     let l = topology (a .c) .nodes in
-    fault-is l (a .x) (k .id-of .result) (c .find .result .with) (k .id-of .ensures) (c .before .if1 .left) (c .find .ensures .1)
+    fault-is l (a .x) (c .before .id-of .result) (c .find .result .with) (sym (k .out-of-range .ensures) ∙ c .before .before .if1 .left)
+    (c .before .id-of .ensures) (c .find .ensures .1)
     ∙ ap (verdict (a .x) (ltb 0 (c .find .result .with))) (nodes-count (a .c) (long (k .before)) (k .before .pre))
 
 -- The same of a change that is known by its kind.
-said : (c : tie.After-find) (x : Change) (is : Bool) → c .before .before .before .args .x ≡ x → ltb 0 (c .find .result .with) ≡ is
-    → verdict x is (c .before .before .before .args .c .count) ≡ changeFault (topology (c .before .before .before .args .c) .nodes) (c .before .before .before .args .x)
-said c x is e t = sym (known c ∙ ap₂ (λ (y : Change) (b : Bool). verdict y b (c .before .before .before .args .c .count)) e t)
+said : (c : tie.After-find) (x : Change) (is : Bool) → c .before .before .before .before .args .x ≡ x → ltb 0 (c .find .result .with) ≡ is
+    → verdict x is (c .before .before .before .before .args .c .count) ≡ changeFault (topology (c .before .before .before .before .args .c) .nodes) (c .before .before .before .before .args .x)
+said c x is e t = sym (known c ∙ ap₂ (λ (y : Change) (b : Bool). verdict y b (c .before .before .before .before .args .c .count)) e t)
+
+out-of-range-requires : tie.Need-out-of-range-requires
+out-of-range-requires c κs = search needs
+
+returns : tie.Need-returns
+returns c = fault-range _ (c .before .before .args .x) (sym (c .before .out-of-range .ensures) ∙ c .if1 .taken)
 
 id-of-requires : tie.Need-id-of-requires
 id-of-requires c κs = search needs
-
-returns : tie.Need-returns
-returns c =
-    let k = c .before in
-    fault-zero _ (k .before .args .x) (k .id-of .result) (k .id-of .ensures) (c .if1 .taken)
 
 find-requires : tie.Need-find-requires
 find-requires c κs = search needs
@@ -89,8 +91,9 @@ pub fault-of-spec : {M : Type 1} → statement M
 fault-of-spec =
     tie.close
     (tie.spec
-    id-of-requires
+    out-of-range-requires
     returns
+    id-of-requires
     find-requires
     enum-told
     returns-2

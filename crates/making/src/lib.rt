@@ -4,20 +4,32 @@ ghost use Prim.Native.Nat.{_≤_};
 ghost use Rattle.cluster.specs.Terms.{mostNodes, topology, faultOf};
 ghost use Rattle.cluster.specs.TermsReading.{slotsOf};
 ghost use Rattle.splices.specs.TermsReplaced.{withNodes};
-ghost use Rattle.changes.specs.TermsChanges.{changedNodes, reverseOf, changeFault};
+ghost use Rattle.making.specs.TermsMaking.{changedNodes, reverseOf, changeOutOfRange, changeFault};
 use change_fields::Change;
 use cluster::Cluster;
+use cluster::Node;
 use cluster::refusal;
 
+// Whether a number of a change is out of its range.
+fn out_of_range(x: Change) -> bool
+    ensures { λ r. ⌜ r ≡ changeOutOfRange x ⌝ }
+{
+    match x {
+        Change::Add { node } => node.out_of_range(),
+        Change::Remove { id } => id == 0,
+        Change::Resize { id, capacity: _ } => id == 0,
+    }
+}
+
 // The first fault of a change that was read; 0 where there is none.
-pub(crate) fn fault_of(c: Cluster, x: Change) -> u32
+pub fn fault_of(c: Cluster, x: Change) -> u32
     requires { ⌜ c .count ≤ mostNodes ⌝ }
     ensures { λ r. ⌜ r ≡ changeFault (topology c .nodes) x ⌝ }
 {
-    let id = change_fields::id_of(x);
-    if id == 0 {
+    if out_of_range(x) {
         return refusal::RANGE;
     }
+    let id = change_fields::id_of(x);
     let is_there = 0 < splices::find(c, id).with;
     match x {
         Change::Add { node: _ } => {
@@ -35,7 +47,7 @@ pub(crate) fn fault_of(c: Cluster, x: Change) -> u32
 }
 
 // The change that reverses another, by the nodes before that one is made.
-pub(crate) fn reverse_of(c: Cluster, x: Change) -> Change
+pub fn reverse_of(c: Cluster, x: Change) -> Change
     requires { ⌜ c .count ≤ mostNodes ⌝ }
     ensures { λ r. ⌜ r ≡ reverseOf (topology c .nodes) x ⌝ }
 {
@@ -55,13 +67,13 @@ pub(crate) fn reverse_of(c: Cluster, x: Change) -> Change
 }
 
 // The cluster with a change made that has no fault.
-pub(crate) fn with_change(c: Cluster, x: Change) -> Cluster
+pub fn with_change(c: Cluster, x: Change) -> Cluster
     requires { ⌜ (faultOf c ≡ 0) × (changeFault (topology c .nodes) x ≡ 0) ⌝ }
     ensures { λ r. ⌜ r ≡ slotsOf (withNodes (topology c) (changedNodes (topology c .nodes) x)) ⌝ }
 {
     match x {
         Change::Add { node } => splices::replace(c, node.id, node, 1),
-        Change::Remove { id } => splices::replace(c, id, splices::NONE, 0),
+        Change::Remove { id } => splices::replace(c, id, Node::NONE, 0),
         Change::Resize { id, capacity } => {
             let mut node = splices::node_with(c, id);
             node.capacity = capacity;

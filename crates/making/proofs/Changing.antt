@@ -1,27 +1,27 @@
 -- One change of the nodes as a value: where it is without fault, the nodes stay as they have to be, and its reverse, made after it, brings them back.
 -- Assumes nothing.
-use Prim.Native.Nat.{ℕ, zero, suc, _+_, _≤_, _<_}
-use mathlib.Core.Path.{_≡_, refl, sym, ap, ap₂, _∙_, subst}
+use Prim.Native.Nat.{ℕ, _+_, _≤_, _<_}
+use mathlib.Core.Path.{_≡_, refl, sym, ap, ap₂, _∙_}
 use mathlib.Core.Bool.{Bool, true, false, cond}
 use mathlib.Core.List.{List, [], _∷_, _++_}
-use mathlib.Core.Logic.{⊎-elim}
 use native.Mathlib.Omega.{arith}
-use lib.Dec.{leb, eqb}
+use lib.Dec.{leb}
 use lib.ListN.{length, getD}
-use borrow.Author.Tests.{leb-false, lt-leb, ne-eqb, eqb-false}
-use Rattle.sums.proofs.Sum.{eq-or-ne, lt-or-ge}
-use Rattle.cluster.specs.Terms.{mostNodes, noNode, idsOf, mem, rising}
+use borrow.Author.Tests.{leb-false, lt-leb, ne-eqb}
+use Rattle.cluster.specs.Terms.{mostNodes, mostCeiling, noNode, idsOf, mem, rising}
 use Rattle.cluster.specs.declared.Node.{Node}
+use Rattle.cluster.proofs.Accepting.{positive, node-in-range, in-range-node}
 use Rattle.fields.specs.RecordField.{FitsNode}
-use Rattle.fields.proofs.Nodes.{fits-none}
+use Rattle.node_bytes.proofs.Nodes.{fits-none}
 use Rattle.splices.specs.TermsReplaced.{nodesBelow, nodesWith, nodesAbove, nodeWith, replaced}
-use Rattle.splices.proofs.Replaced.{Each, below-cons, below-skip, above-cons, above-skip, put-back}
-use Rattle.splices.proofs.Kept.{node-first, node-later, node-id, with-node, without-node}
+use Rattle.splices.proofs.Replaced.{Each, replaced-own, put-back}
+use Rattle.splices.proofs.Kept.{node-id, with-node, without-node}
 use Rattle.splices.proofs.Kept.{rising-replaced, mem-replaced-none, mem-replaced-one, node-replaced, length-replaced}
 use Rattle.change_fields.specs.RecordChange.{idOf, FitsChange}
 use Rattle.change_fields.specs.declared.Change.{Change}
 use Rattle.change_fields.specs.declared.Change.the-variants.{Add, Remove, Resize}
-use Rattle.changes.specs.TermsChanges.{withCapacity, newNodes, changedNodes, reverseOf, faultAmong, changeFault}
+use Rattle.making.specs.TermsMaking.{withCapacity, newNodes, changedNodes, reverseOf, faultAmong, changeOutOfRange, changeFault}
+use Rattle.making.proofs.AllNodes.{All, all-replaced, all-of, all-at, all-with}
 
 -- ---- a change without fault
 
@@ -55,18 +55,30 @@ apt-none l (Add n) a = simp (a .0, lt-leb mostNodes (length l) (a .1))
 apt-none l (Remove i) a = simp a
 apt-none l (Resize i k) a = simp a
 
-module _ (l : List Node) (x : Change) where
-  fault-none : changeFault l x ≡ 0 → (1 ≤ idOf x) × Apt l x
-  unfolding changeFault
-  fault-none e = go (eqb (idOf x) 0) refl e
-    where
-      go : (b : Bool) → eqb (idOf x) 0 ≡ b → _≡_ {A = ℕ} (cond b 4 (faultAmong l x)) 0 → (1 ≤ idOf x) × Apt l x
-      go true q h = absurd (omega arith)
-      go false q h = (⊎-elim (λ z. absurd (eqb-false (idOf x) 0 q (omega arith))) (λ p. p) (lt-or-ge (idOf x) 1), apt l x h)
+-- Where its numbers are in range, a node to be added has no ceiling above 256,
+add-in-range : (n : Node) → changeOutOfRange (Add n) ≡ false → (1 ≤ n .id) × (n .ceiling ≤ mostCeiling)
+unfolding changeOutOfRange
+add-in-range n e = in-range-node n e
 
-  no-change-fault : 1 ≤ idOf x → Apt l x → changeFault l x ≡ 0
+-- and its id is not 0.
+in-range-id : (x : Change) → changeOutOfRange x ≡ false → 1 ≤ idOf x
+unfolding changeOutOfRange idOf
+in-range-id (Add n) e = add-in-range n e .0
+in-range-id (Remove i) e = positive i e
+in-range-id (Resize i k) e = positive i e
+
+module _ (l : List Node) (x : Change) where
+  fault-none : changeFault l x ≡ 0 → (changeOutOfRange x ≡ false) × Apt l x
   unfolding changeFault
-  no-change-fault p a = simp (ne-eqb (idOf x) 0 (λ e. omega arith), apt-none l x a)
+  fault-none e = go (changeOutOfRange x) refl e
+    where
+      go : (b : Bool) → changeOutOfRange x ≡ b → _≡_ {A = ℕ} (cond b 4 (faultAmong l x)) 0 → (changeOutOfRange x ≡ false) × Apt l x
+      go true q h = absurd (omega arith)
+      go false q h = (q, apt l x h)
+
+  no-change-fault : changeOutOfRange x ≡ false → Apt l x → changeFault l x ≡ 0
+  unfolding changeFault
+  no-change-fault p a = simp (p, apt-none l x a)
 
 -- ---- what it leaves
 
@@ -93,7 +105,7 @@ new-fit l (Resize i k) few up a = omega (arith, ap length (with-node i l up a))
 
 module _ (l : List Node) (x : Change) (up : rising (idsOf l) ≡ true) (good : changeFault l x ≡ 0) where
   pub changed-rising : rising (idsOf (changedNodes l x)) ≡ true
-  changed-rising = let f = fault-none l x good in rising-replaced (idOf x) (newNodes l x) l (f .0) up (new-own l x (f .1)) (new-few l x)
+  changed-rising = let f = fault-none l x good in rising-replaced (idOf x) (newNodes l x) l (in-range-id x (f .0)) up (new-own l x (f .1)) (new-few l x)
 
   pub changed-few : length l ≤ mostNodes → length (changedNodes l x) ≤ mostNodes
   changed-few few = omega (arith, length-replaced (idOf x) (newNodes l x) l up, new-fit l x few up (fault-none l x good .1))
@@ -101,6 +113,45 @@ module _ (l : List Node) (x : Change) (up : rising (idsOf l) ≡ true) (good : c
   -- There is a slot for what it puts in.
   pub changed-room : length l ≤ mostNodes → length l + length (newNodes l x) ≤ mostNodes + length (nodesWith (idOf x) l)
   changed-room few = new-fit l x few up (fault-none l x good .1)
+
+-- Of the nodes that a resize leaves, all but one are the former ones, and that one has only another capacity.
+pub resize-keeps : (l : List Node) (i k : ℕ) → rising (idsOf l) ≡ true → changeFault l (Resize i k) ≡ 0
+    → (l ≡ nodesBelow i l ++ (nodeWith i l ∷ nodesAbove i l))
+    × (changedNodes l (Resize i k) ≡ nodesBelow i l ++ (withCapacity k (nodeWith i l) ∷ nodesAbove i l))
+unfolding replaced newNodes idOf
+resize-keeps l i k up good =
+    let own = with-node i l up (fault-none l (Resize i k) good .1) in
+    (sym (replaced-own i 0 l up) ∙ ap (λ (m : List Node). nodesBelow i l ++ (m ++ nodesAbove i l)) own, refl)
+
+-- "22 keeps the ceiling"
+pub resize-ceiling : (l : List Node) (i k : ℕ) → changeFault l (Resize i k) ≡ 0 → nodeWith i (changedNodes l (Resize i k)) .ceiling ≡ nodeWith i l .ceiling
+unfolding newNodes idOf
+resize-ceiling l i k good =
+    ap (λ (n : Node). n .ceiling) (node-replaced i (withCapacity k (nodeWith i l)) (node-id i l (fault-none l (Resize i k) good .1)) l)
+
+-- ---- the ceilings
+
+-- A ceiling that is not above 256, and such ones at every place.
+abbrev Low : Node → Type 0
+Low n = n .ceiling ≤ mostCeiling
+
+abbrev Ceilings : List Node → Type 0
+Ceilings l = (b : ℕ) → Low (getD l b noNode)
+
+none-low : Low noNode
+none-low = omega arith
+
+new-low : (l : List Node) (x : Change) → changeOutOfRange x ≡ false → All Low l → All Low (newNodes l x)
+unfolding newNodes
+new-low l (Add n) e h = (add-in-range n e .1, tt)
+new-low l (Remove i) e h = tt
+new-low l (Resize i k) e h = (all-with Low none-low i l h, tt)
+
+-- Where no ceiling is above 256, none is after a change without fault.
+pub changed-ceilings : (l : List Node) (x : Change) → changeFault l x ≡ 0 → Ceilings l → Ceilings (changedNodes l x)
+changed-ceilings l x good low =
+    let h = all-of Low l low in
+    all-at Low none-low (changedNodes l x) (all-replaced Low (idOf x) (newNodes l x) l (new-low l x (fault-none l x good .0) h) h)
 
 -- ---- its reverse
 
@@ -139,21 +190,29 @@ reverse-reverse l (Add n) a = ap Add (node-replaced (n .id) n refl l)
 reverse-reverse l (Remove i) a = ap Remove (node-id i l a)
 reverse-reverse l (Resize i k) a = ap (λ (n : Node). Resize i (n .capacity)) (node-replaced i (withCapacity k (nodeWith i l)) (node-id i l a) l)
 
+-- Its numbers are in range, as those of the change and of the nodes are.
+reverse-in-range : (l : List Node) (x : Change) → Ceilings l → changeOutOfRange x ≡ false → Apt l x → changeOutOfRange (reverseOf l x) ≡ false
+unfolding reverseOf changeOutOfRange
+reverse-in-range l (Add n) low e a = ne-eqb (n .id) 0 (λ z. omega (arith, add-in-range n e .0))
+reverse-in-range l (Remove i) low e a =
+    node-in-range (nodeWith i l) (omega (arith, node-id i l a, positive i e)) (all-with Low none-low i l (all-of Low l low))
+reverse-in-range l (Resize i k) low e a = e
+
 -- The reverse y of a change x of the nodes l, made on the nodes m that the change left: it is without fault, it brings them back, and x reverses it.
 pub record Reversed (l : List Node) (x : Change) (m : List Node) (y : Change) : Type 0 where
   pub good : changeFault m y ≡ 0
   pub back : changedNodes m y ≡ l
   pub again : reverseOf m y ≡ x
 
-pub reverse-made : (l : List Node) (x : Change) → length l ≤ mostNodes → rising (idsOf l) ≡ true → changeFault l x ≡ 0
+pub reverse-made : (l : List Node) (x : Change) → length l ≤ mostNodes → rising (idsOf l) ≡ true → Ceilings l → changeFault l x ≡ 0
     → Reversed l x (changedNodes l x) (reverseOf l x)
-reverse-made l x few up good =
+reverse-made l x few up low good =
     let f = fault-none l x good in
     let m = changedNodes l x in
     let y = reverseOf l x in
     let same = reverse-id l x (f .1) in
     record {
-      good = no-change-fault m y (omega (arith, same, f .0)) (reverse-apt l x few up (f .1));
+      good = no-change-fault m y (reverse-in-range l x low (f .0) (f .1)) (reverse-apt l x few up (f .1));
       back =
           ap₂ (λ (i : ℕ) (new : List Node). replaced i new m) same (reverse-new l x up (f .1))
           ∙ put-back (idOf x) (newNodes l x) l (new-own l x (f .1)) up;
@@ -162,62 +221,22 @@ reverse-made l x few up good =
 
 -- ---- numbers that fit their bytes
 
--- Every node fits.
-abbrev FitAll : List Node → Type 0
-FitAll [] = Unit {0}
-FitAll (n ∷ ns) = FitsNode n × FitAll ns
+fit-with : (i : ℕ) (l : List Node) → ((b : ℕ) → FitsNode (getD l b noNode)) → FitsNode (nodeWith i l)
+fit-with i l h = all-with FitsNode fits-none i l (all-of FitsNode l h)
 
-fit-all : (l : List Node) → ((b : ℕ) → FitsNode (getD l b noNode)) → FitAll l
-fit-all [] h = tt
-fit-all (n ∷ ns) h = (h 0, fit-all ns (λ b. h (suc b)))
-
-fit-at : (l : List Node) → FitAll l → (b : ℕ) → FitsNode (getD l b noNode)
-fit-at [] h b = fits-none
-fit-at (n ∷ ns) h zero = h .0
-fit-at (n ∷ ns) h (suc b) = fit-at ns (h .1) b
-
-fit-append : (l r : List Node) → FitAll l → FitAll r → FitAll (l ++ r)
-fit-append [] r h g = g
-fit-append (n ∷ ns) r h g = (h .0, fit-append ns r (h .1) g)
-
-fit-with : (i : ℕ) (l : List Node) → FitAll l → FitsNode (nodeWith i l)
-unfolding nodeWith
-fit-with i [] h = fits-none
-fit-with i (n ∷ ns) h =
-    ⊎-elim (λ q. subst FitsNode (sym (node-first i n ns q)) (h .0)) (λ q. subst FitsNode (sym (node-later i n ns q)) (fit-with i ns (h .1))) (eq-or-ne (n .id) i)
-
-fit-below : (i : ℕ) (l : List Node) → FitAll l → FitAll (nodesBelow i l)
-unfolding nodesBelow
-fit-below i [] h = tt
-fit-below i (n ∷ ns) h =
-    ⊎-elim (λ q. subst FitAll (sym (below-cons i n ns q)) (h .0, fit-below i ns (h .1))) (λ q. subst FitAll (sym (below-skip i n ns q)) (fit-below i ns (h .1)))
-    (lt-or-ge (n .id) i)
-
-fit-above : (i : ℕ) (l : List Node) → FitAll l → FitAll (nodesAbove i l)
-unfolding nodesAbove
-fit-above i [] h = tt
-fit-above i (n ∷ ns) h =
-    ⊎-elim (λ q. subst FitAll (sym (above-cons i n ns q)) (h .0, fit-above i ns (h .1))) (λ q. subst FitAll (sym (above-skip i n ns q)) (fit-above i ns (h .1)))
-    (lt-or-ge i (n .id))
-
-fit-new : (l : List Node) (x : Change) → FitAll l → FitsChange x → FitAll (newNodes l x)
+fit-new : (l : List Node) (x : Change) → ((b : ℕ) → FitsNode (getD l b noNode)) → FitsChange x → All FitsNode (newNodes l x)
 unfolding newNodes
 fit-new l (Add n) h f = (f, tt)
 fit-new l (Remove i) h f = tt
-fit-new l (Resize i k) h f = let n = fit-with i l h in (record { id = n .id; zone = n .zone; capacity = f .1 }, tt)
+fit-new l (Resize i k) h f = let n = fit-with i l h in (record { id = n .id; zone = n .zone; capacity = f .1; ceiling = n .ceiling }, tt)
 
 -- Where the numbers of the nodes and of the change fit, so do those of the nodes that it leaves, and those of its reverse.
 pub changed-fit : (l : List Node) (x : Change) → ((b : ℕ) → FitsNode (getD l b noNode)) → FitsChange x → (b : ℕ) → FitsNode (getD (changedNodes l x) b noNode)
-unfolding replaced
 changed-fit l x fit own =
-    let h = fit-all l fit in
-    let i = idOf x in
-    fit-at (changedNodes l x)
-    (fit-append (nodesBelow i l) (newNodes l x ++ nodesAbove i l) (fit-below i l h)
-    (fit-append (newNodes l x) (nodesAbove i l) (fit-new l x h own) (fit-above i l h)))
+    all-at FitsNode fits-none (changedNodes l x) (all-replaced FitsNode (idOf x) (newNodes l x) l (fit-new l x fit own) (all-of FitsNode l fit))
 
 pub reverse-fit : (l : List Node) (x : Change) → ((b : ℕ) → FitsNode (getD l b noNode)) → FitsChange x → FitsChange (reverseOf l x)
 unfolding reverseOf
 reverse-fit l (Add n) h f = f .id
-reverse-fit l (Remove i) h f = fit-with i l (fit-all l h)
-reverse-fit l (Resize i k) h f = (f .0, fit-with i l (fit-all l h) .capacity)
+reverse-fit l (Remove i) h f = fit-with i l h
+reverse-fit l (Resize i k) h f = (f .0, fit-with i l h .capacity)

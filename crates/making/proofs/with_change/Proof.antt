@@ -1,4 +1,4 @@
--- `changes::making::with_change` meets its contract.
+-- `making::with_change` meets its contract.
 -- Assumes nothing.
 use borrow.Author.Needs.{needs}
 use native.Mathlib.Omega.{arith}
@@ -14,10 +14,10 @@ use Rattle.cluster.proofs.Accepting.{accepted, few-nodes, nodes-count}
 use Rattle.splices.specs.TermsReplaced.{nodesWith, replaced, withNodes}
 use Rattle.change_fields.specs.RecordChange.{idOf}
 use Rattle.change_fields.specs.declared.Change.{Change}
-use Rattle.changes.specs.TermsChanges.{withCapacity, newNodes, changedNodes, changeFault}
-use Rattle.changes.proofs.Changing.{changed-room}
-use Rattle.changes.proofs.making.with_change.Statement.{statement}
-use Rattle.changes.proofs.making.with_change.Tie as tie
+use Rattle.making.specs.TermsMaking.{withCapacity, newNodes, changedNodes, changeFault}
+use Rattle.making.proofs.Changing.{changed-room}
+use Rattle.making.proofs.with_change.Statement.{statement}
+use Rattle.making.proofs.with_change.Tie as tie
 
 long : (c : tie.Start) → length (c .args .c .nodes) ≡ mostNodes
 long c = search length-of-map

@@ -1,0 +1,3 @@
+pub mod AllNodes
+pub mod Changing
+pub mod Faults
