@@ -13,7 +13,7 @@ use Rattle.answers.specs.TermsAnswers.{nodeCellsWidth, nodeCells}
 
 -- The cells of a node.
 abbrev pub cellsOfNode : Node → List ℕ
-cellsOfNode n = n .id ∷ n .zone ∷ n .capacity ∷ []
+cellsOfNode n = n .id ∷ n .zone ∷ n .capacity ∷ n .ceiling ∷ []
 
 length-nodeCells : (l : List Node) → length (nodeCells l) ≡ nodeCellsWidth * length l
 unfolding nodeCells

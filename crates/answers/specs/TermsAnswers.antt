@@ -28,14 +28,14 @@ answerAfter n answer numbers = unlessShort n answer answer (numbers ++ drop n an
 
 -- ---- the nodes of a cluster
 
--- The cells of a node: id, zone, capacity.
+-- The cells of a node: id, zone, capacity, ceiling.
 abbrev pub nodeCellsWidth : ℕ
-nodeCellsWidth = 3
+nodeCellsWidth = 4
 
 -- The cells of nodes, one after the other; of a cluster they are all 32 slots, and those not in use are zero in every cluster a call yields.
 unfoldable pub nodeCells : List Node → List ℕ
 nodeCells [] = []
-nodeCells (n ∷ ns) = n .id ∷ n .zone ∷ n .capacity ∷ nodeCells ns
+nodeCells (n ∷ ns) = n .id ∷ n .zone ∷ n .capacity ∷ n .ceiling ∷ nodeCells ns
 
 -- ---- a cluster that enters as its record
 

@@ -9,8 +9,8 @@ use cluster::Cluster;
 
 pub mod entering;
 
-// The cells of a node: id, zone, capacity.
-pub const NODE: usize = 3;
+// The cells of a node: id, zone, capacity, ceiling.
+pub const NODE: usize = 4;
 
 // The high half of a number of 64 bits.
 pub fn high(x: u64) -> u32
@@ -56,7 +56,12 @@ pub fn put_nodes(c: Cluster, at: usize, cells: &mut [u32])
     let mut b = 0;
     while b < Cluster::NODES {
         let node = c.nodes[b];
-        let numbers = [node.id, node.zone as u32, node.capacity];
+        let numbers = [
+            node.id,
+            node.zone as u32,
+            node.capacity,
+            node.ceiling as u32,
+        ];
         put(&numbers, at + NODE * b, cells);
         b += 1;
     }

@@ -1,4 +1,4 @@
--- What a change answers through C: the number of nodes and the length of the reverse fit a cell, since a cluster has 32 slots and a reverse 13 bytes
+-- What a change answers through C: the number of nodes and the length of the reverse fit a cell, since a cluster has 32 slots and a reverse 15 bytes
 -- in every program.
 -- Assumes nothing.
 use Prim.Native.Nat.{ℕ, _-_, _≤_}
@@ -11,7 +11,8 @@ use lib.ListN.{length, replicate, length-append, length-replicate}
 use Rattle.cluster.specs.Terms.{mostNodes, topology}
 use Rattle.cluster_record.specs.declared.ReadCluster.{ReadCluster}
 use Rattle.change_fields.specs.RecordChange.{changeField, longestChange, reverseBytes}
-use Rattle.changes.specs.TermsChanges.{reverseOf, changeRefused, changeMade, changeOf}
+use Rattle.making.specs.TermsMaking.{reverseOf}
+use Rattle.changes.specs.TermsChanges.{changeRefused, changeMade, changeOf}
 use Rattle.changes.specs.declared.Made.{Made}
 use Rattle.changes.proofs.Answered.{answered}
 use Rattle.answers.proofs.Entered.{slots-few}

@@ -31,7 +31,7 @@ headCells = 9
 abbrev pub changeCells : ℕ
 changeCells = headCells + nodeCellsWidth * mostNodes
 
--- "Either too short: 8, nothing touched": what is answered, or left in a lent slice, where `answer` or `reverse` is too short, and where both are
+-- What is answered, or left in a lent slice, where `answer` or `reverse` is too short, which is 8 with nothing touched, and where both are
 -- long enough.
 abbrev pub unlessEither : {A : Type 0} → List ℕ → List ℕ → A → A → A
 unlessEither reverse answer short x = unlessShort changeCells answer short (unlessShort longestChange reverse short x)

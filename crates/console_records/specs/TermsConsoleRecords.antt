@@ -16,7 +16,7 @@ headCells = 6
 abbrev pub readClusterCells : ℕ
 readClusterCells = headCells + nodeCellsWidth * mostNodes
 
--- "byte; bits; replication; redundancy; number of nodes; then 32 times id, zone, capacity": all 32 slots, those not in use are zero.
+-- "byte; bits; replication; redundancy; number of nodes; then 32 times id, zone, capacity, ceiling": all 32 slots, those not in use are zero.
 abbrev pub clusterNumbers : ReadCluster → List ℕ
 clusterNumbers r =
     halves (r .byte)

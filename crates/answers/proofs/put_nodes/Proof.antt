@@ -35,6 +35,9 @@ element-copy-out-node c = search needs
 cast-t13 : tie.Need-cast-t13 Inv-loop μ-loop
 cast-t13 c = search needs
 
+cast-t14 : tie.Need-cast-t14 Inv-loop μ-loop
+cast-t14 c = search needs
+
 slice-aggregate-put : tie.Need-slice-aggregate-put Inv-loop μ-loop
 slice-aggregate-put c = search needs
 
@@ -55,7 +58,7 @@ loop-less c = search needs
 
 loop-again : tie.Need-loop-again Inv-loop μ-loop
 loop-again c =
-    let k = c .before .before .before .before .before .before .before .before in
+    let k = c .before .before .before .before .before .before .before .before .before in
     let s = k .before .before in
     let w = node-next (s .args .at) (s .args .cells .now) (s .args .t1 .nodes) (s .pre) (long s) (k .loop .b) (k .loop .cells) (omega arith) (k .loop .inv .2) in
     (search needs, search needs, c .before .before .put .ensures ∙ w)
@@ -83,6 +86,7 @@ put-nodes-spec =
     mul-node
     element-copy-out-node
     cast-t13
+    cast-t14
     slice-aggregate-put
     mul-put
     add-put

@@ -8,10 +8,11 @@ use lib.ListN.{length, drop, replicate}
 use Rattle.cells.proofs.Cells.{length-of-map}
 use Rattle.cluster.specs.Terms.{mostNodes, layoutCells}
 use Rattle.cluster_record.specs.declared.ReadCluster.{ReadCluster}
+use Rattle.change_fields.specs.RecordChange.{longestChange}
 use Rattle.changes.specs.TermsUndo.{Owed}
 use Rattle.changes.specs.declared.Made.{Made}
 use Rattle.answers.specs.TermsAnswers.{reading}
-use Rattle.console_changes.specs.TermsConsoleChanges.{madeRead, reverseAfter, changeNumbers}
+use Rattle.console_changes.specs.TermsConsoleChanges.{changeCells, madeRead, reverseAfter, changeNumbers}
 use Rattle.answers.proofs.Answered.{short, long}
 use Rattle.answers.proofs.Entered.{read-few}
 use Rattle.console_changes.proofs.ChangeAnswers.{made-fits}
@@ -22,7 +23,7 @@ returns : tie.Need-returns
 returns c =
     let lent = c .before .before .before .before .before .args .answer .now in
     let h = c .if1 .taken in
-    (short _ 105 lent h, short _ 105 lent h, short _ 105 lent h, λ e wide ample. absurd (omega arith))
+    (short _ changeCells lent h, short _ changeCells lent h, short _ changeCells lent h, λ e wide ample. absurd (omega arith))
 
 returns-2 : tie.Need-returns-2
 returns-2 c =
@@ -31,7 +32,7 @@ returns-2 c =
     let lent = a .answer .now in
     let h = c .before .if1 .left in
     let g = c .if2 .taken in
-    (long _ 105 lent h (short _ 13 out g), long _ 105 lent h (short _ 13 out g), long _ 105 lent h (short _ 13 out g), λ e wide ample. absurd (omega arith))
+    (long _ changeCells lent h (short _ longestChange out g), long _ changeCells lent h (short _ longestChange out g), long _ changeCells lent h (short _ longestChange out g), λ e wide ample. absurd (omega arith))
 
 read-requires : tie.Need-read-requires
 read-requires c κs = search needs
@@ -80,9 +81,9 @@ returns-3 c =
     let read = r .read .ensures in
     let made : m .change-read .result ≡ madeRead (reading s) (a .changes .now) (a .at) =
     m .change-read .ensures .0 ∙ ap (λ (x : ReadCluster). madeRead x (a .changes .now) (a .at)) read in (
-      long _ 105 lent h (long _ 13 out g (ap (λ (x : Made). x .answer .refusal) made)),
-      long _ 105 lent h (long _ 13 out g (w .put-reverse .ensures .0 ∙ ap (λ (x : Made). reverseAfter out (x .answer)) made)),
-      long _ 105 lent h (long _ 13 out g (c .before .before .put-made .ensures ∙ (λ i. changeNumbers (read i .byte) (made i) ++ drop 105 lent))),
+      long _ changeCells lent h (long _ longestChange out g (ap (λ (x : Made). x .answer .refusal) made)),
+      long _ changeCells lent h (long _ longestChange out g (w .put-reverse .ensures .0 ∙ ap (λ (x : Made). reverseAfter out (x .answer)) made)),
+      long _ changeCells lent h (long _ longestChange out g (c .before .before .put-made .ensures ∙ (λ i. changeNumbers (read i .byte) (made i) ++ drop changeCells lent))),
       λ z wide ample. subst (λ (x : ReadCluster). x .refusal ≡ 0 → Owed (x .cluster) (a .changes .now) (a .at)) read (m .change-read .ensures .1) z,
     )
 

@@ -1,12 +1,14 @@
 -- `console_changes::put_made` meets its contract.
 -- Assumes nothing.
 use borrow.Author.Needs.{needs}
-use Prim.Native.Nat.{ℕ}
+use Prim.Native.Nat.{ℕ, _*_}
 use mathlib.Core.Path.{ap, _∙_}
 use mathlib.Core.List.{List, _∷_, _++_}
 use lib.ListN.{take, drop}
 use lib.Seq.{drop-drop}
-use Rattle.answers.specs.TermsAnswers.{halves, nodeCells}
+use Rattle.cluster.specs.Terms.{mostNodes}
+use Rattle.answers.specs.TermsAnswers.{halves, nodeCellsWidth, nodeCells}
+use Rattle.console_changes.specs.TermsConsoleChanges.{headCells, changeCells}
 use Rattle.console_changes.proofs.put_made.Statement.{statement}
 use Rattle.console_changes.proofs.put_made.Tie as tie
 
@@ -45,10 +47,10 @@ returns c =
     let lent = a .cells .now in
     let nodes = nodeCells (k .nodes) in
     c .before .before .put-nodes .ensures
-    ∙ (ap (λ (x : List ℕ). take 9 x ++ nodes ++ drop 105 x) (p .put-after .ensures)
+    ∙ (ap (λ (x : List ℕ). take headCells x ++ nodes ++ drop changeCells x) (p .put-after .ensures)
     ∙ (λ i. halves (a .byte)
     ++ (h .high .ensures i ∷ l .low .ensures i ∷ o .reverse .len ∷ k .bits ∷ k .replication ∷ k .redundancy ∷ k .count ∷ nodes)
-    ++ drop-drop 96 9 lent i))
+    ++ drop-drop (nodeCellsWidth * mostNodes) headCells lent i))
 
 pub put-made-spec : {M : Type 1} → statement M
 put-made-spec =

@@ -2,7 +2,7 @@
 -- Assumes nothing.
 use borrow.Author.Needs.{needs}
 use native.Mathlib.Omega.{arith}
-use Prim.Native.Nat.{ℕ}
+use Prim.Native.Nat.{ℕ, _*_}
 use mathlib.Core.Path.{_≡_, ap, _∙_}
 use mathlib.Core.List.{List, _++_}
 use lib.ListN.{length, take, drop}
@@ -10,8 +10,8 @@ use lib.Seq.{drop-drop}
 use Rattle.cells.proofs.Cells.{length-of-map}
 use Rattle.cluster.specs.Terms.{mostNodes}
 use Rattle.cluster_record.specs.declared.ReadCluster.{ReadCluster}
-use Rattle.answers.specs.TermsAnswers.{nodeCells}
-use Rattle.console_records.specs.TermsConsoleRecords.{clusterNumbers}
+use Rattle.answers.specs.TermsAnswers.{nodeCellsWidth, nodeCells}
+use Rattle.console_records.specs.TermsConsoleRecords.{headCells, readClusterCells, clusterNumbers}
 use Rattle.answers.proofs.Answered.{short, long}
 use Rattle.answers.proofs.Entered.{read-few}
 use Rattle.console_records.proofs.cluster_in.dezghuri_read_cluster.Statement.{statement}
@@ -21,7 +21,7 @@ returns : tie.Need-returns
 returns c =
     let lent = c .before .before .before .before .args .answer .now in
     let h = c .if1 .taken in
-    (short _ 102 lent h, short _ 102 lent h, short _ 102 lent h)
+    (short _ readClusterCells lent h, short _ readClusterCells lent h, short _ readClusterCells lent h)
 
 read-cluster-requires : tie.Need-read-cluster-requires
 read-cluster-requires c κs = search needs
@@ -59,12 +59,12 @@ returns-2 c =
     let h = e .if1 .left in
     let read = r .read-cluster .ensures .0 in
     let nodes = nodeCells (r .read-cluster .result .cluster .nodes) in (
-      long _ 102 lent h (ap (λ (x : ReadCluster). x .refusal) read),
-      long _ 102 lent h (r .read-cluster .ensures .1),
-      long _ 102 lent h
+      long _ readClusterCells lent h (ap (λ (x : ReadCluster). x .refusal) read),
+      long _ readClusterCells lent h (r .read-cluster .ensures .1),
+      long _ readClusterCells lent h
           (c .before .before .put-nodes .ensures
-          ∙ (ap (λ (l : List ℕ). take 6 l ++ nodes ++ drop 102 l) (p .put-after .ensures)
-          ∙ (ap (λ (l : List ℕ). clusterNumbers (r .read-cluster .result) ++ l) (drop-drop 96 6 lent) ∙ ap (λ (x : ReadCluster). clusterNumbers x ++ drop 102 lent) read))),
+          ∙ (ap (λ (l : List ℕ). take headCells l ++ nodes ++ drop readClusterCells l) (p .put-after .ensures)
+          ∙ (ap (λ (l : List ℕ). clusterNumbers (r .read-cluster .result) ++ l) (drop-drop (nodeCellsWidth * mostNodes) headCells lent) ∙ ap (λ (x : ReadCluster). clusterNumbers x ++ drop readClusterCells lent) read))),
     )
 
 pub dezghuri-read-cluster-spec : {M : Type 1} → statement M
