@@ -56,13 +56,14 @@ type Case = (Cluster, Layout);
 /// A kind of cluster: its name, what it is, and how one is drawn.
 type Kind = (&'static str, &'static str, fn(&mut Random) -> Case);
 
-const KINDS: [Kind; 6] = [
+const KINDS: [Kind; 7] = [
     ("home", "4 to 6 nodes, R 3, one replaced", home),
     ("nineteen", "19 nodes, R 3, two changed", nineteen),
     ("full", "32 nodes, R 3 to 8, by lot", full),
     ("worst", "32 nodes, R 8, former far away", worst),
     ("tight", "32 nodes, disks just enough", tight),
     ("ties", "32 nodes, disks all equal", ties),
+    ("ceilings", "32 nodes, low for a third", ceilings),
 ];
 
 /// The times in microseconds, and how many improvements the proved plan took.
@@ -456,12 +457,13 @@ fn once(name: &str) {
     println!("{name}: {what}: {improvements} improvements");
 }
 
-/// Nodes 1, 2, 3 and on with disks of 1 to 4 TB, in so many zones.
+/// Nodes 1, 2, 3 and on with disks of 1 to 4 TB, in so many zones, without ceilings.
 fn nodes(number: u32, zones: u32, r: &mut Random) -> Vec<Node> {
     let node = |id: u32| Node {
         id,
         zone: (id % zones) as u16,
         capacity: disk(r),
+        ceiling: Node::NO_CEILING,
     };
     (1..=number).map(node).collect()
 }
@@ -495,6 +497,7 @@ fn home(r: &mut Random) -> Case {
         id: number + 1,
         zone: before.nodes[2].zone,
         capacity: disk(r),
+        ceiling: Node::NO_CEILING,
     });
     (after, laid_out(&before))
 }
@@ -544,6 +547,18 @@ fn ties(r: &mut Random) -> Case {
     let (mut c, former) = full(r);
     let capacity = disk(r);
     c.nodes.iter_mut().for_each(|node| node.capacity = capacity);
+    (c, former)
+}
+
+/// A full cluster of which each third box may hold half as many copies as it would hold without a
+/// ceiling.
+fn ceilings(r: &mut Random) -> Case {
+    let (mut c, former) = full(r);
+    let layout = laid_out(&c);
+    for node in c.nodes.iter_mut().step_by(3) {
+        let held = layout.iter().filter(|row| row.contains(&node.id));
+        node.ceiling = held.count() as u16 / 2;
+    }
     (c, former)
 }
 

@@ -14,6 +14,7 @@ fn told() -> Result<String, Refused> {
         id,
         zone,
         capacity: 100,
+        ceiling: Node::NO_CEILING,
     };
     // Nodes 1, 2 and 3 held two copies of each of four partitions; node 3 is gone, node 4 is new.
     let rows = [(0, [1, 2]), (1, [1, 3]), (2, [2, 3]), (3, [1, 2])];

@@ -10,7 +10,12 @@ fn main() -> Result<(), Refused> {
 }
 
 fn told() -> Result<String, Refused> {
-    let node = |id, zone, capacity| Node { id, zone, capacity };
+    let node = |id, zone, capacity| Node {
+        id,
+        zone,
+        capacity,
+        ceiling: Node::NO_CEILING,
+    };
     let cluster = Cluster {
         bits: 1,
         replication: 3,

@@ -10,7 +10,12 @@ fn main() -> Result<(), Refused> {
 }
 
 fn told() -> Result<String, Refused> {
-    let node = |id, zone, capacity| Node { id, zone, capacity };
+    let node = |id, zone, capacity| Node {
+        id,
+        zone,
+        capacity,
+        ceiling: Node::NO_CEILING,
+    };
     let mut cluster = Cluster {
         bits: 2,
         replication: 2,
@@ -45,11 +50,11 @@ fn told() -> Result<String, Refused> {
 }
 
 /// Each zone has to hold four partitions. Of 64 MB 60 may be filled, by four of 15 MB; of two such disks and
-/// one of 128 MB, 120 on either side, by four of 30 MB. The third change begins at byte 13 + 11.
+/// one of 128 MB, 120 on either side, by four of 30 MB. The third change begins at byte 15 + 11.
 #[test]
 fn it_runs() {
     let expected = "size 15 MB now, 30 MB with the changes\n\
-                    left out: an id to be removed or resized that is not there, at byte 24 (refused 14)\n\
+                    left out: an id to be removed or resized that is not there, at byte 26 (refused 14)\n\
                     undone: true, size 15 MB again\n";
     assert_eq!(told().unwrap(), expected);
 }

@@ -18,7 +18,8 @@
  *     call them at once.
  *
  * A sixteenth of each disk stays free: a node's usable capacity is its capacity less a sixteenth of it,
- * rounded down (capacity - capacity / 16). Records and answers hold the capacity itself.
+ * rounded down (capacity - capacity / 16). Records and answers hold the capacity itself. A node's ceiling,
+ * 0 to 256, is the most copies that it may hold, whatever its disk takes.
  *
  * docs/FORMATS.md lays down the records and the meaning of each refusal.
  */
@@ -34,9 +35,9 @@ extern "C" {
 
 /* The version of this header and its library; the number grows from each version to the next. */
 #define DEZGHURI_VERSION_MAJOR 0
-#define DEZGHURI_VERSION_MINOR 5
+#define DEZGHURI_VERSION_MINOR 6
 #define DEZGHURI_VERSION_PATCH 0
-#define DEZGHURI_VERSION "0.5.0"
+#define DEZGHURI_VERSION "0.6.0"
 #define DEZGHURI_VERSION_NUMBER \
     (DEZGHURI_VERSION_MAJOR * 1000000 + DEZGHURI_VERSION_MINOR * 1000 + DEZGHURI_VERSION_PATCH)
 
@@ -45,6 +46,7 @@ extern "C" {
 #define DEZGHURI_MOST_PARTITIONS 256
 #define DEZGHURI_MOST_REPLICATION 8
 #define DEZGHURI_MOST_NODES 32
+#define DEZGHURI_MOST_CEILING 256     /* the ceiling of a node that may hold a copy of every partition */
 #define DEZGHURI_ENOUGH_ALLOWANCE 2048 /* this many improvements always finish */
 
 /* Least lengths of lent slices, in elements. */
@@ -52,17 +54,17 @@ extern "C" {
 #define DEZGHURI_LAYOUT_CELLS 2048      /* a former layout or an assignment: 256 rows */
 #define DEZGHURI_SCRATCH_CELLS 16384
 #define DEZGHURI_FIGURES_CELLS 64
-#define DEZGHURI_READ_CLUSTER_ANSWER 102
+#define DEZGHURI_READ_CLUSTER_ANSWER 134
 #define DEZGHURI_READ_LAYOUT_ANSWER 8
 #define DEZGHURI_PLAN_ANSWER 6
 #define DEZGHURI_CHECK_ANSWER 3
 #define DEZGHURI_FIGURES_ANSWER 5
 #define DEZGHURI_WRITE_LAYOUT_ANSWER 2
-#define DEZGHURI_CHANGE_ANSWER 105
-#define DEZGHURI_REVERSE_BYTES 13       /* the longest field of a change */
+#define DEZGHURI_CHANGE_ANSWER 137
+#define DEZGHURI_REVERSE_BYTES 15       /* the longest field of a change */
 
 /* Longest records, in bytes. */
-#define DEZGHURI_CLUSTER_RECORD_BYTES 9900
+#define DEZGHURI_CLUSTER_RECORD_BYTES 9964
 #define DEZGHURI_LAYOUT_RECORD_BYTES 9501
 
 /* Verdicts. */
@@ -74,7 +76,7 @@ extern "C" {
 #define DEZGHURI_CUT 1          /* one or two bytes left, or a field's body cut short */
 #define DEZGHURI_TAG 2          /* a tag that is not allowed next */
 #define DEZGHURI_LENGTH 3       /* a length that is not legal for the tag */
-#define DEZGHURI_RANGE 4        /* a value outside its range */
+#define DEZGHURI_RANGE 4        /* a value outside its range; of a node, id 0 or a ceiling above 256 */
 #define DEZGHURI_ORDER 5        /* ids or partitions that do not rise, or a row that is not the next */
 #define DEZGHURI_NODES 6        /* more than 32 nodes */
 #define DEZGHURI_MISSING 7      /* the record ends before a field or row that it must have */
@@ -82,16 +84,16 @@ extern "C" {
 #define DEZGHURI_NO_LAYOUT 9    /* no layout is valid at size 1 */
 #define DEZGHURI_ROW 10         /* a row that is not R rising ids of the cluster and zeros, or a non-zero row from P on */
 #define DEZGHURI_ZONES 11       /* a row in fewer than Z zones */
-#define DEZGHURI_CAPACITY 12    /* a node with more copies than its usable capacity takes at the size */
+#define DEZGHURI_CAPACITY 12    /* a node with more copies than its usable capacity takes at the size, or than its ceiling */
 #define DEZGHURI_PRESENT 13     /* an id to be added that is there already */
 #define DEZGHURI_ABSENT 14      /* an id to be removed or resized that is not there */
 
 /* Reads a cluster record.
  *
  * former, 2,048 cells: takes the former layout, eight cells to a partition; kept when refused.
- * answer, 102 cells: 0, 1 the byte at which the faulty field begins (high, low 32 bits); 2 bits;
- * 3 replication; 4 redundancy; 5 number of nodes; then for node b its id, zone and capacity at 6 + 3 b,
- * zeros for nodes not in use. Refused, it holds the cluster with no nodes: bits 0, replication 1,
+ * answer, 134 cells: 0, 1 the byte at which the faulty field begins (high, low 32 bits); 2 bits;
+ * 3 replication; 4 redundancy; 5 number of nodes; then for node b its id, zone, capacity and ceiling at
+ * 6 + 4 b, zeros for nodes not in use. Refused, it holds the cluster with no nodes: bits 0, replication 1,
  * redundancy 1.
  * Refusals: 8 (byte 0), then the first fault of 1 to 7 with its byte. */
 uint32_t dezghuri_read_cluster(const uint8_t *record, size_t record_len,
@@ -115,8 +117,8 @@ uint32_t dezghuri_read_layout(const uint8_t *record, size_t record_len,
  * first. Which valid layout a stopped plan is, is not laid down.
  * scratch, 16,384 cells: zeroed on success and with 9; kept with any other refusal.
  * answer, 6 cells: 0, 1 the byte of a refused reading (high, low); 2 size, the most megabytes of a partition
- * for which a layout fits the usable capacities; 3 sent, the copies to be sent: pairs of node and partition
- * in the layout and not in the former one; 4 verdict; 5 improvements.
+ * for which a layout fits the usable capacities and the ceilings; 3 sent, the copies to be sent: pairs of
+ * node and partition in the layout and not in the former one; 4 verdict; 5 improvements.
  * Refusals: 1 to 7 of the reading; then 8, assignment or scratch too short; then 9. */
 uint32_t dezghuri_plan(const uint8_t *record, size_t record_len,
                        uint16_t allowance,
@@ -125,7 +127,7 @@ uint32_t dezghuri_plan(const uint8_t *record, size_t record_len,
                        uint32_t *answer, size_t answer_len);
 
 /* Checks that the assignment is a layout of the record's cluster, valid at the size: so that the copies of a
- * node, each of that size, fit its usable capacity.
+ * node, each of that size, fit its usable capacity, and are no more than its ceiling.
  *
  * assignment, 2,048 cells.
  * answer, 3 cells: 0, 1 the byte of a refused reading (high, low); 2 the partition with 10 and 11, the node
@@ -143,7 +145,7 @@ uint32_t dezghuri_check(const uint8_t *record, size_t record_len,
  * kept when refused.
  * answer, 5 cells: 0, 1 the byte of a refused reading (high, low); 2 the place, as dezghuri_check; 3, 4 the
  * size to hope for, the sum of the usable capacities over replication times partitions, rounded down (high,
- * low).
+ * low), whatever the ceilings.
  * Refusals: as dezghuri_check, with 8 also for short figures. */
 uint32_t dezghuri_figures(const uint8_t *record, size_t record_len,
                           const uint32_t *assignment, size_t assignment_len,
@@ -178,15 +180,16 @@ uint32_t dezghuri_write_layout(uint32_t bits, uint32_t replication, uint32_t siz
  * record. The record's former rows play no part.
  *
  * changes: the change record, one or more fields; the byte answered is where the next one begins.
- * reverse, 13 bytes: takes the field of the change that reverses this one, zeros past its length; kept when
+ * reverse, 15 bytes: takes the field of the change that reverses this one, zeros past its length; kept when
  * refused. Made in backward order, the reverses bring back the cluster.
- * answer, 105 cells: 0, 1 the byte of a refused reading (high, low); 2, 3 the byte after the change (high,
+ * answer, 137 cells: 0, 1 the byte of a refused reading (high, low); 2, 3 the byte after the change (high,
  * low); 4 the length of the reverse; 5 bits; 6 replication; 7 redundancy; 8 number of nodes; then for node b
- * its id, zone and capacity at 9 + 3 b, zeros for nodes not in use. Refused, the byte in 2, 3 is `at`, the
- * length is 0, and the cluster is as it was read; with a refused reading it is the one with no nodes, as
- * dezghuri_read_cluster.
+ * its id, zone, capacity and ceiling at 9 + 4 b, zeros for nodes not in use. Refused, the byte in 2, 3 is
+ * `at`, the length is 0, and the cluster is as it was read; with a refused reading it is the one with no
+ * nodes, as dezghuri_read_cluster.
  * Refusals: 1 to 7 of the reading; then 7, `at` at or past the end of changes; 1, 2 or 3 of the field; 4, id
- * 0; 13, an id to be added that is there; 14, an id to be removed or resized that is not; 6, a 33rd node. */
+ * 0 or a ceiling above 256; 13, an id to be added that is there; 14, an id to be removed or resized that is
+ * not; 6, a 33rd node. */
 uint32_t dezghuri_change(const uint8_t *record, size_t record_len,
                          const uint8_t *changes, size_t changes_len,
                          size_t at,

@@ -11,7 +11,7 @@ mod tag {
     pub const RESIZE: u8 = 22;
 }
 
-/// A change of a cluster's nodes.
+/// A change of a cluster's nodes. A node gets another zone or ceiling by being removed and added anew.
 ///
 /// Any values may stand here; who makes the change refuses what it can't use.
 #[derive(Clone, Copy, Debug, PartialEq, Eq, Hash)]
@@ -20,7 +20,7 @@ pub enum Change {
     Add(Node),
     /// The node of this id is removed.
     Remove(u32),
-    /// The node of this id has another capacity from now on.
+    /// The node of this id has another capacity from now on; zone and ceiling stay as they are.
     Resize {
         /// Its id.
         id: u32,
@@ -41,9 +41,12 @@ impl Change {
     /// The bytes of the change's field.
     ///
     /// ```
-    /// use dezghuri::Change;
+    /// use dezghuri::{Change, Node};
     ///
     /// assert_eq!(Change::Remove(258).to_field(), [21, 0, 4, 0, 0, 1, 2]);
+    /// let node = Node { id: 7, zone: 1, capacity: 500, ceiling: 40 };
+    /// let added = [20, 0, 12, 0, 0, 0, 7, 0, 1, 0, 0, 1, 244, 0, 40];
+    /// assert_eq!(Change::Add(node).to_field(), added);
     /// ```
     pub fn to_field(&self) -> Vec<u8> {
         match self {
@@ -64,13 +67,16 @@ impl Change {
     /// let grown = Change::Resize { id: 7, capacity: 4000 };
     /// assert_eq!(Change::from_field(&grown.to_field()), Some(grown));
     /// assert_eq!(Change::from_field(&[21, 0, 4, 0, 0, 1]), None);
+    /// // A node of before version 0.6.0, without a ceiling.
+    /// assert_eq!(Change::from_field(&[20, 0, 10, 0, 0, 0, 7, 0, 1, 0, 0, 1, 244]), None);
     /// ```
     pub fn from_field(bytes: &[u8]) -> Option<Change> {
         match *bytes {
-            [tag::ADD, 0, 10, a, b, c, d, y, z, k, l, m, n] => Some(Change::Add(Node {
+            [tag::ADD, 0, 12, a, b, c, d, y, z, k, l, m, n, g, h] => Some(Change::Add(Node {
                 id: u32::from_be_bytes([a, b, c, d]),
                 zone: u16::from_be_bytes([y, z]),
                 capacity: u32::from_be_bytes([k, l, m, n]),
+                ceiling: u16::from_be_bytes([g, h]),
             })),
             [tag::REMOVE, 0, 4, a, b, c, d] => {
                 Some(Change::Remove(u32::from_be_bytes([a, b, c, d])))
@@ -121,7 +127,7 @@ impl Cluster {
     /// ```
     /// use dezghuri::{Change, Cluster, Node};
     ///
-    /// let node = |id, capacity| Node { id, zone: 1, capacity };
+    /// let node = |id, capacity| Node { id, zone: 1, capacity, ceiling: Node::NO_CEILING };
     /// let mut cluster = Cluster { nodes: vec![node(1, 100), node(5, 70)], ..Cluster::default() };
     /// let before = cluster.clone();
     ///
@@ -165,7 +171,7 @@ impl Cluster {
     /// ```
     /// use dezghuri::{Change, Cluster, Node, Place, Refusal};
     ///
-    /// let node = |id, capacity| Node { id, zone: 1, capacity };
+    /// let node = |id, capacity| Node { id, zone: 1, capacity, ceiling: Node::NO_CEILING };
     /// let mut cluster = Cluster { nodes: vec![node(1, 100)], ..Cluster::default() };
     /// let before = cluster.clone();
     ///
@@ -222,11 +228,11 @@ mod tests {
     use crate::{Layout, Place, Refusal};
 
     fn node(id: u32) -> Node {
-        let capacity = 100 * id;
         Node {
             id,
             zone: 65_535,
-            capacity,
+            capacity: 100 * id,
+            ceiling: 256 - id as u16,
         }
     }
 
@@ -257,13 +263,14 @@ mod tests {
             id: 70_000,
             zone: 258,
             capacity: u32::MAX,
+            ceiling: 256,
         });
         let resize = Change::Resize {
             id: u32::MAX,
             capacity: 1,
         };
         let fields = [
-            &[20, 0, 10, 0, 1, 17, 112, 1, 2, 255, 255, 255, 255][..],
+            &[20, 0, 12, 0, 1, 17, 112, 1, 2, 255, 255, 255, 255, 1, 0][..],
             &[21, 0, 4, 0, 0, 0, 9],
             &[22, 0, 8, 255, 255, 255, 255, 0, 0, 0, 1],
         ];
@@ -293,15 +300,34 @@ mod tests {
     }
 
     #[test]
+    fn a_resized_node_keeps_its_ceiling() {
+        let mut cluster = cluster();
+        let resize = Change::Resize { id: 4, capacity: 1 };
+        cluster.change(&resize.to_field(), 0).unwrap();
+        let resized = Node {
+            capacity: 1,
+            ..node(4)
+        };
+        assert_eq!(cluster.nodes, [node(2), resized, node(6)]);
+    }
+
+    #[test]
     fn a_refused_change_alters_nothing_and_is_told_with_its_byte() {
         let absent = Change::Resize { id: 3, capacity: 1 };
+        let high = |id| Node {
+            ceiling: 257,
+            ..node(id)
+        };
         let cases = [
             (vec![], Refusal::Missing),
             (vec![20, 0], Refusal::Cut),
             (node(3).body(), Refusal::Tag),
             (vec![21, 0, 5], Refusal::Length),
             (vec![21, 0, 4, 0, 0, 0], Refusal::Cut),
+            (vec![20, 0, 10], Refusal::Length),
             (Change::Remove(0).to_field(), Refusal::Range),
+            (Change::Add(high(3)).to_field(), Refusal::Range),
+            (Change::Add(high(4)).to_field(), Refusal::Range),
             (Change::Add(node(4)).to_field(), Refusal::Present),
             (Change::Remove(5).to_field(), Refusal::Absent),
             (absent.to_field(), Refusal::Absent),
@@ -354,6 +380,10 @@ mod tests {
             (Refusal::Range, Place::Redundancy)
         );
         assert_eq!(fault(|c| c.nodes[1].id = 0), (Refusal::Range, second(0)));
+        assert_eq!(
+            fault(|c| c.nodes[1].ceiling = 257),
+            (Refusal::Range, second(4))
+        );
         assert_eq!(fault(|c| c.nodes[1].id = 2), (Refusal::Order, second(2)));
         let many = |c: &mut Cluster| c.nodes = (1..=33).map(node).collect();
         let last = Place::NodeAt { index: 32, id: 33 };
@@ -378,7 +408,7 @@ mod tests {
         let changes = [Change::Add(node(3)), Change::Remove(2), Change::Remove(2)];
         let staged = cluster.change_all(&Change::record(&changes));
         let refused = staged.refused.expect("node 2 is gone");
-        assert_eq!(refused.place, Some(Place::Byte(20)));
+        assert_eq!(refused.place, Some(Place::Byte(22)));
         assert_eq!(cluster.nodes, [3, 4, 6].map(node));
         let undo = [Change::Add(node(2)), Change::Remove(3)];
         assert_eq!(staged.undo, Change::record(&undo));

@@ -13,7 +13,7 @@ pub struct Figures {
     /// Copies held in the zone of each node, in the order of the nodes.
     pub zone_copies: Vec<u32>,
     /// The sum of the usable capacities ([`Node::usable`](crate::Node::usable)) over all copies,
-    /// rounded down: the size to hope for.
+    /// rounded down: the size to hope for. Ceilings play no part in it.
     pub hope: u64,
 }
 
@@ -65,7 +65,12 @@ mod tests {
 
     /// Examples K and M of the paper.
     fn cluster() -> Cluster {
-        let node = |id, zone, capacity| Node { id, zone, capacity };
+        let node = |id, zone, capacity| Node {
+            id,
+            zone,
+            capacity,
+            ceiling: Node::NO_CEILING,
+        };
         Cluster {
             bits: 0,
             replication: 3,
@@ -104,6 +109,21 @@ mod tests {
     }
 
     #[test]
+    fn a_ceiling_that_is_passed_is_told_with_its_node() {
+        let checked = |ceiling| {
+            let mut cluster = cluster();
+            cluster.nodes[1].ceiling = ceiling;
+            cluster.check(&row(&[1, 2, 4]), 1)
+        };
+        let refused = Refused {
+            refusal: Refusal::Capacity,
+            place: Some(Place::Node(2)),
+        };
+        assert_eq!(checked(0), Err(refused));
+        assert_eq!(checked(1), Ok(()));
+    }
+
+    #[test]
     fn a_fault_of_the_cluster_comes_before_a_size_of_0() {
         let mut bad = cluster();
         bad.bits = 9;
@@ -117,5 +137,8 @@ mod tests {
         assert_eq!(figures.copies, [1, 1, 0, 1]);
         assert_eq!(figures.zone_copies, [2, 2, 2, 1]);
         assert_eq!(figures.hope, 28 / 3);
+        let mut low = cluster();
+        low.nodes[2].ceiling = 0;
+        assert_eq!(low.figures(&row(&[1, 2, 4]), 1), Ok(figures));
     }
 }

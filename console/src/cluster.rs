@@ -13,6 +13,8 @@ pub struct Node {
     pub zone: u16,
     /// Disk space in megabytes, of which copies may fill [`Node::usable`].
     pub capacity: u32,
+    /// The most copies that it may hold: 0 to 256, which is [`Node::NO_CEILING`].
+    pub ceiling: u16,
 }
 
 /// A cluster with its former layout.
@@ -148,36 +150,41 @@ impl TryFrom<&[u8]> for Cluster {
 }
 
 impl Node {
+    /// The ceiling of a node that may hold a copy of every partition: there are 256 at most.
+    pub const NO_CEILING: u16 = 256;
+
     /// The megabytes that copies may fill: the capacity less a sixteenth of it, rounded down, since
     /// boxes filled to the brim slow down when they tidy up.
     ///
     /// ```
     /// use dezghuri::Node;
     ///
-    /// let usable = |capacity| Node { id: 1, zone: 1, capacity }.usable();
+    /// let usable = |capacity| Node { id: 1, zone: 1, capacity, ceiling: Node::NO_CEILING }.usable();
     /// assert_eq!([15, 16, 100].map(usable), [15, 15, 94]);
     /// ```
     pub fn usable(&self) -> u32 {
         self.capacity - self.capacity / 16
     }
 
-    /// The body of a field that holds this node: id, zone and capacity.
+    /// The body of a field that holds this node: id, zone, capacity and ceiling.
     pub(crate) fn body(&self) -> Vec<u8> {
         let id = self.id.to_be_bytes();
         let zone = self.zone.to_be_bytes();
         let capacity = self.capacity.to_be_bytes();
-        [&id[..], &zone, &capacity].concat()
+        let ceiling = self.ceiling.to_be_bytes();
+        [&id[..], &zone, &capacity, &ceiling].concat()
     }
 }
 
-/// So many nodes, each of three cells of an answer: id, zone and capacity.
+/// So many nodes, each of four cells of an answer: id, zone, capacity and ceiling.
 pub(crate) fn nodes(number: u32, cells: &[u32]) -> Vec<Node> {
     let node = |cells: &[u32]| Node {
         id: cells[0],
         zone: narrow(cells[1]),
         capacity: cells[2],
+        ceiling: narrow(cells[3]),
     };
-    let nodes = cells.chunks(3).take(number as usize);
+    let nodes = cells.chunks(4).take(number as usize);
     nodes.map(node).collect()
 }
 
@@ -204,7 +211,12 @@ mod tests {
     use crate::{Refusal, ENOUGH};
 
     fn sample() -> Cluster {
-        let node = |id, zone, capacity| Node { id, zone, capacity };
+        let node = |id, zone, capacity, ceiling| Node {
+            id,
+            zone,
+            capacity,
+            ceiling,
+        };
         let mut former = Layout::default();
         former.set_row(0, &[1, 9]);
         former.set_row(3, &[70_000]);
@@ -212,7 +224,7 @@ mod tests {
             bits: 2,
             replication: 2,
             redundancy: 1,
-            nodes: vec![node(1, 65_535, 0), node(70_000, 0, u32::MAX)],
+            nodes: vec![node(1, 65_535, 0, 256), node(70_000, 0, u32::MAX, 7)],
             former,
         }
     }
@@ -221,8 +233,8 @@ mod tests {
     fn a_record_holds_the_fields_in_order() {
         let expected = [
             &[1, 0, 1, 2, 2, 0, 1, 2, 3, 0, 1, 1][..],
-            &[4, 0, 10, 0, 0, 0, 1, 255, 255, 0, 0, 0, 0],
-            &[4, 0, 10, 0, 1, 17, 112, 0, 0, 255, 255, 255, 255],
+            &[4, 0, 12, 0, 0, 0, 1, 255, 255, 0, 0, 0, 0, 1, 0],
+            &[4, 0, 12, 0, 1, 17, 112, 0, 0, 255, 255, 255, 255, 0, 7],
             &[5, 0, 10, 0, 0, 0, 0, 0, 1, 0, 0, 0, 9],
             &[5, 0, 6, 0, 3, 0, 1, 17, 112],
         ];
@@ -238,11 +250,28 @@ mod tests {
 
     #[test]
     fn a_bad_value_is_refused_with_its_byte() {
-        let mut cluster = sample();
-        cluster.nodes[1].id = 0;
-        let refused = Cluster::from_record(&cluster.to_record()).unwrap_err();
-        assert_eq!(refused.refusal, Refusal::Range);
-        assert_eq!(refused.place, Some(Place::Byte(25)));
+        let refused = |change: fn(&mut Node)| {
+            let mut cluster = sample();
+            change(&mut cluster.nodes[1]);
+            Cluster::from_record(&cluster.to_record()).unwrap_err()
+        };
+        for refused in [
+            refused(|node| node.id = 0),
+            refused(|node| node.ceiling = 257),
+        ] {
+            assert_eq!(refused.refusal, Refusal::Range);
+            assert_eq!(refused.place, Some(Place::Byte(27)));
+        }
+    }
+
+    /// A record of before version 0.6.0, whose nodes have no ceilings.
+    #[test]
+    fn a_node_of_ten_bytes_is_refused() {
+        let head = [1, 0, 1, 0, 2, 0, 1, 1, 3, 0, 1, 1];
+        let node = [4, 0, 10, 0, 0, 0, 1, 0, 1, 0, 0, 0, 9];
+        let refused = Cluster::from_record(&[&head[..], &node].concat()).unwrap_err();
+        assert_eq!(refused.refusal, Refusal::Length);
+        assert_eq!(refused.place, Some(Place::Byte(12)));
     }
 
     #[test]
@@ -284,6 +313,10 @@ mod tests {
             (Refusal::Range, Place::Redundancy)
         );
         assert_eq!(fault(|c| c.nodes[1].id = 0), (Refusal::Range, second(0)));
+        assert_eq!(
+            fault(|c| c.nodes[1].ceiling = 257),
+            (Refusal::Range, second(70_000))
+        );
         assert_eq!(fault(|c| c.nodes[1].id = 1), (Refusal::Order, second(1)));
         assert_eq!(
             fault(|c| c.former.set_row(1, &[5, 5])),

@@ -5,8 +5,8 @@ use crate::cluster::{Cluster, Node};
 use crate::layout::Layout;
 use std::collections::BTreeMap;
 
-/// What the disks of a cluster can take at a size, a sixteenth of each kept free, counted in the
-/// two ways that matter.
+/// What the nodes of a cluster can take at a size, a sixteenth of each disk kept free and no node above
+/// its ceiling, counted in the two ways that matter.
 ///
 /// A layout valid at the size exists just when both counts are enough: that is a theorem, and the
 /// proved planner finds the size by it. The counting here is plain Rust.
@@ -14,12 +14,16 @@ use std::collections::BTreeMap;
 pub struct Counts {
     /// Megabytes of a partition.
     pub size: u64,
-    /// Copies that the nodes can take, each partition once at most on each node.
+    /// Copies that the nodes can take, each partition once at most on each node, and no more than its
+    /// ceiling.
     pub room: u64,
     /// Copies that are wanted of all partitions together.
     pub wanted: u64,
     /// Nodes, by id, that have room for every partition: a larger disk of theirs changes nothing.
     pub whole_nodes: Vec<u32>,
+    /// Nodes, by id, whose disks have room for more copies than their ceilings allow: a larger disk of
+    /// theirs changes nothing either.
+    pub ceiling_nodes: Vec<u32>,
     /// Pairs of a partition and a zone that can have a copy of it.
     pub zone_room: u64,
     /// Pairs that are wanted of all partitions together.
@@ -47,6 +51,8 @@ impl Counts {
 #[derive(Clone, Copy, Debug, PartialEq, Eq, Hash)]
 #[non_exhaustive]
 pub enum Unused {
+    /// It may hold none: its ceiling is 0.
+    Ceiling,
     /// What may be filled of its disk is smaller than one partition of the size.
     Small,
     /// Its zone holds every partition already, and none may lie there twice, since as many zones
@@ -62,7 +68,7 @@ impl Cluster {
     /// ```
     /// use dezghuri::{Cluster, Node};
     ///
-    /// let node = |id, zone, capacity| Node { id, zone, capacity };
+    /// let node = |id, zone, capacity| Node { id, zone, capacity, ceiling: Node::NO_CEILING };
     /// let nodes = vec![node(1, 1, 90), node(2, 2, 32), node(3, 2, 10)];
     /// let cluster = Cluster { replication: 2, redundancy: 2, nodes, ..Cluster::default() };
     /// let size = cluster.plan(dezghuri::ENOUGH)?.size;
@@ -75,7 +81,10 @@ impl Cluster {
     pub fn counts(&self, size: u64) -> Counts {
         let partitions = self.partitions();
         let most = |node: &Node| most_copies(node, partitions, size);
-        let whole = self.nodes.iter().filter(|node| most(node) == partitions);
+        let ids_where = |is_one: &dyn Fn(&Node) -> bool| {
+            let nodes = self.nodes.iter().filter(|node| is_one(node));
+            nodes.map(|node| node.id).collect()
+        };
         let mut zones: BTreeMap<u16, u64> = BTreeMap::new();
         for node in &self.nodes {
             *zones.entry(node.zone).or_default() += most(node);
@@ -89,7 +98,8 @@ impl Cluster {
             size,
             room: zones.values().sum(),
             wanted: u64::from(self.replication) * partitions,
-            whole_nodes: whole.map(|node| node.id).collect(),
+            whole_nodes: ids_where(&|node| most(node) == partitions),
+            ceiling_nodes: ids_where(&|node| most(node) < disk_room(node, partitions, size)),
             zone_room: zones.values().map(|room| partitions.min(*room)).sum(),
             zone_wanted: u64::from(self.redundancy) * partitions,
             whole_zones: zones_where(true),
@@ -110,7 +120,9 @@ impl Cluster {
             mates.map(held).sum::<u64>()
         };
         let reason = |node: &Node| {
-            if most_copies(node, partitions, size.into()) == 0 {
+            if node.ceiling == 0 {
+                Unused::Ceiling
+            } else if most_copies(node, partitions, size.into()) == 0 {
                 Unused::Small
             } else if self.replication == self.redundancy && in_zone(node.zone) == partitions {
                 Unused::ZoneWhole
@@ -130,6 +142,11 @@ impl Cluster {
 
 /// The most copies that a node can hold at a size.
 fn most_copies(node: &Node, partitions: u64, size: u64) -> u64 {
+    disk_room(node, partitions, size).min(node.ceiling.into())
+}
+
+/// The copies that its disk has room for, each partition once at most.
+fn disk_room(node: &Node, partitions: u64, size: u64) -> u64 {
     let whole = u64::from(node.usable()).checked_div(size);
     whole.map_or(partitions, |copies| copies.min(partitions))
 }
@@ -140,7 +157,12 @@ mod tests {
 
     fn cluster(numbers: [u8; 3], nodes: &[(u32, u16, u32)]) -> Cluster {
         let [bits, replication, redundancy] = numbers;
-        let node = |&(id, zone, capacity): &(u32, u16, u32)| Node { id, zone, capacity };
+        let node = |&(id, zone, capacity): &(u32, u16, u32)| Node {
+            id,
+            zone,
+            capacity,
+            ceiling: Node::NO_CEILING,
+        };
         Cluster {
             bits,
             replication,
@@ -166,6 +188,28 @@ mod tests {
         assert_eq!((more.whole_zones, more.part_zones), (vec![1], vec![2]));
     }
 
+    /// Node 1 of example A may hold one copy, so there is room for five at every size up to 23 MB, and
+    /// a larger disk of its own changes nothing; node 2 is at its ceiling, and holds every partition.
+    #[test]
+    fn ceilings_are_counted() {
+        let mut a = cluster([1, 3, 2], &[(1, 1, 100), (2, 1, 70), (3, 2, 50)]);
+        (a.nodes[0].ceiling, a.nodes[1].ceiling) = (1, 2);
+        let counts = a.counts(1);
+        assert_eq!((counts.room, counts.zone_room), (5, 4));
+        assert!(counts.lack_room() && !counts.lack_zones());
+        assert_eq!(
+            (counts.whole_nodes, counts.ceiling_nodes),
+            (vec![2, 3], vec![1])
+        );
+        // Its disk has room for one at this size, so it is not the ceiling that binds.
+        assert_eq!(a.counts(60).ceiling_nodes, []);
+        a.nodes[2].ceiling = 0;
+        let counts = a.counts(0);
+        assert_eq!((counts.room, counts.zone_room), (3, 2));
+        assert_eq!(counts.ceiling_nodes, [1, 3]);
+        assert_eq!((counts.whole_zones, counts.part_zones), (vec![1], vec![2]));
+    }
+
     #[test]
     fn the_ends_of_the_range_are_counted_too() {
         let full = cluster([8, 1, 1], &[(1, 1, u32::MAX)]);
@@ -189,10 +233,17 @@ mod tests {
             two_zones.unused(&layout, 16),
             reasons([Unused::Small, Unused::ZoneWhole, Unused::Spare])
         );
-        let one_zone = cluster([1, 2, 1], &nodes);
+        let mut one_zone = cluster([1, 2, 1], &nodes);
         assert_eq!(
             one_zone.unused(&layout, 16),
             reasons([Unused::Small, Unused::Spare, Unused::Spare])
+        );
+        for node in [1, 3] {
+            one_zone.nodes[node].ceiling = 0;
+        }
+        assert_eq!(
+            one_zone.unused(&layout, 16),
+            reasons([Unused::Ceiling, Unused::Ceiling, Unused::Spare])
         );
     }
 }

@@ -156,6 +156,7 @@ mod tests {
             id,
             zone: 0,
             capacity: 0,
+            ceiling: Node::NO_CEILING,
         };
         let nodes = [node(1), node(2), node(3)];
         let (former, new) = layouts();

@@ -12,7 +12,7 @@ pub const SCRATCH_CELLS: usize = 16384;
 /// Least length of the figures.
 pub const FIGURES_CELLS: usize = 64;
 /// Least length of [`read_cluster`]'s answer.
-pub const READ_CLUSTER_ANSWER: usize = 102;
+pub const READ_CLUSTER_ANSWER: usize = 134;
 /// Least length of [`read_layout`]'s answer.
 pub const READ_LAYOUT_ANSWER: usize = 8;
 /// Least length of [`plan`]'s answer.
@@ -24,11 +24,11 @@ pub const FIGURES_ANSWER: usize = 5;
 /// Least length of [`write_layout`]'s answer.
 pub const WRITE_LAYOUT_ANSWER: usize = 2;
 /// Least length of [`change`]'s answer.
-pub const CHANGE_ANSWER: usize = 105;
+pub const CHANGE_ANSWER: usize = 137;
 /// Least length of [`change`]'s reverse: that of the longest field of a change.
-pub const REVERSE_BYTES: usize = 13;
+pub const REVERSE_BYTES: usize = 15;
 /// Length of the longest cluster record.
-pub const CLUSTER_RECORD_BYTES: usize = 9900;
+pub const CLUSTER_RECORD_BYTES: usize = 9964;
 /// Length of the longest layout record.
 pub const LAYOUT_RECORD_BYTES: usize = 9501;
 

@@ -1,9 +1,10 @@
 //! Layouts of a cluster of storage boxes, planned by proved functions.
 //!
-//! A [`Cluster`] has nodes (the boxes), each in a zone and with a capacity in megabytes; it wants
-//! every partition of its data kept as so many copies, on different nodes and in so many zones at
-//! least. [`Cluster::plan`] answers which nodes hold which partition: first the largest size of a
-//! partition that the disks allow, a sixteenth of each kept free ([`Node::usable`]), then, among
+//! A [`Cluster`] has nodes (the boxes), each in a zone, with a capacity in megabytes and with a ceiling,
+//! the most copies that it may hold ([`Node::NO_CEILING`] where any number will do); it wants every
+//! partition of its data kept as so many copies, on different nodes and in so many zones at least.
+//! [`Cluster::plan`] answers which nodes hold which partition: first the largest size of a partition
+//! that the disks and ceilings allow, a sixteenth of each disk kept free ([`Node::usable`]), then, among
 //! all layouts of that size, the first of those that lie nearest to the former layout: none needs
 //! fewer copies to be sent ([`Plan::sent`]), and of those that need as few it comes before all others,
 //! rows compared from partition 0 on and ids from the left, the smaller first.
@@ -29,9 +30,9 @@
 //!     replication: 3,
 //!     redundancy: 2,
 //!     nodes: vec![
-//!         Node { id: 1, zone: 1, capacity: 100 },
-//!         Node { id: 2, zone: 1, capacity: 70 },
-//!         Node { id: 3, zone: 2, capacity: 50 },
+//!         Node { id: 1, zone: 1, capacity: 100, ceiling: Node::NO_CEILING },
+//!         Node { id: 2, zone: 1, capacity: 70, ceiling: Node::NO_CEILING },
+//!         Node { id: 3, zone: 2, capacity: 50, ceiling: Node::NO_CEILING },
 //!     ],
 //!     former: Layout::default(),
 //! };

@@ -29,7 +29,7 @@ impl Cluster {
     /// let mut former = Layout::default();
     /// former.set_row(0, &[1, 2]);
     /// former.set_row(1, &[2, 3]);
-    /// let nodes = vec![Node { id: 3, zone: 1, capacity: 50 }];
+    /// let nodes = vec![Node { id: 3, zone: 1, capacity: 50, ceiling: Node::NO_CEILING }];
     /// let cluster = Cluster { bits: 1, replication: 1, redundancy: 1, nodes, former };
     /// assert_eq!(cluster.losses().none_left, [0]);
     /// assert_eq!(cluster.losses().one_left, [1]);
@@ -56,6 +56,7 @@ mod tests {
             id: *id,
             zone: 1,
             capacity: 0,
+            ceiling: Node::NO_CEILING,
         };
         let mut former = Layout::default();
         for (partition, ids) in (0..).zip(rows) {

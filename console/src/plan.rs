@@ -153,6 +153,7 @@ mod tests {
             id,
             zone: 1,
             capacity,
+            ceiling: Node::NO_CEILING,
         };
         let mut former = Layout::default();
         former.set_row(0, &[2]);
@@ -173,6 +174,19 @@ mod tests {
         assert_eq!(plan.verdict, Verdict::Finished);
         assert_eq!(plan.layout.row(0), [1]);
         assert_eq!(plan.layout.row(1), [1]);
+    }
+
+    #[test]
+    fn no_node_holds_more_than_its_ceiling() {
+        let mut cluster = moving();
+        cluster.nodes[0].ceiling = 1;
+        let plan = cluster.plan(ENOUGH).unwrap();
+        assert_eq!((plan.size, plan.sent), (4, 1));
+        assert_eq!(plan.layout.row(0), [1]);
+        assert_eq!(plan.layout.row(1), [2]);
+        cluster.nodes[1].ceiling = 0;
+        let refused = cluster.plan(ENOUGH).unwrap_err();
+        assert_eq!((refused.refusal, refused.place), (Refusal::NoLayout, None));
     }
 
     #[test]

@@ -14,7 +14,7 @@ pub enum Refusal {
     Tag = 2,
     /// 3: a field's length is not legal for its tag.
     Length = 3,
-    /// 4: a number lies outside its range.
+    /// 4: a number lies outside its range; of a node, its id is 0 or its ceiling above 256.
     Range = 4,
     /// 5: ids or partitions do not rise, or a row is not the next.
     Order = 5,
@@ -24,14 +24,15 @@ pub enum Refusal {
     Missing = 7,
     /// 8: a lent slice is too short.
     Short = 8,
-    /// 9: no layout is valid at size 1.
+    /// 9: no layout is valid at size 1, for want of disk space, of zones, or of copies that the nodes
+    /// may hold.
     NoLayout = 9,
     /// 10: a row does not name so many different nodes of the cluster.
     Row = 10,
     /// 11: a row lies in too few zones.
     Zones = 11,
-    /// 12: a node holds more copies than its usable capacity takes
-    /// ([`Node::usable`](crate::Node::usable)).
+    /// 12: a node holds more copies than it can: than its usable capacity takes
+    /// ([`Node::usable`](crate::Node::usable)), or than its ceiling allows.
     Capacity = 12,
     /// 13: a node is to be added whose id is there already.
     Present = 13,
@@ -66,7 +67,7 @@ const MEANINGS: [(Refusal, &str); 14] = [
     (Refusal::Zones, "a row in fewer zones than wanted"),
     (
         Refusal::Capacity,
-        "a node with more copies than its usable capacity takes at the size",
+        "a node with more copies than its usable capacity takes at the size, or than its ceiling",
     ),
     (Refusal::Present, "an id to be added that is there already"),
     (
@@ -142,7 +143,8 @@ pub enum Place {
     NodeAt {
         /// Its place among the nodes, from 0 on.
         index: usize,
-        /// Its id, which may be what is at fault.
+        /// Its id, which may be what is at fault. Where it is not 0, and the refusal is
+        /// [`Refusal::Range`], the ceiling is above 256.
         id: u32,
     },
     /// The partition of a faulty row of a cluster's former layout.
@@ -182,6 +184,9 @@ impl fmt::Display for Refused {
         write!(f, "{}", self.refusal)?;
         if let Some(place) = self.place {
             write!(f, ", at {place}")?;
+        }
+        if let (Refusal::Range, Some(Place::NodeAt { id: 1.., .. })) = (self.refusal, self.place) {
+            f.write_str(", whose ceiling is above 256")?;
         }
         write!(f, " (refused {})", self.refusal.number())
     }
@@ -241,6 +246,11 @@ mod tests {
         assert_eq!(zones.place, Some(Place::Partition(7)));
         let full = judge(12, Some(0), Some(7)).unwrap_err();
         assert_eq!(full.place, Some(Place::Node(7)));
+        assert_eq!(
+            full.to_string(),
+            "a node with more copies than its usable capacity takes at the size, or than its ceiling, \
+             at node 7 (refused 12)"
+        );
         let present = judge(13, Some(20), None).unwrap_err();
         assert_eq!(
             present.to_string(),
@@ -265,6 +275,18 @@ mod tests {
             refused.to_string(),
             "ids or partitions that do not rise, or a row that is not the next, at nodes[2], id 7 \
              (refused 5)"
+        );
+        let of_range = |id| Refused {
+            refusal: Refusal::Range,
+            place: Some(Place::NodeAt { index: 2, id }),
+        };
+        assert_eq!(
+            of_range(0).to_string(),
+            "a value outside its range, at nodes[2], id 0 (refused 4)"
+        );
+        assert_eq!(
+            of_range(7).to_string(),
+            "a value outside its range, at nodes[2], id 7, whose ceiling is above 256 (refused 4)"
         );
         let names = [Place::Bits, Place::Replication, Place::Redundancy];
         assert_eq!(

@@ -1,6 +1,6 @@
 //! The header as a C program uses it.
 
-use dezghuri::{ffi, Refusal, ENOUGH};
+use dezghuri::{ffi, Node, Refusal, ENOUGH};
 use std::io::Write;
 use std::path::Path;
 use std::process::Command;
@@ -77,6 +77,7 @@ fn the_header_has_the_numbers_of_the_library() {
         ("CLUSTER_RECORD_BYTES", ffi::CLUSTER_RECORD_BYTES),
         ("LAYOUT_RECORD_BYTES", ffi::LAYOUT_RECORD_BYTES),
         ("ENOUGH_ALLOWANCE", usize::from(ENOUGH)),
+        ("MOST_CEILING", usize::from(Node::NO_CEILING)),
     ];
     for (name, length) in lengths {
         assert_eq!(defined(&header, name) as usize, length, "{name}");

@@ -1,6 +1,6 @@
 #!/bin/sh
-# Writes the records of this folder, byte by byte as document 01 lays them down, and the expected output of the largest one. The folder's
-# README says what each record holds and why its output is what it is.
+# Writes the records of this folder, byte by byte as document 01 and change request 2026-05 lay them down, and the expected output of the
+# largest one. The folder's README says what each record holds and why its output is what it is.
 set -eu
 cd "$(dirname "$0")"
 
@@ -11,9 +11,9 @@ put2() { put $(($1 / 256)) $(($1 % 256)); }
 put4() { put $(($1 / 16777216)) $(($1 / 65536 % 256)) $(($1 / 256 % 256)) $(($1 % 256)); }
 write() { printf "$bytes" >>"$record"; bytes=; }
 
-# cluster NAME BITS REPLICATION REDUNDANCY begins a record; node ID ZONE CAPACITY and row PARTITION ID.. add a field.
+# cluster NAME BITS REPLICATION REDUNDANCY begins a record; node ID ZONE CAPACITY [CEILING] and row PARTITION ID.. add a field.
 cluster() { record=$1.record; : >"$record"; put 1 0 1 "$2" 2 0 1 "$3" 3 0 1 "$4"; write; }
-node() { put 4 0 10; put4 "$1"; put2 "$2"; put4 "$3"; write; }
+node() { put 4 0 12; put4 "$1"; put2 "$2"; put4 "$3"; put2 "${4-256}"; write; }
 row() { put 5 0 $((2 + 4 * ($# - 1))); put2 "$1"; shift; for id; do put4 "$id"; done; write; }
 
 cluster A 1 3 2
@@ -31,6 +31,17 @@ row 0 2; row 1 2
 cluster K 0 3 2
 node 1 1 9; node 2 1 9; node 3 1 9; node 4 2 1
 row 0 1 2 3
+
+cluster ceiling 1 1 1
+node 1 1 100 1; node 2 2 10
+row 0 1; row 1 1
+
+# Example A with nodes of ten bytes, as it was before they had ceilings.
+cluster ten-bytes 1 3 2
+for node in '1 1 100' '2 1 70' '3 2 50'; do
+    set -- $node
+    put 4 0 10; put4 "$1"; put2 "$2"; put4 "$3"; write
+done
 
 : >empty.record
 printf '\001' >lone-byte.record

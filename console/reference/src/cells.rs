@@ -53,7 +53,7 @@ pub fn check(c: &Cluster, cells: &[u32], size: u32) -> (u32, u32) {
             _ => return (10, p as u32),
         }
     }
-    let is_over = |n: &&Node| copies(cells, n.id) * size as u64 > n.usable() as u64;
+    let is_over = |n: &&Node| !n.takes(copies(cells, n.id), size.into());
     match c.nodes.iter().find(is_over) {
         Some(node) => (12, node.id),
         None => (0, 0),
@@ -75,7 +75,8 @@ pub fn figures(c: &Cluster, cells: &[u32]) -> Vec<u32> {
     figures
 }
 
-/// The size to hope for: usable capacities together over replication times partitions, rounded down.
+/// The size to hope for: usable capacities together over replication times partitions, rounded down,
+/// whatever the ceilings.
 pub fn hope(c: &Cluster) -> u64 {
     let total: u64 = c.nodes.iter().map(|n| n.usable() as u64).sum();
     total / (c.replication * c.partitions()) as u64

@@ -1,4 +1,4 @@
-//! Changes of the nodes and their reverses, written from document 02, request 2026-04.
+//! Changes of the nodes and their reverses, written from document 02, requests 2026-04 and 2026-05.
 
 use crate::records::{field, number, Fields};
 use crate::{Cluster, Node};
@@ -34,7 +34,8 @@ impl Change {
             20 => Change::Add(Node {
                 id,
                 zone: number(&body[4..6]) as u16,
-                capacity: number(&body[6..]) as u32,
+                capacity: number(&body[6..10]) as u32,
+                ceiling: number(&body[10..]) as u16,
             }),
             21 => Change::Remove(id),
             _ => Change::Resize(id, number(&body[4..]) as u32),
@@ -49,7 +50,7 @@ pub fn fault(c: &Cluster) -> u32 {
         && (1..=c.replication).contains(&c.redundancy);
     if c.nodes.len() > 32 {
         6
-    } else if !numbers || c.nodes.iter().any(|node| node.id == 0) {
+    } else if !numbers || !c.nodes.iter().all(Node::is_in_range) {
         4
     } else if c.nodes.windows(2).any(|w| w[0].id >= w[1].id) {
         5
@@ -76,7 +77,7 @@ pub fn change(c: &Cluster, record: &[u8], at: usize) -> Result<Made, u32> {
         return Err(7);
     }
     let mut fields = Fields { bytes: record, at };
-    let legal = |tag, len| [(20, 10), (21, 4), (22, 8)].contains(&(tag, len));
+    let legal = |tag, len| [(20, 12), (21, 4), (22, 8)].contains(&(tag, len));
     let field = fields.next(|tag| [20, 21, 22].contains(&tag), legal);
     let (tag, body, _) = field.map_err(|(refusal, _)| refusal)?;
     let mut nodes: BTreeMap<u32, Node> = c.nodes.iter().map(|node| (node.id, *node)).collect();
@@ -98,6 +99,7 @@ fn make(nodes: &mut BTreeMap<u32, Node>, change: Change) -> Result<Change, u32> 
         return Err(4);
     }
     match change {
+        Change::Add(node) if !node.is_in_range() => Err(4),
         Change::Add(node) => {
             if nodes.contains_key(&id) {
                 return Err(13);
@@ -122,11 +124,11 @@ mod tests {
     use super::*;
 
     fn node(id: u32) -> Node {
-        let capacity = 100 * id;
         Node {
             id,
             zone: 7,
-            capacity,
+            capacity: 100 * id,
+            ceiling: 256 - id as u16,
         }
     }
 
@@ -152,17 +154,50 @@ mod tests {
             (ids, made.reverse.field())
         };
         assert_eq!(
-            made(&[20, 0, 10, 0, 0, 0, 3, 1, 2, 0, 0, 4, 0]),
+            made(&[20, 0, 12, 0, 0, 0, 3, 1, 2, 0, 0, 4, 0, 0, 9]),
             (vec![2, 3, 4], vec![21, 0, 4, 0, 0, 0, 3])
         );
         assert_eq!(
             made(&[21, 0, 4, 0, 0, 0, 4]),
-            (vec![2], vec![20, 0, 10, 0, 0, 0, 4, 0, 7, 0, 0, 1, 144])
+            (
+                vec![2],
+                vec![20, 0, 12, 0, 0, 0, 4, 0, 7, 0, 0, 1, 144, 0, 252]
+            )
         );
         assert_eq!(
             made(&[22, 0, 8, 0, 0, 0, 2, 255, 0, 0, 0]),
             (vec![2, 4], vec![22, 0, 8, 0, 0, 0, 2, 0, 0, 0, 200])
         );
+    }
+
+    #[test]
+    fn a_resized_node_keeps_its_ceiling() {
+        let made = change(&cluster([2, 4]), &Change::Resize(4, 1).field(), 0).expect("it is made");
+        let (resized, before) = (made.cluster.nodes[1], node(4));
+        assert_eq!((resized.capacity, resized.ceiling), (1, before.ceiling));
+        assert_eq!((resized.id, resized.zone), (before.id, before.zone));
+    }
+
+    /// The ceiling is looked at before the id, which is there already, and before a 33rd node.
+    #[test]
+    fn a_ceiling_above_256_is_out_of_range() {
+        let added = |nodes, id, ceiling| {
+            let field = Change::Add(Node {
+                ceiling,
+                ..node(id)
+            })
+            .field();
+            change(&cluster(1..=nodes), &field, 0).err().unwrap_or(0)
+        };
+        assert_eq!([0, 256].map(|ceiling| added(2, 3, ceiling)), [0, 0]);
+        for ceiling in [257, u16::MAX] {
+            assert_eq!(added(2, 3, ceiling), 4);
+            assert_eq!(added(2, 2, ceiling), 4);
+            assert_eq!(added(32, 33, ceiling), 4);
+        }
+        let ten_bytes = [20, 0, 10, 0, 0, 0, 3, 0, 1, 0, 0, 0, 5];
+        assert_eq!(change(&cluster([]), &ten_bytes, 0), Err(3));
+        assert_eq!(change(&cluster([]), &ten_bytes[..5], 0), Err(3));
     }
 
     /// Each record has all faults that come later, as far as there can be several.
@@ -194,6 +229,15 @@ mod tests {
         assert_eq!(fault(&cluster([2, 2])), 5);
         assert_eq!(fault(&cluster([2, 2, 0])), 4);
         assert_eq!(fault(&cluster([0; 33])), 6);
+        let with_ceiling = |ids: [u32; 2], ceiling| {
+            let mut c = cluster(ids);
+            c.nodes[1].ceiling = ceiling;
+            fault(&c)
+        };
+        assert_eq!(with_ceiling([1, 2], 256), 0);
+        assert_eq!(with_ceiling([1, 2], 257), 4);
+        assert_eq!(with_ceiling([2, 1], 257), 4);
+        assert_eq!(with_ceiling([2, 1], 256), 5);
         let numbers = |bits, replication, redundancy| {
             fault(&Cluster {
                 bits,

@@ -8,7 +8,8 @@ use crate::Cluster;
 pub fn caps_at(c: &Cluster, size: u32) -> [u32; NODES] {
     let mut caps = [0; NODES];
     for (cap, node) in caps.iter_mut().zip(&c.nodes) {
-        *cap = (node.usable() / size).min(c.partitions() as u32);
+        let most = node.usable() / size;
+        *cap = most.min(node.ceiling.into()).min(c.partitions() as u32);
     }
     caps
 }

@@ -2,6 +2,7 @@
 //! from nothing else: a listing of all layouts, a planner by the report's own method, a planner by
 //! the method of exchanges, a parser, changes of the nodes, and what the papers say of lent cells.
 
+pub mod ceilings;
 pub mod cells;
 pub mod changes;
 mod dealing;
@@ -18,12 +19,27 @@ pub struct Node {
     pub id: u32,
     pub zone: u16,
     pub capacity: u32,
+    /// The most copies that it may hold: 0 to 256.
+    pub ceiling: u16,
 }
 
 impl Node {
+    /// The ceiling of a node that may hold a copy of every partition.
+    pub const NO_CEILING: u16 = 256;
+
     /// The megabytes that copies may take: the capacity less a sixteenth of it, rounded down.
     pub fn usable(&self) -> u32 {
         self.capacity - self.capacity / 16
+    }
+
+    /// Whether its own numbers are in their ranges: no id of 0, no ceiling above 256.
+    fn is_in_range(&self) -> bool {
+        self.id != 0 && self.ceiling <= Node::NO_CEILING
+    }
+
+    /// Whether so many copies of a size fill no more than is usable and do not pass the ceiling.
+    fn takes(&self, copies: u64, size: u64) -> bool {
+        copies * size <= u64::from(self.usable()) && copies <= u64::from(self.ceiling)
     }
 
     /// The body of a field that holds it.
@@ -31,6 +47,7 @@ impl Node {
         let mut body = self.id.to_be_bytes().to_vec();
         body.extend(self.zone.to_be_bytes());
         body.extend(self.capacity.to_be_bytes());
+        body.extend(self.ceiling.to_be_bytes());
         body
     }
 }
@@ -108,7 +125,8 @@ pub fn is_valid(c: &Cluster, layout: &Layout, size: u64) -> bool {
         }
     }
     c.nodes.iter().all(|n| {
-        layout.iter().filter(|r| r.contains(&n.id)).count() as u64 * size <= n.usable() as u64
+        let holding = layout.iter().filter(|r| r.contains(&n.id));
+        n.takes(holding.count() as u64, size)
     })
 }
 
@@ -121,6 +139,7 @@ mod tests {
             id: 1,
             zone: 0,
             capacity,
+            ceiling: Node::NO_CEILING,
         }
         .usable()
     }

@@ -65,7 +65,7 @@ fn each(rows: usize, partitions: usize, f: &mut impl FnMut(&[usize])) {
 }
 
 /// The largest size of one layout: the least of usable capacity over copies, rounded down, over nodes
-/// with copies.
+/// with copies; 0 where one of them holds more copies than its ceiling, since it is then valid at none.
 fn size_of(c: &Cluster, rows: &[Vec<usize>], choice: &[usize]) -> u64 {
     let mut copies = vec![0u64; c.nodes.len()];
     for &r in choice {
@@ -75,7 +75,10 @@ fn size_of(c: &Cluster, rows: &[Vec<usize>], choice: &[usize]) -> u64 {
     }
     (0..c.nodes.len())
         .filter(|&b| copies[b] > 0)
-        .map(|b| c.nodes[b].usable() as u64 / copies[b])
+        .map(|b| match copies[b] <= c.nodes[b].ceiling.into() {
+            true => c.nodes[b].usable() as u64 / copies[b],
+            false => 0,
+        })
         .min()
         .unwrap_or(0)
 }

@@ -54,7 +54,7 @@ fn ids(bytes: &[u8]) -> impl Iterator<Item = u32> + Clone + '_ {
 fn fixed(tag: u8, len: usize) -> bool {
     len == match tag {
         1 | 2 | 3 | 8 => 1,
-        4 => 10,
+        4 => 12,
         6 => 4,
         7 | 9 => 2,
         _ => return false,
@@ -86,9 +86,10 @@ fn take_node(c: &mut Cluster, body: &[u8], at: usize) -> Result<(), Refused> {
     let node = Node {
         id: number(&body[..4]) as u32,
         zone: number(&body[4..6]) as u16,
-        capacity: number(&body[6..]) as u32,
+        capacity: number(&body[6..10]) as u32,
+        ceiling: number(&body[10..]) as u16,
     };
-    if node.id == 0 {
+    if !node.is_in_range() {
         return Err((4, at));
     }
     if c.nodes.last().is_some_and(|n| n.id >= node.id) {

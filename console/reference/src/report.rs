@@ -1,7 +1,8 @@
-//! The report's own method (document 000), read with usable in place of capacity: the size by
-//! dichotomy over maximal flows, a candidate that starts from the former associations, then negative
-//! cycles by Bellman and Ford until there is none. Unverified. The rounds of the search are cut at
-//! 4N + 1 only where a caller asks for it, to show that the answer is then wrong.
+//! The report's own method (document 000), read with usable in place of capacity and with no more from
+//! a node to the sink than its ceiling: the size by dichotomy over maximal flows, a candidate that
+//! starts from the former associations, then negative cycles by Bellman and Ford until there is none.
+//! Unverified. The rounds of the search are cut at 4N + 1 only where a caller asks for it, to show that
+//! the answer is then wrong.
 
 use crate::{Cluster, Layout};
 
@@ -239,7 +240,7 @@ impl Assigning<'_> {
         }
         for (b, box_) in c.nodes.iter().enumerate() {
             let most = (box_.usable() as u64 / size).min(p as u64);
-            net.arc(node + b, SINK, most as u32);
+            net.arc(node + b, SINK, most.min(box_.ceiling.into()) as u32);
         }
         Assigning {
             cluster: c,

@@ -1,5 +1,6 @@
 //! Random small clusters with former layouts to which several layouts are nearest.
 
+use crate::ceilings;
 use crate::listing::effort;
 use crate::random::Random;
 use crate::{Cluster, Layout, Node};
@@ -40,10 +41,15 @@ fn wide(r: &mut Random) -> Cluster {
     of_nodes(number, zones, replication, redundancy, r)
 }
 
-/// Disks that are all equal, or of two sizes.
+/// Disks that are all equal, or of two sizes; at times ceilings, which are then all equal or of two kinds.
 fn of_nodes(number: u64, zones: u64, replication: u64, redundancy: u64, r: &mut Random) -> Cluster {
     let bits = r.between(0, 3) as u32;
     let disks = [0; 2].map(|_| r.between(1, 3 << bits) as u32);
+    let has_ceilings = r.chance(30);
+    let ceilings = [0; 2].map(|_| match has_ceilings {
+        true => ceilings::any(1 << bits, r),
+        false => Node::NO_CEILING,
+    });
     let kinds = r.between(1, 2);
     let mut id = 0;
     let nodes = (0..number).map(|_| {
@@ -52,6 +58,7 @@ fn of_nodes(number: u64, zones: u64, replication: u64, redundancy: u64, r: &mut 
             id,
             zone: r.below(zones) as u16,
             capacity: disks[r.below(kinds) as usize],
+            ceiling: ceilings[r.below(kinds) as usize],
         }
     });
     Cluster {

@@ -6,7 +6,7 @@ use reference::exchanges::{self, Path};
 use reference::listing::{self, Listed};
 use reference::random::Random;
 use reference::records::cluster_record;
-use reference::{capacity_for, distance, is_valid, report, sent, Cluster, Layout, Node};
+use reference::{capacity_for, ceilings, distance, is_valid, report, sent, Cluster, Layout, Node};
 
 /// A disk: a small one, or one at whose capacity what stays free changes.
 fn capacity(r: &mut Random) -> u32 {
@@ -16,8 +16,8 @@ fn capacity(r: &mut Random) -> u32 {
     }
 }
 
-/// A small cluster and a former layout, with gone nodes, long former rows, capacities of 0 and too
-/// many zones wanted.
+/// A small cluster and a former layout, with gone nodes, long former rows, capacities of 0, ceilings and
+/// too many zones wanted.
 fn small(r: &mut Random) -> (Cluster, Layout) {
     let bits = r.between(0, 2) as u32;
     let n = r.between(0, 5) as usize;
@@ -28,14 +28,16 @@ fn small(r: &mut Random) -> (Cluster, Layout) {
             id: 3 * b as u32 + 1,
             zone: r.between(0, 3) as u16,
             capacity: capacity(r),
+            ceiling: Node::NO_CEILING,
         })
         .collect();
-    let c = Cluster {
+    let mut c = Cluster {
         bits,
         replication,
         redundancy,
         nodes,
     };
+    ceilings::draw(&mut c, r);
     let former = (0..c.partitions())
         .map(|_| {
             (1..=16u32)
@@ -94,11 +96,50 @@ fn loses_by_what_stays_free(c: &Cluster, size: u64) -> bool {
     listing::list(&c, &none).is_some_and(|listed| listed.size > size)
 }
 
+/// The cluster without ceilings.
+fn without_ceilings(c: &Cluster) -> Cluster {
+    let mut c = c.clone();
+    c.nodes
+        .iter_mut()
+        .for_each(|node| node.ceiling = Node::NO_CEILING);
+    c
+}
+
+/// What ceilings alter: how many of the clusters have no layout because of them, a smaller size, more
+/// to be sent at the same size, or another first layout.
+#[derive(Default)]
+struct Altered {
+    none: u64,
+    smaller: u64,
+    more_sent: u64,
+    first: u64,
+}
+
+impl Altered {
+    /// A cluster has no layout, size or nearness that it would not have without its ceilings.
+    fn count(&mut self, c: &Cluster, former: &Layout, listed: Option<&Listed>) {
+        let free = listing::list(&without_ceilings(c), former);
+        let (Some(listed), Some(free)) = (listed, &free) else {
+            assert!(listed.is_none(), "{c:?}");
+            self.none += u64::from(free.is_some());
+            return;
+        };
+        assert!(listed.size <= free.size && listed.layouts > 0, "{c:?}");
+        self.smaller += u64::from(listed.size < free.size);
+        if listed.size == free.size {
+            assert!(listed.least_sent >= free.least_sent, "{c:?} {former:?}");
+            self.more_sent += u64::from(listed.least_sent > free.least_sent);
+            self.first += u64::from(listed.first != free.first);
+        }
+    }
+}
+
 #[test]
 fn all_agree_on_small_clusters() {
     let mut r = Random::new(7);
     let (mut tried, mut losing) = (0, 0);
-    while tried < 3000 {
+    let mut altered = Altered::default();
+    while tried < 10_000 {
         let (c, former) = small(&mut r);
         if listing::effort(&c) > 2000 {
             continue;
@@ -106,6 +147,7 @@ fn all_agree_on_small_clusters() {
         tried += 1;
         let listed = listing::list(&c, &former);
         exchanges_agree(&c, &former, listed.as_ref());
+        altered.count(&c, &former, listed.as_ref());
         match (listed, report::plan(&c, &former)) {
             (Some(listed), Some(flow)) => {
                 is_nearest(&c, &former, &listed, flow.size, &flow.layout);
@@ -115,7 +157,17 @@ fn all_agree_on_small_clusters() {
             _ => panic!("one of the two finds no layout: {c:?}"),
         }
     }
-    assert!(losing > 300, "too few of the sizes hang on what stays free");
+    assert!(
+        losing > 1000,
+        "too few of the sizes hang on what stays free"
+    );
+    let altered = [
+        altered.none,
+        altered.smaller,
+        altered.more_sent,
+        altered.first,
+    ];
+    assert!(altered.iter().all(|n| *n > 30), "{altered:?}");
 }
 
 /// From one former layout the distance is twice what is sent plus a difference that is the same for

@@ -71,6 +71,7 @@ fn one_each() -> Cluster {
         id,
         zone: 1,
         capacity: capacity_for(100),
+        ceiling: Node::NO_CEILING,
     };
     Cluster {
         bits: 2,

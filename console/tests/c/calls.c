@@ -15,13 +15,13 @@ static int faults = 0;
         }                                                          \
     } while (0)
 
-/* Example A: k 1, R 3, Z 2; nodes 1/1/100, 2/1/70, 3/2/50, of which 94, 66 and 47 may be filled; no former
- * layout. */
-static const uint8_t CLUSTER[51] = {
+/* Example A: k 1, R 3, Z 2; nodes 1/1/100, 2/1/70, 3/2/50, of which 94, 66 and 47 may be filled, all with the
+ * ceiling 256; no former layout. */
+static const uint8_t CLUSTER[57] = {
     1, 0, 1, 1, 2, 0, 1, 3, 3, 0, 1, 2,
-    4, 0, 10, 0, 0, 0, 1, 0, 1, 0, 0, 0, 100,
-    4, 0, 10, 0, 0, 0, 2, 0, 1, 0, 0, 0, 70,
-    4, 0, 10, 0, 0, 0, 3, 0, 2, 0, 0, 0, 50,
+    4, 0, 12, 0, 0, 0, 1, 0, 1, 0, 0, 0, 100, 1, 0,
+    4, 0, 12, 0, 0, 0, 2, 0, 1, 0, 0, 0, 70, 1, 0,
+    4, 0, 12, 0, 0, 0, 3, 0, 2, 0, 0, 0, 50, 1, 0,
 };
 
 /* Its layout record: size 23, 6 copies sent, finished, no improvements, rows 1 2 3 twice. */
@@ -31,9 +31,10 @@ static const uint8_t LAYOUT[63] = {
     10, 0, 14, 0, 1, 0, 0, 0, 1, 0, 0, 0, 2, 0, 0, 0, 3,
 };
 
-/* Changes of its nodes: node 5 in zone 2 with 80 MB is added, node 1 removed, node 3 resized to 90 MB. */
-static const uint8_t CHANGES[31] = {
-    20, 0, 10, 0, 0, 0, 5, 0, 2, 0, 0, 0, 80,
+/* Changes of its nodes: node 5 in zone 2 with 80 MB and the ceiling 2 is added, node 1 removed, node 3 resized
+ * to 90 MB. */
+static const uint8_t CHANGES[33] = {
+    20, 0, 12, 0, 0, 0, 5, 0, 2, 0, 0, 0, 80, 0, 2,
     21, 0, 4, 0, 0, 0, 1,
     22, 0, 8, 0, 0, 0, 3, 0, 0, 0, 90,
 };
@@ -79,19 +80,19 @@ static uint32_t plan(const uint8_t *record, uint16_t allowance) {
     fill(cells, CELLS + 1);
     fill(scratch, SCRATCH + 1);
     fill(answer, ANSWER + 1);
-    return dezghuri_plan(record, 51, allowance, cells, CELLS + 1, scratch, SCRATCH + 1,
+    return dezghuri_plan(record, 57, allowance, cells, CELLS + 1, scratch, SCRATCH + 1,
                          answer, DEZGHURI_PLAN_ANSWER);
 }
 
-static uint32_t check(uint32_t size) {
+static uint32_t check(const uint8_t *record, uint32_t size) {
     fill(answer, ANSWER + 1);
-    return dezghuri_check(CLUSTER, 51, cells, CELLS, size, answer, DEZGHURI_CHECK_ANSWER);
+    return dezghuri_check(record, 57, cells, CELLS, size, answer, DEZGHURI_CHECK_ANSWER);
 }
 
 static uint32_t count(uint32_t size, size_t room) {
     fill(figures, FIGURES + 1);
     fill(answer, ANSWER + 1);
-    return dezghuri_figures(CLUSTER, 51, cells, CELLS, size, figures, room,
+    return dezghuri_figures(CLUSTER, 57, cells, CELLS, size, figures, room,
                             answer, DEZGHURI_FIGURES_ANSWER);
 }
 
@@ -118,30 +119,31 @@ static size_t record_made(uint8_t *record) {
         length += 4;
     }
     for (uint32_t b = 0; b < made[8]; b++) {
-        const uint32_t id = made[9 + 3 * b], zone = made[10 + 3 * b], capacity = made[11 + 3 * b];
-        const uint8_t field[13] = {
-            4, 0, 10, (uint8_t)(id >> 24), (uint8_t)(id >> 16), (uint8_t)(id >> 8), (uint8_t)id,
+        const uint32_t *node = made + 9 + 4 * b;
+        const uint32_t id = node[0], zone = node[1], capacity = node[2], ceiling = node[3];
+        const uint8_t field[15] = {
+            4, 0, 12, (uint8_t)(id >> 24), (uint8_t)(id >> 16), (uint8_t)(id >> 8), (uint8_t)id,
             (uint8_t)(zone >> 8), (uint8_t)zone, (uint8_t)(capacity >> 24), (uint8_t)(capacity >> 16),
-            (uint8_t)(capacity >> 8), (uint8_t)capacity,
+            (uint8_t)(capacity >> 8), (uint8_t)capacity, (uint8_t)(ceiling >> 8), (uint8_t)ceiling,
         };
-        memcpy(record + length, field, 13);
-        length += 13;
+        memcpy(record + length, field, 15);
+        length += 15;
     }
     return length;
 }
 
 static void reading_a_cluster(void) {
-    static const uint32_t read[15] = {0, 0, 1, 3, 2, 3, 1, 1, 100, 2, 1, 70, 3, 2, 50};
-    static const uint32_t refused[6] = {0, 38, 0, 1, 1, 0};
-    EXPECT(read_cluster(CLUSTER, 51, CELLS + 1) == DEZGHURI_OK);
-    EXPECT(holds(answer, read, 15) && all(answer, 15, ANSWER, 0));
+    static const uint32_t read[18] = {0, 0, 1, 3, 2, 3, 1, 1, 100, 256, 2, 1, 70, 256, 3, 2, 50, 256};
+    static const uint32_t refused[6] = {0, 42, 0, 1, 1, 0};
+    EXPECT(read_cluster(CLUSTER, 57, CELLS + 1) == DEZGHURI_OK);
+    EXPECT(holds(answer, read, 18) && all(answer, 18, ANSWER, 0));
     EXPECT(answer[ANSWER] == PATTERN);
     EXPECT(all(cells, 0, CELLS, 0) && cells[CELLS] == PATTERN);
 
-    EXPECT(read_cluster(CLUSTER, 50, CELLS) == DEZGHURI_CUT);
+    EXPECT(read_cluster(CLUSTER, 56, CELLS) == DEZGHURI_CUT);
     EXPECT(holds(answer, refused, 6) && all(answer, 6, ANSWER, 0));
     EXPECT(all(cells, 0, CELLS + 1, PATTERN));
-    EXPECT(read_cluster(CLUSTER, 51, CELLS - 1) == DEZGHURI_SHORT);
+    EXPECT(read_cluster(CLUSTER, 57, CELLS - 1) == DEZGHURI_SHORT);
     EXPECT(all(cells, 0, CELLS + 1, PATTERN));
 }
 
@@ -153,8 +155,8 @@ static void planning(void) {
     EXPECT(holds(cells, rows, 16) && all(cells, 16, CELLS, 0) && cells[CELLS] == PATTERN);
     EXPECT(all(scratch, 0, SCRATCH, 0) && scratch[SCRATCH] == PATTERN);
 
-    uint8_t other[51];
-    memcpy(other, CLUSTER, 51);
+    uint8_t other[57];
+    memcpy(other, CLUSTER, 57);
     other[11] = 3; /* example B: three zones are wanted, and there are two */
     EXPECT(plan(other, 65535) == DEZGHURI_NO_LAYOUT);
     EXPECT(all(answer, 0, 6, 0));
@@ -182,10 +184,10 @@ static void reading_a_layout(void) {
 static void a_layout_in_hand(void) {
     static const uint32_t copies[3] = {2, 2, 2}, in_zones[3] = {4, 4, 2};
     static const uint32_t shown[DEZGHURI_ROW_CELLS] = {1, 2, 3, 0, 0, 0, 0, 0};
-    EXPECT(check(23) == DEZGHURI_OK && all(answer, 0, 3, 0));
-    EXPECT(check(24) == DEZGHURI_CAPACITY && answer[2] == 3);
-    EXPECT(check(25) == DEZGHURI_CAPACITY && answer[2] == 3); /* it fills the disk to the brim */
-    EXPECT(check(0) == DEZGHURI_RANGE && all(answer, 0, 3, 0));
+    EXPECT(check(CLUSTER, 23) == DEZGHURI_OK && all(answer, 0, 3, 0));
+    EXPECT(check(CLUSTER, 24) == DEZGHURI_CAPACITY && answer[2] == 3);
+    EXPECT(check(CLUSTER, 25) == DEZGHURI_CAPACITY && answer[2] == 3); /* it fills the disk to the brim */
+    EXPECT(check(CLUSTER, 0) == DEZGHURI_RANGE && all(answer, 0, 3, 0));
 
     EXPECT(count(23, FIGURES + 1) == DEZGHURI_OK);
     EXPECT(holds(figures, copies, 3) && all(figures, 3, 32, 0));
@@ -201,6 +203,25 @@ static void a_layout_in_hand(void) {
     EXPECT(all(row, 0, 8, PATTERN));
     EXPECT(dezghuri_show_row(cells, CELLS, 1, row, 8) == DEZGHURI_OK);
     EXPECT(holds(row, shown, 8));
+}
+
+/* Example A with another ceiling for node 2, whose field ends at byte 41; the rows in `cells` have it twice. */
+static void ceilings(void) {
+    uint8_t other[57];
+    memcpy(other, CLUSTER, 57);
+    other[40] = 0, other[41] = 2;
+    EXPECT(check(other, 23) == DEZGHURI_OK && all(answer, 0, 3, 0));
+    other[41] = 1; /* one partition of two, and there is no other row */
+    EXPECT(check(other, 1) == DEZGHURI_CAPACITY && answer[2] == 2);
+    EXPECT(plan(other, DEZGHURI_ENOUGH_ALLOWANCE) == DEZGHURI_NO_LAYOUT);
+    other[40] = 1; /* 257 */
+    EXPECT(check(other, 1) == DEZGHURI_RANGE && answer[1] == 27 && answer[2] == 0);
+    EXPECT(plan(other, 0) == DEZGHURI_RANGE && answer[1] == 27);
+    EXPECT(read_cluster(other, 57, CELLS) == DEZGHURI_RANGE && answer[1] == 27);
+    EXPECT(change(other, 57, CHANGES, 33, 0) == DEZGHURI_RANGE && made[1] == 27 && made[8] == 0);
+    other[29] = 10; /* a node without a ceiling */
+    EXPECT(read_cluster(other, 57, CELLS) == DEZGHURI_LENGTH && answer[1] == 27);
+    EXPECT(read_cluster(other, 30, CELLS) == DEZGHURI_LENGTH && answer[1] == 27);
 }
 
 static void writing(void) {
@@ -230,21 +251,21 @@ static void most_copies_sent(void) {
 /* Each cluster made becomes the record of the next call; the reverses, made in backward order, restore the
  * first one byte for byte. */
 static void changing_and_undoing(void) {
-    static const uint32_t last[18] = {0, 0, 0, 31, 11, 1, 3, 2, 3, 2, 1, 70, 3, 2, 90, 5, 2, 80};
-    static const uint8_t removed[REVERSE] = {20, 0, 10, 0, 0, 0, 1, 0, 1, 0, 0, 0, 100};
-    static const uint8_t resized[REVERSE] = {22, 0, 8, 0, 0, 0, 3, 0, 0, 0, 50, 0, 0};
-    uint8_t record[12 + 13 * 4], reverses[3][REVERSE];
-    size_t lengths[3], length = 51, at = 0;
-    memcpy(record, CLUSTER, 51);
+    static const uint32_t last[21] = {0, 0, 0, 33, 11, 1, 3, 2, 3, 2, 1, 70, 256, 3, 2, 90, 256, 5, 2, 80, 2};
+    static const uint8_t removed[REVERSE] = {20, 0, 12, 0, 0, 0, 1, 0, 1, 0, 0, 0, 100, 1, 0};
+    static const uint8_t resized[REVERSE] = {22, 0, 8, 0, 0, 0, 3, 0, 0, 0, 50, 0, 0, 0, 0};
+    uint8_t record[12 + 15 * 4], reverses[3][REVERSE];
+    size_t lengths[3], length = 57, at = 0;
+    memcpy(record, CLUSTER, 57);
     for (int i = 0; i < 3; i++) {
-        EXPECT(change(record, length, CHANGES, 31, at) == DEZGHURI_OK);
+        EXPECT(change(record, length, CHANGES, 33, at) == DEZGHURI_OK);
         EXPECT(reverse[REVERSE] == 0x5A && made[MADE] == PATTERN);
         memcpy(reverses[i], reverse, REVERSE);
         lengths[i] = made[4];
         at = made[3];
         length = record_made(record);
     }
-    EXPECT(holds(made, last, 18) && all(made, 18, MADE, 0));
+    EXPECT(holds(made, last, 21) && all(made, 21, MADE, 0));
     EXPECT(memcmp(reverses[1], removed, REVERSE) == 0);
     EXPECT(memcmp(reverses[2], resized, REVERSE) == 0);
     for (int i = 2; i >= 0; i--) {
@@ -252,7 +273,7 @@ static void changing_and_undoing(void) {
         EXPECT(made[2] == 0 && made[3] == lengths[i]);
         length = record_made(record);
     }
-    EXPECT(length == 51 && memcmp(record, CLUSTER, 51) == 0);
+    EXPECT(length == 57 && memcmp(record, CLUSTER, 57) == 0);
 }
 
 static int kept(void) {
@@ -262,25 +283,27 @@ static int kept(void) {
 }
 
 static void refused_changes(void) {
-    static const uint32_t read[18] = {0, 0, 0, 13, 0, 1, 3, 2, 3, 1, 1, 100, 2, 1, 70, 3, 2, 50};
-    static const uint32_t none[9] = {0, 38, 0, 13, 0, 0, 1, 1, 0};
-    uint8_t changes[31];
-    memcpy(changes, CHANGES, 31);
+    static const uint32_t read[21] = {0, 0, 0, 15, 0, 1, 3, 2, 3, 1, 1, 100, 256, 2, 1, 70, 256, 3, 2, 50, 256};
+    static const uint32_t none[9] = {0, 42, 0, 15, 0, 0, 1, 1, 0};
+    uint8_t changes[33];
+    memcpy(changes, CHANGES, 33);
     changes[6] = 3;
-    EXPECT(change(CLUSTER, 51, changes, 31, 0) == DEZGHURI_PRESENT && made[3] == 0 && kept());
-    changes[19] = 4;
-    EXPECT(change(CLUSTER, 51, changes, 31, 13) == DEZGHURI_ABSENT && kept());
-    EXPECT(holds(made, read, 18) && all(made, 18, MADE, 0));
-    EXPECT(change(CLUSTER, 51, changes, 30, 20) == DEZGHURI_CUT && made[3] == 20 && kept());
-    EXPECT(change(CLUSTER, 51, changes, 31, 31) == DEZGHURI_MISSING && made[3] == 31 && kept());
-    EXPECT(change(CLUSTER, 51, changes, 31, SIZE_MAX) == DEZGHURI_MISSING && kept());
+    EXPECT(change(CLUSTER, 57, changes, 33, 0) == DEZGHURI_PRESENT && made[3] == 0 && kept());
+    changes[13] = 255; /* a ceiling above 256, which is looked at before the id */
+    EXPECT(change(CLUSTER, 57, changes, 33, 0) == DEZGHURI_RANGE && made[3] == 0 && kept());
+    changes[21] = 4;
+    EXPECT(change(CLUSTER, 57, changes, 33, 15) == DEZGHURI_ABSENT && kept());
+    EXPECT(holds(made, read, 21) && all(made, 21, MADE, 0));
+    EXPECT(change(CLUSTER, 57, changes, 32, 22) == DEZGHURI_CUT && made[3] == 22 && kept());
+    EXPECT(change(CLUSTER, 57, changes, 33, 33) == DEZGHURI_MISSING && made[3] == 33 && kept());
+    EXPECT(change(CLUSTER, 57, changes, 33, SIZE_MAX) == DEZGHURI_MISSING && kept());
     EXPECT(made[2] == SIZE_MAX >> 16 >> 16 && made[3] == 0xFFFFFFFF);
-    EXPECT(change(CLUSTER, 50, changes, 31, 13) == DEZGHURI_CUT && kept());
+    EXPECT(change(CLUSTER, 56, changes, 33, 15) == DEZGHURI_CUT && kept());
     EXPECT(holds(made, none, 9) && all(made, 9, MADE, 0));
 
     fill(made, MADE + 1);
-    EXPECT(dezghuri_change(CLUSTER, 51, CHANGES, 31, 0, reverse, REVERSE - 1, made, MADE) == DEZGHURI_SHORT);
-    EXPECT(dezghuri_change(CLUSTER, 51, CHANGES, 31, 0, reverse, REVERSE, made, MADE - 1) == DEZGHURI_SHORT);
+    EXPECT(dezghuri_change(CLUSTER, 57, CHANGES, 33, 0, reverse, REVERSE - 1, made, MADE) == DEZGHURI_SHORT);
+    EXPECT(dezghuri_change(CLUSTER, 57, CHANGES, 33, 0, reverse, REVERSE, made, MADE - 1) == DEZGHURI_SHORT);
     EXPECT(kept() && all(made, 0, MADE + 1, PATTERN));
 }
 
@@ -291,6 +314,7 @@ int main(void) {
     a_layout_in_hand();
     writing();
     most_copies_sent();
+    ceilings();
     changing_and_undoing();
     refused_changes();
     return faults != 0;

@@ -7,7 +7,7 @@ use dezghuri::ffi;
 use reference::cells::{cells_of, check, figures, hope, CELLS};
 use reference::random::Random;
 use reference::records::cluster_record;
-use reference::{report, Cluster, Layout};
+use reference::{report, Cluster, Layout, Node};
 
 /// Cells of a layout that is valid, nearly valid, or any.
 fn some_cells(c: &Cluster, layout: &Layout, r: &mut Random) -> Vec<u32> {
@@ -33,6 +33,24 @@ fn some_cells(c: &Cluster, layout: &Layout, r: &mut Random) -> Vec<u32> {
     cells
 }
 
+/// Gives one of the nodes a ceiling about as high as the copies that the cells have of it.
+fn lower_a_ceiling(c: &mut Cluster, cells: &[u32], r: &mut Random) {
+    let at = r.below(c.nodes.len().max(1) as u64) as usize;
+    if let Some(node) = c.nodes.get_mut(at) {
+        let held = cells[..CELLS].iter().filter(|id| **id == node.id).count();
+        let ceiling = (held + r.below(3) as usize).saturating_sub(1);
+        node.ceiling = ceiling.min(Node::NO_CEILING.into()) as u16;
+    }
+}
+
+/// Whether the node of the id passes its ceiling, but not what may be filled of its disk.
+fn only_ceiling_passed(c: &Cluster, cells: &[u32], size: u32, id: u32) -> bool {
+    let node = c.nodes.iter().find(|node| node.id == id);
+    let node = node.expect("a node of the cluster");
+    let held = cells[..CELLS].iter().filter(|cell| **cell == id).count() as u64;
+    held * u64::from(size) <= node.usable().into()
+}
+
 /// Check and figures answer as laid down.
 fn agrees(c: &Cluster, cells: &[u32], size: u32, r: &mut Random) -> u32 {
     let record = cluster_record(c, &vec![]);
@@ -53,9 +71,10 @@ fn agrees(c: &Cluster, cells: &[u32], size: u32, r: &mut Random) -> u32 {
 fn try_cells(seed: u64, cases: u64) {
     let mut r = Random::new(seed);
     let mut met = [0; 13];
+    let mut by_ceiling = 0;
     for case in 0..cases {
         let kind = if case % 4 == 0 { MEDIUM } else { SMALL };
-        let c = clusters::cluster(kind, &mut r);
+        let mut c = clusters::cluster(kind, &mut r);
         let former = clusters::former(&c, &mut r);
         let planned = report::plan(&c, &former);
         let size = planned.as_ref().map_or(1, |planned| planned.size) as u32;
@@ -70,10 +89,18 @@ fn try_cells(seed: u64, cases: u64) {
                 3 => 1,
                 _ => size,
             };
+            if r.chance(30) {
+                lower_a_ceiling(&mut c, &cells, &mut r);
+            }
             met[agrees(&c, &cells, size, &mut r) as usize] += 1;
+            if let (12, id) = check(&c, &cells, size) {
+                by_ceiling += u64::from(only_ceiling_passed(&c, &cells, size, id));
+            }
         }
     }
     assert!([0, 4, 10, 11, 12].iter().all(|n| met[*n] > 0), "{met:?}");
+    let enough = by_ceiling * 40 > cases;
+    assert!(enough, "{by_ceiling} of {cases} pass a ceiling alone");
 }
 
 #[test]
@@ -93,10 +120,11 @@ fn copies_times_size_does_not_overflow() {
         bits: 8,
         replication: 1,
         redundancy: 1,
-        nodes: vec![reference::Node {
+        nodes: vec![Node {
             id: 1,
             zone: 0,
             capacity: u32::MAX,
+            ceiling: Node::NO_CEILING,
         }],
     };
     let r = &mut Random::new(1);
@@ -174,15 +202,15 @@ fn a_short_answer_is_refused_before_all_and_nothing_is_touched() {
         verdict: 0,
         improvements: 0,
     };
-    let mut lent = [8; 102];
-    assert_eq!(ffi::read_cluster(&record, &mut a, &mut lent[..101]), 8);
+    let mut lent = [8; 134];
+    assert_eq!(ffi::read_cluster(&record, &mut a, &mut lent[..133]), 8);
     assert_eq!(ffi::read_layout(&record, &mut a, &mut lent[..7]), 8);
     assert_eq!(ffi::plan(&record, 0, &mut a, &mut s, &mut lent[..5]), 8);
     assert_eq!(ffi::check(&record, &a, 0, &mut lent[..2]), 8);
     assert_eq!(ffi::figures(&record, &a, 0, &mut f, &mut lent[..4]), 8);
     assert_eq!(ffi::write_layout(numbers, &a, &mut out, &mut lent[..1]), 8);
     assert_eq!(ffi::plan(&record, 0, &mut [], &mut [], &mut []), 8);
-    assert_eq!(lent, [8; 102]);
+    assert_eq!(lent, [8; 134]);
     assert_eq!(out, [9; 60]);
     assert!(a.iter().all(|cell| *cell == 5) && s.iter().all(|cell| *cell == 6));
     assert!(f.iter().all(|cell| *cell == 7));

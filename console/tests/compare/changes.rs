@@ -39,6 +39,27 @@ fn node(id: u32, r: &mut Random) -> Node {
         id,
         zone: edge(r) as u16,
         capacity: edge(r),
+        ceiling: ceiling(r),
+    }
+}
+
+/// A ceiling within its range, more often one at an end of it.
+fn ceiling(r: &mut Random) -> u16 {
+    match r.below(4) {
+        0 => 0,
+        1 => 256,
+        _ => r.between(0, 256) as u16,
+    }
+}
+
+/// A ceiling, at times one that is above its range: just above, with a low byte that is within it, or the
+/// highest.
+fn some_ceiling(r: &mut Random) -> u16 {
+    match r.below(20) {
+        0 => 257,
+        1 => 512 + r.below(256) as u16,
+        2 => u16::MAX,
+        _ => ceiling(r),
     }
 }
 
@@ -79,7 +100,10 @@ fn some_id(c: &Cluster, r: &mut Random) -> u32 {
 fn some_change(c: &Cluster, r: &mut Random) -> Change {
     let id = some_id(c, r);
     match r.below(3) {
-        0 => Change::Add(node(id, r)),
+        0 => Change::Add(Node {
+            ceiling: some_ceiling(r),
+            ..node(id, r)
+        }),
         1 => Change::Remove(id),
         _ => Change::Resize(id, edge(r)),
     }
@@ -93,9 +117,9 @@ fn odd_field(r: &mut Random) -> Vec<u8> {
         r.below(256)
     };
     let length = if r.chance(80) {
-        [4, 8, 10][r.below(3) as usize]
+        [4, 8, 10, 12][r.below(4) as usize]
     } else {
-        r.below(13)
+        r.below(15)
     };
     let claimed = if r.chance(80) {
         length
@@ -127,7 +151,7 @@ fn some_changes(c: &Cluster, r: &mut Random) -> (Vec<u8>, Vec<usize>) {
 /// A byte of the record: mostly where a field begins, at times any other, the end or past it.
 fn some_byte(record: &[u8], starts: &[usize], r: &mut Random) -> usize {
     match r.below(20) {
-        0 => usize::MAX - r.below(14) as usize,
+        0 => usize::MAX - r.below(16) as usize,
         1 => r.number() as usize,
         2 => record.len(),
         3 => r.below(record.len() as u64 + 3) as usize,
@@ -172,7 +196,7 @@ fn agrees(record: &[u8], changes: &[u8], at: usize, r: &mut Random) -> Changed {
 fn damage(c: &mut Cluster, r: &mut Random) {
     for _ in 0..r.between(1, 3) {
         let at = r.below(c.nodes.len().max(1) as u64) as usize;
-        match r.below(7) {
+        match r.below(8) {
             0 => c.bits = r.between(7, 10) as u32,
             1 => c.replication = r.below(11) as usize,
             2 => c.redundancy = r.below(11) as usize,
@@ -184,6 +208,7 @@ fn damage(c: &mut Cluster, r: &mut Random) {
             }
             4 if !c.nodes.is_empty() => c.nodes[at].id = 0,
             5 if !c.nodes.is_empty() => c.nodes[at].id = r.between(1, 40) as u32,
+            6 if !c.nodes.is_empty() => c.nodes[at].ceiling = some_ceiling(r).max(256),
             _ => c.nodes.reverse(),
         }
     }
@@ -227,6 +252,7 @@ fn in_hand(c: &Cluster) -> dezghuri::Cluster {
         id: node.id,
         zone: node.zone,
         capacity: node.capacity,
+        ceiling: node.ceiling,
     };
     dezghuri::Cluster {
         bits: c.bits as u8,
@@ -336,6 +362,7 @@ fn even(nodes: u32) -> Cluster {
         id,
         zone: 3,
         capacity: 1000 + id,
+        ceiling: 256 - id as u16,
     };
     Cluster {
         bits: 1,
@@ -351,6 +378,7 @@ fn small_fields() -> [Vec<u8>; 3] {
         id: 3,
         zone: 258,
         capacity: 70_000,
+        ceiling: 5,
     };
     let changes = [Change::Add(node), Change::Remove(4), Change::Resize(6, 9)];
     changes.map(|change| change.field())
@@ -399,6 +427,7 @@ fn every_place_among_the_nodes_is_right() {
                 id,
                 zone: 1,
                 capacity: 5,
+                ceiling: Node::NO_CEILING,
             };
             let added = match id {
                 0 => 4,
@@ -418,13 +447,56 @@ fn every_place_among_the_nodes_is_right() {
     }
 }
 
+/// All ceilings of an added node; those of the nodes that are there stay, and come back with the reverse.
+#[test]
+fn every_ceiling_is_added_or_refused() {
+    let mut r = Random::new(80);
+    let record = cluster_record(&even(3), &vec![]);
+    for ceiling in 0..=u16::MAX {
+        let added = |id| {
+            let node = Node {
+                id,
+                zone: 1,
+                capacity: 5,
+                ceiling,
+            };
+            Change::Add(node).field()
+        };
+        let refusal = if ceiling <= 256 { [0, 13] } else { [4, 4] };
+        let answered = [3, 4].map(|id| agrees(&record, &added(id), 0, &mut r).refusal);
+        assert_eq!(answered, refusal, "{ceiling}");
+    }
+}
+
+/// What is added and then removed comes back from the reverse with its ceiling; a resized node keeps it.
+#[test]
+fn ceilings_come_back() {
+    let mut r = Random::new(81);
+    let mut c = even(3);
+    for ceiling in [0, 1, 255, 256] {
+        c.nodes[1].ceiling = ceiling;
+        let record = cluster_record(&c, &vec![]);
+        let resized = agrees(&record, &Change::Resize(4, 7).field(), 0, &mut r);
+        let node = Node {
+            capacity: 7,
+            ..c.nodes[1]
+        };
+        assert_eq!(resized.cluster.nodes[1], node);
+        let removed = agrees(&record, &Change::Remove(4).field(), 0, &mut r);
+        assert_eq!(removed.reverse, Change::Add(c.nodes[1]).field());
+        let fewer = cluster_record(&removed.cluster, &vec![]);
+        let back = agrees(&fewer, &removed.reverse, 0, &mut r);
+        assert_eq!(back.cluster, c);
+    }
+}
+
 #[test]
 fn a_short_reverse_or_answer_is_refused_before_all_and_nothing_is_touched() {
     let good = cluster_record(&even(3), &vec![]);
     let change = Change::Remove(4).field();
     for record in [&good[..], &[1]] {
         for changes in [&change[..], &[]] {
-            for (reverse, answer) in [(12, 105), (0, 200), (13, 104), (99, 0), (0, 0)] {
+            for (reverse, answer) in [(14, 137), (0, 200), (15, 136), (99, 0), (0, 0)] {
                 let (mut v, mut a) = (vec![7; reverse], vec![9; answer]);
                 assert_eq!(ffi::change(record, changes, 0, &mut v, &mut a), 8);
                 assert!(v.iter().all(|byte| *byte == 7) && a.iter().all(|cell| *cell == 9));

@@ -1,7 +1,7 @@
 //! Random clusters and former layouts.
 
 use reference::random::Random;
-use reference::{report, Cluster, Layout, Node};
+use reference::{ceilings, report, Cluster, Layout, Node};
 
 /// The bounds of a kind of cluster.
 #[derive(Clone, Copy)]
@@ -37,7 +37,7 @@ pub const LARGE: Kind = Kind {
 };
 
 /// A cluster, at times with capacities of 0, with equal capacities, with capacities at which what stays
-/// free changes, or with more zones wanted than there are.
+/// free changes, with ceilings, or with more zones wanted than there are.
 pub fn cluster(kind: Kind, r: &mut Random) -> Cluster {
     let bits = if r.chance(15) {
         0
@@ -58,14 +58,17 @@ pub fn cluster(kind: Kind, r: &mut Random) -> Cluster {
             id,
             zone: zone(r.below(zones)),
             capacity: equal.unwrap_or_else(|| drawn(kind, r)) as u32,
+            ceiling: Node::NO_CEILING,
         }
     });
-    Cluster {
+    let mut c = Cluster {
         bits,
         replication,
         redundancy,
         nodes: nodes.collect(),
-    }
+    };
+    ceilings::draw(&mut c, r);
+    c
 }
 
 fn capacity(kind: Kind, r: &mut Random) -> u64 {
@@ -107,7 +110,7 @@ pub fn former(c: &Cluster, r: &mut Random) -> Layout {
 }
 
 /// A cluster with a former layout and another one. At times the former layout is nearly right, or
-/// was so before a node went and another one changed.
+/// was so before a node went and another one got another disk or ceiling.
 pub fn case(kind: Kind, r: &mut Random) -> (Cluster, Layout, Layout) {
     let mut c = cluster(kind, r);
     let (mut former, other) = (self::former(&c, r), self::former(&c, r));
@@ -121,8 +124,12 @@ pub fn case(kind: Kind, r: &mut Random) -> (Cluster, Layout, Layout) {
             let gone = r.below(c.nodes.len() as u64) as usize;
             c.nodes.remove(gone);
         }
+        let partitions = c.partitions();
         if let Some(node) = c.nodes.first_mut() {
-            node.capacity = capacity(kind, r) as u32;
+            match r.chance(70) {
+                true => node.capacity = capacity(kind, r) as u32,
+                false => node.ceiling = ceilings::any(partitions, r),
+            }
         }
     }
     (c, former, other)

@@ -22,12 +22,15 @@ fn size_with_larger(c: &Cluster, is_larger: impl Fn(&Node) -> bool) -> u64 {
     size(&c)
 }
 
-/// Which of the two counts fall short at the size above the largest.
+/// Which of the two counts fall short at the size above the largest, where ceilings bind, and why nodes
+/// hold nothing.
 #[derive(Default)]
 struct Seen {
     room: u64,
     zones: u64,
     both: u64,
+    ceilings: u64,
+    ceiling: u64,
     small: u64,
     zone_whole: u64,
     spare: u64,
@@ -55,13 +58,25 @@ impl Seen {
         assert_eq!(counts.lack_room(), size(&in_any_zones) <= largest);
         assert_eq!(counts.lack_zones(), size(&one_in_each_zone) <= largest);
         assert!(counts.lack_room() || counts.lack_zones());
+        let has_room =
+            |id: u32| counts.whole_nodes.contains(&id) || counts.ceiling_nodes.contains(&id);
+        let larger = size_with_larger(c, |node| has_room(node.id));
+        assert_eq!(larger, largest, "no larger disk of these would help");
+        for node in 0..c.nodes.len() {
+            let mut higher = known.clone();
+            higher.nodes[node].ceiling = Node::NO_CEILING;
+            let more = higher.counts(largest + 1).room > counts.room;
+            let id = c.nodes[node].id;
+            assert_eq!(
+                more,
+                counts.ceiling_nodes.contains(&id),
+                "its ceiling binds"
+            );
+        }
+        self.ceilings += u64::from(!counts.ceiling_nodes.is_empty());
         if counts.lack_zones() {
             let larger = size_with_larger(c, |node| counts.whole_zones.contains(&node.zone));
             assert_eq!(larger, largest, "more disk there would not help");
-        }
-        if counts.lack_room() {
-            let larger = size_with_larger(c, |node| counts.whole_nodes.contains(&node.id));
-            assert_eq!(larger, largest, "a larger disk would not help");
         }
         match (counts.lack_room(), counts.lack_zones()) {
             (true, true) => self.both += 1,
@@ -81,7 +96,10 @@ impl Seen {
             without.nodes.retain(|node| node.id != id);
             assert_eq!(size(&without), u64::from(plan.size));
             let node = c.nodes.iter().find(|node| node.id == id).unwrap();
-            assert_eq!(why == Unused::Small, node.usable() < plan.size);
+            assert_eq!(why == Unused::Ceiling, node.ceiling == 0);
+            let is_small = node.ceiling > 0 && node.usable() < plan.size;
+            assert_eq!(why == Unused::Small, is_small);
+            self.ceiling += u64::from(why == Unused::Ceiling);
             if why == Unused::ZoneWhole {
                 self.zone_whole += 1;
                 zone_is_whole(c, node.zone, &plan);
@@ -126,6 +144,8 @@ fn what_binds_is_told_truly() {
         seen.room,
         seen.zones,
         seen.both,
+        seen.ceilings,
+        seen.ceiling,
         seen.small,
         seen.zone_whole,
         seen.spare,

@@ -17,7 +17,12 @@ fn split_case() -> (Cluster, Layout) {
         (6, 2, 2),
         (7, 0, 1),
     ];
-    let node = |(id, zone, capacity)| Node { id, zone, capacity };
+    let node = |(id, zone, capacity)| Node {
+        id,
+        zone,
+        capacity,
+        ceiling: Node::NO_CEILING,
+    };
     let c = Cluster {
         bits: 1,
         replication: 4,
@@ -71,6 +76,7 @@ fn chain() -> (Cluster, Layout) {
         id,
         zone,
         capacity: capacity_for(copies * SIZE),
+        ceiling: Node::NO_CEILING,
     };
     let nodes: Vec<Node> = room.into_iter().zip(1..).map(node).collect();
     let c = Cluster {

@@ -116,20 +116,22 @@ pub fn no_nodes() -> Cluster {
     }
 }
 
-/// The cluster of the cells of an answer: three numbers, that of the nodes, and the nodes.
+/// The cluster of the cells of an answer: three numbers, that of the nodes, and the nodes, four cells
+/// each.
 fn cluster_of(cells: &[u32]) -> Cluster {
-    let (used, unused) = cells[4..].split_at(3 * cells[3] as usize);
+    let (used, unused) = cells[4..].split_at(4 * cells[3] as usize);
     assert!(unused.iter().all(|cell| *cell == 0), "unused nodes");
     let node = |cells: &[u32]| reference::Node {
         id: cells[0],
         zone: cells[1].try_into().expect("a zone has 16 bits"),
         capacity: cells[2],
+        ceiling: cells[3].try_into().expect("a ceiling has 16 bits"),
     };
     Cluster {
         bits: cells[0],
         replication: cells[1] as usize,
         redundancy: cells[2] as usize,
-        nodes: used.chunks(3).map(node).collect(),
+        nodes: used.chunks(4).map(node).collect(),
     }
 }
 

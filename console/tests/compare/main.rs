@@ -4,6 +4,7 @@
 //!
 //! Every run tries the same cases. `make soak` tries many more: the tests that are ignored here.
 
+mod ceilings;
 mod cells;
 mod changes;
 mod clusters;

@@ -1,6 +1,6 @@
 //! The table of examples of document 01, with the copies to be sent as change request 2026-01 has
-//! them, the size of A as 2026-02 has it, and of several nearest layouts the first, as 2026-03 has it;
-//! the other examples keep theirs.
+//! them, the size of A as 2026-02 has it, of several nearest layouts the first, as 2026-03 has it, and
+//! the ceiling 256 for each node, as 2026-05 has it; the other numbers stay.
 
 use crate::lent::{self, Planned};
 use reference::cells::cells_of;
@@ -8,9 +8,14 @@ use reference::random::Random;
 use reference::records::cluster_record;
 use reference::{Cluster, Layout, Node};
 
-/// A cluster of k, R, Z and of nodes as id, zone and capacity.
+/// A cluster of k, R, Z and of nodes as id, zone and capacity, without ceilings.
 fn cluster(numbers: [u32; 3], nodes: &[(u32, u16, u32)]) -> Cluster {
-    let node = |&(id, zone, capacity): &(u32, u16, u32)| Node { id, zone, capacity };
+    let node = |&(id, zone, capacity): &(u32, u16, u32)| Node {
+        id,
+        zone,
+        capacity,
+        ceiling: Node::NO_CEILING,
+    };
     Cluster {
         bits: numbers[0],
         replication: numbers[1] as usize,
@@ -130,7 +135,14 @@ fn n_records_without_a_cluster() {
 }
 
 #[test]
-fn the_record_of_a_has_51_bytes() {
+fn the_record_of_a_has_57_bytes() {
     let record = cluster_record(&cluster([1, 3, 2], &THREE), &vec![vec![], vec![]]);
-    assert_eq!(record.len(), 51);
+    let expected = [
+        &[1, 0, 1, 1, 2, 0, 1, 3, 3, 0, 1, 2][..],
+        &[4, 0, 12, 0, 0, 0, 1, 0, 1, 0, 0, 0, 100, 1, 0],
+        &[4, 0, 12, 0, 0, 0, 2, 0, 1, 0, 0, 0, 70, 1, 0],
+        &[4, 0, 12, 0, 0, 0, 3, 0, 2, 0, 0, 0, 50, 1, 0],
+    ];
+    assert_eq!(record, expected.concat());
+    assert_eq!(record.len(), 57);
 }

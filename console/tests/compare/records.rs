@@ -20,12 +20,14 @@ fn any_cluster(r: &mut Random) -> (Cluster, Layout) {
     let replication = r.between(1, 8) as usize;
     let mut id = 0u32;
     let mut nodes = Vec::new();
+    let above = r.chance(10);
     for _ in 0..[31, 32, 33][r.below(3) as usize] {
         id = id.saturating_add(r.between(1, 1 << 28) as u32);
         nodes.push(Node {
             id,
             zone: r.number() as u16,
             capacity: r.number() as u32,
+            ceiling: ceiling(above, r),
         });
     }
     let c = Cluster {
@@ -38,6 +40,15 @@ fn any_cluster(r: &mut Random) -> (Cluster, Layout) {
         .map(|_| ids(r.between(0, 8), r))
         .collect();
     (c, former)
+}
+
+/// Any ceiling within its range, or at times just above it, or the highest.
+fn ceiling(above: bool, r: &mut Random) -> u16 {
+    match r.below(40) {
+        0 if above => 257,
+        1 if above => u16::MAX,
+        _ => r.below(257) as u16,
+    }
 }
 
 /// So many rising ids.
@@ -98,7 +109,7 @@ pub fn damaged(mut record: Vec<u8>, r: &mut Random) -> Vec<u8> {
 /// Some field, with a tag and a length that may be wrong.
 fn odd_field(r: &mut Random) -> Vec<u8> {
     let length = match r.below(3) {
-        0 => [1, 2, 4, 10][r.below(4) as usize],
+        0 => [1, 2, 4, 10, 12][r.below(5) as usize],
         1 => 2 + 4 * r.between(0, 9),
         _ => r.below(40),
     };
@@ -292,12 +303,17 @@ fn try_writing(seed: u64, cases: u64) {
 
 /// A record of each kind that is small enough to change every byte of it.
 fn small_records() -> [Vec<u8>; 2] {
-    let node = |id, zone, capacity| Node { id, zone, capacity };
+    let node = |id, zone, capacity, ceiling| Node {
+        id,
+        zone,
+        capacity,
+        ceiling,
+    };
     let c = Cluster {
         bits: 1,
         replication: 3,
         redundancy: 2,
-        nodes: vec![node(1, 1, 100), node(2, 1, 70), node(3, 2, 50)],
+        nodes: vec![node(1, 1, 100, 256), node(2, 1, 70, 2), node(3, 2, 50, 0)],
     };
     let former = vec![vec![1, 2], vec![3]];
     let numbers = Numbers {
@@ -327,6 +343,22 @@ fn every_byte_of_a_record_may_be_any_other() {
                 layout_reading_agrees(&record, &mut r);
             }
         }
+    }
+}
+
+/// There are 256 partitions at most, so no node has to hold more. Node 2 begins at byte 27, and its ceiling
+/// at byte 40; planning, check and figures refuse what reading refuses.
+#[test]
+fn ceilings_are_0_to_256() {
+    let mut r = Random::new(30);
+    let [mut record, _] = small_records();
+    for ceiling in 0..=u16::MAX {
+        record[40..42].copy_from_slice(&ceiling.to_be_bytes());
+        let refusal = if ceiling <= 256 { 0 } else { 4 };
+        let read = cluster_reading_agrees(&record, &mut r);
+        assert_eq!(read, refusal, "{ceiling}");
+        let refused = records::read_cluster(&record).err();
+        assert_eq!(refused, (refusal != 0).then_some((4, 27)), "{ceiling}");
     }
 }
 

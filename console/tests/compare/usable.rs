@@ -27,6 +27,7 @@ fn cluster(bits: u32, replication: usize, capacities: &[u32]) -> Cluster {
         id: 7 + u32::from(b),
         zone: b,
         capacity: *capacity,
+        ceiling: Node::NO_CEILING,
     };
     Cluster {
         bits,
@@ -139,6 +140,7 @@ fn the_package_has_the_same_rule() {
             id: 7,
             zone: 0,
             capacity,
+            ceiling: Node::NO_CEILING,
         };
         assert_eq!(node.usable(), usable);
     }

@@ -16,6 +16,7 @@ fn largest(redundancy: usize, zones: u32, capacity: impl Fn(u32) -> u32) -> Clus
         id: b + 1,
         zone: (b % zones) as u16,
         capacity: capacity(b),
+        ceiling: Node::NO_CEILING,
     };
     Cluster {
         bits: 8,
@@ -86,6 +87,15 @@ fn the_largest_clusters_end() {
                 &largest(redundancy, zones, |b| 5000 + 97 * b),
                 &vec![Vec::new(); 256],
             );
+            let mut bound = largest(redundancy, zones, |b| 5000 + 97 * b);
+            bound.nodes.iter_mut().for_each(|node| node.ceiling = 64);
+            ends(&bound, &drawn(&mut r));
+            bound
+                .nodes
+                .iter_mut()
+                .step_by(2)
+                .for_each(|n| n.ceiling = 70);
+            ends(&bound, &neighbours());
         }
     }
 }
