@@ -1,5 +1,5 @@
 #!/bin/sh
-# Makes report pages of seven clusters and takes pictures of each in headless Chromium: 390, 1024 and 1600 pixels wide, light and dark, and
+# Makes report pages of eight clusters and takes pictures of each in headless Chromium: 390, 1024 and 1600 pixels wide, light and dark, and
 # printed. They stand in build/look/ afterwards, to be looked at: nothing here judges them. CHROMIUM names another browser of that kind, and
 # words after the script's name choose some of the clusters.
 set -u
@@ -87,6 +87,8 @@ thirty_two 2 >$look/thirty-two.txt
 { head_lines 2 2 0; printf 'box 1 home 9G\nbox 3 shop 7G\nbox 4 shop 9G\n'; } >$look/k0.txt
 { head_lines 2 1; printf 'box 1 shop 1.7T\nbox 2 shop 1.7T\nbox 3 home 1.7T study\n'; } >$look/lost-before.txt
 { head_lines 2 1; printf 'box 3 home 1.7T study\nbox 4 shop 1.71T\nbox 5 shop 1.71T\n'; } >$look/lost.txt
+{ cat samples/home.txt; printf 'ceiling 1 120\nceiling 3 250\n'; } >$look/ceilings.txt
+cp samples/home.txt $look/ceilings-before.txt
 sed 's/^zones 2/zones 4/; s/^copies 3/copies 4/' samples/home.txt >$look/refused.txt
 
 shown home 0 9000 3000 2600
@@ -95,6 +97,7 @@ shown thirty-two 0 24000 9000 6000
 shown one 0 8000 2000 1600
 shown k0 0 1600 1000 1000
 shown lost 0 9500 2600 2200
+shown ceilings 0 9000 3000 2600
 shown refused 1 1600 1000 1000
 rm -rf $look/profile $look/browser.log
 printf 'look: pictures are in %s/\n' $look

@@ -44,7 +44,7 @@ compare_command() {
 }
 
 count=0
-for name in A B D E K empty lone-byte too-long largest; do
+for name in A B D E K ceiling ten-bytes empty lone-byte too-long largest; do
     [ -f "$samples/$name.record" ] || fail "$samples/$name.record is missing"
     "$program" <"$samples/$name.record" >"$work/printed" || fail "$name: the program ended with status $?"
     compare "$name"

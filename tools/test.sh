@@ -28,8 +28,11 @@ hold_back() {
     printf '%s\n' "$held" >"$work/last"
 }
 
+# rt starts its jobs in batches and waits for the longest of each, so one job more than there are processors keeps these at work.
+jobs=${RT_JOBS:-$(($(getconf _NPROCESSORS_ONLN) + 1))}
+
 # A pipe's status is that of its last command, so rt's own goes through a file.
-{ rt ci 2>&1; printf '%s\n' "$?" >"$work/status"; } | hold_back
+{ RT_JOBS=$jobs rt ci 2>&1; printf '%s\n' "$?" >"$work/status"; } | hold_back
 status=$(cat "$work/status") || fail "rt ci did not end"
 last=$(cat "$work/last") || exit 2
 [ "$status" -eq 0 ] || fail "rt ci ended with status $status"

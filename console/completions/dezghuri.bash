@@ -8,7 +8,7 @@ _dezghuri() {
         return
     fi
     case $before in
-        --allowance | --box | --add | --remove | --resize) return ;;
+        --allowance | --box | --add | --remove | --resize | --ceiling) return ;;
     esac
     # After the file come the words of a change, and no more files.
     if [ "${COMP_WORDS[1]}" = stage ] && [ "$COMP_CWORD" -ge 3 ] && [ "${word:0:1}" != - ]; then
@@ -20,7 +20,8 @@ _dezghuri() {
         check | diff) options='--staged --json --help' ;;
         show) options='--box --all --staged --json --help' ;;
         what-if) options='--former --add --remove --resize --json --help' ;;
-        stage | undo | apply) options='--json --help' ;;
+        stage) options='--ceiling --json --help' ;;
+        undo | apply) options='--json --help' ;;
         report) options='--staged --former --out --help' ;;
         record) options='--former --out --help' ;;
     esac

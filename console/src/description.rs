@@ -24,8 +24,11 @@ const USUAL_BITS: u8 = 8;
 /// ```
 /// use dezghuri::Description;
 ///
-/// let described: Description = "copies 2\nzones 1\nbox 1 home 2T study\nbox 2 home 500G".parse()?;
-/// assert_eq!(described.cluster.nodes[1].capacity, 500_000);
+/// let text = "copies 2\nzones 1\nbox 1 home 2T study\nbox 2 home 500G\nceiling 2 40";
+/// let described: Description = text.parse()?;
+/// let [study, other] = described.cluster.nodes[..] else { panic!("there are two boxes") };
+/// assert_eq!((other.capacity, other.ceiling), (500_000, 40));
+/// assert_eq!(study.ceiling, dezghuri::Node::NO_CEILING);
 /// assert_eq!(described.label(1).unwrap().name, "study");
 ///
 /// let faults = "copies 2\nbox one home 2T\n".parse::<Description>().unwrap_err();
@@ -58,6 +61,8 @@ impl Description {
                 notes.push(Note { line, what });
             }
         }
+        notes.extend(lines.ceilings_of_no_box());
+        notes.sort_by_key(|note| note.line);
         notes.extend(lines.faults_of_all());
         match notes.is_empty() {
             true => Ok(lines.described()),
@@ -160,8 +165,11 @@ struct Lines {
     zones: Option<Setting>,
     bits: Option<Setting>,
     boxes: Vec<BoxLine>,
+    ceilings: Vec<CeilingLine>,
     /// Whether a line begins with the word box, be it at fault or not.
     has_box: bool,
+    /// The ids of all such lines that have one.
+    named: BTreeSet<u32>,
 }
 
 /// A number that is set once; it has no value where its line is at fault.
@@ -182,6 +190,13 @@ struct BoxLine {
     is_cut: bool,
 }
 
+/// The ceiling of a box; it has no value where its line is at fault.
+struct CeilingLine {
+    line: usize,
+    id: u32,
+    value: Option<u16>,
+}
+
 #[derive(Clone, PartialEq, Eq)]
 enum Zone {
     Number(u16),
@@ -198,7 +213,10 @@ impl Lines {
             return Err("this has a control character in it".into());
         }
         let words: Vec<&str> = text.split_whitespace().collect();
-        self.has_box |= words.first() == Some(&"box");
+        if let ["box", ref rest @ ..] = words[..] {
+            self.has_box = true;
+            self.named.extend(rest.first().and_then(|word| id(word)));
+        }
         match words[..] {
             [] => Ok(()),
             ["copies", ..] => set(&mut self.copies, line, &words, 1..=8),
@@ -210,8 +228,13 @@ impl Lines {
                 Ok(())
             }
             ["box", ..] => Err("a box has an id, a zone and a capacity: box 1 home 2T".into()),
+            ["ceiling", id, number] => self.ceiling_line(line, id, number),
+            ["ceiling", ..] => Err(
+                "a ceiling has the id of a box and the most copies that it may hold: ceiling 1 40"
+                    .into(),
+            ),
             [word, ..] => Err(format!(
-                "a line begins with copies, zones, bits or box, and not with '{word}'"
+                "a line begins with copies, zones, bits, box or ceiling, and not with '{word}'"
             )),
         }
     }
@@ -245,12 +268,28 @@ impl Lines {
         Ok(found)
     }
 
-    fn new_id(&self, word: &str) -> Result<u32, String> {
-        let Some(id) = digits::<u32>(word).filter(|id| *id != 0) else {
+    /// Whether there is such a box is seen once all lines are read.
+    fn ceiling_line(&mut self, line: usize, id: &str, number: &str) -> Result<(), String> {
+        let id = box_id(id)?;
+        if let Some(earlier) = self.ceilings.iter().find(|earlier| earlier.id == id) {
             return Err(format!(
-                "the id of a box is a number from 1 to 4294967295, and not '{word}'"
+                "the ceiling of box {id} is on line {} already",
+                earlier.line
             ));
-        };
+        }
+        let value = digits(number).filter(|ceiling| *ceiling <= Node::NO_CEILING);
+        self.ceilings.push(CeilingLine { line, id, value });
+        match value {
+            Some(_) => Ok(()),
+            None => Err(format!(
+                "a ceiling is a number from 0 to {}, and not '{number}'",
+                Node::NO_CEILING
+            )),
+        }
+    }
+
+    fn new_id(&self, word: &str) -> Result<u32, String> {
+        let id = box_id(word)?;
         match self.boxes.iter().find(|earlier| earlier.id == id) {
             Some(earlier) => Err(format!("box {id} is on line {} already", earlier.line)),
             None => Ok(id),
@@ -277,6 +316,17 @@ impl Lines {
             }
         }
         Ok(Zone::Name(word.into()))
+    }
+
+    /// The ceilings of boxes that no line names.
+    fn ceilings_of_no_box(&self) -> Vec<Note> {
+        let ceilings = self.ceilings.iter();
+        let of_none = ceilings.filter(|found| !self.named.contains(&found.id));
+        let note = |found: &CeilingLine| Note {
+            line: Some(found.line),
+            what: format!("there is no box {} in this file", found.id),
+        };
+        of_none.map(note).collect()
     }
 
     /// Faults that no single line has.
@@ -316,6 +366,8 @@ impl Lines {
         let numbers = zone_numbers(&self.boxes);
         let value = |setting: &Option<Setting>| setting.as_ref().and_then(|s| s.value);
         let (copies, zones) = (value(&self.copies), value(&self.zones));
+        let ceilings = std::mem::take(&mut self.ceilings);
+        let ceiling = |id: u32| ceilings.iter().find(|found| found.id == id)?.value;
         let mut nodes = Vec::new();
         let mut labels = Vec::new();
         self.boxes.sort_by_key(|found| found.id);
@@ -328,6 +380,7 @@ impl Lines {
                 id: found.id,
                 zone,
                 capacity: found.capacity,
+                ceiling: ceiling(found.id).unwrap_or(Node::NO_CEILING),
             });
             labels.push(Label {
                 name: found.name,
@@ -373,6 +426,18 @@ fn set(
             range.end()
         )),
     }
+}
+
+/// The id that the word is, if it is one.
+fn id(word: &str) -> Option<u32> {
+    digits(word).filter(|id| *id != 0)
+}
+
+/// The same, told where it is none.
+fn box_id(word: &str) -> Result<u32, String> {
+    id(word).ok_or_else(|| {
+        format!("the id of a box is a number from 1 to 4294967295, and not '{word}'")
+    })
 }
 
 /// A number of decimal digits and nothing else.

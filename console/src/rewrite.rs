@@ -1,11 +1,13 @@
 //! The text file of an owner, rewritten for other boxes.
 
 mod box_lines;
+mod ceiling_lines;
 
 use crate::cluster::Node;
 use crate::description::{Description, Label};
 use crate::units::capacity_in_words;
-use box_lines::{BoxLines, Texts, CAPACITY, ID, NAME, REMARK, WORD, ZONE};
+use box_lines::{BoxLine, BoxLines, Texts, CAPACITY, ID, NAME, REMARK, WORD, ZONE};
+use ceiling_lines::CeilingLine;
 
 /// What some editors write at the head of a file.
 const BYTE_ORDER_MARK: &str = "\u{feff}";
@@ -18,7 +20,8 @@ impl Description {
     /// a box that differs only the words that differ are replaced, and spaces after them give way
     /// where columns are kept by it. The line of a box that is gone goes; its remark stays, as a
     /// line of its own. A new box stands after the last line of a box with a smaller id, before all
-    /// boxes where there is none, and at the end where no old box stays.
+    /// boxes where there is none, and at the end where no old box stays. The line of a ceiling goes
+    /// with its box, or where that has none any more; a new one stands right after its box.
     ///
     /// What is answered reads back as this cluster: [`Description::agrees_with`] holds. Zones that
     /// have names may have other numbers then, since the order of the lines gives them.
@@ -48,8 +51,8 @@ impl Description {
         self.agrees_with(&read).then_some(rewritten)
     }
 
-    /// Whether both want the same and have the same boxes, by ids, capacities and the owner's
-    /// words, in the same zones. Warnings, former layouts, the order of boxes and the numbers of
+    /// Whether both want the same and have the same boxes, by ids, capacities, ceilings and the
+    /// owner's words, in the same zones. Warnings, former layouts, the order of boxes and the numbers of
     /// zones do not count.
     pub fn agrees_with(&self, other: &Description) -> bool {
         let wanted = |described: &Description| {
@@ -81,7 +84,8 @@ fn find<'a>(described: &'a Description, id: u32) -> Option<Labelled<'a>> {
 fn same_boxes(ours: &[Labelled], theirs: &[Labelled]) -> bool {
     let pairs = || ours.iter().zip(theirs);
     let same_words = pairs().all(|((our, label), (their, other))| {
-        (our.id, our.capacity, label) == (their.id, their.capacity, other)
+        let numbers = |node: &Node| (node.id, node.capacity, node.ceiling);
+        (numbers(our), label) == (numbers(their), other)
     });
     let same_zones = pairs().all(|((our, _), (their, _))| {
         pairs().all(|((a, _), (b, _))| (our.zone == a.zone) == (their.zone == b.zone))
@@ -116,8 +120,31 @@ impl Line<'_> {
 struct Rewriting<'a> {
     lines: Vec<Line<'a>>,
     boxes: BoxLines<'a>,
+    ceilings: Vec<CeilingLine<'a>>,
     before: &'a Description,
     after: &'a Description,
+}
+
+/// The lines of the new text, each with what ends it.
+#[derive(Default)]
+struct Written<'a> {
+    lines: Vec<(String, &'a str)>,
+}
+
+impl<'a> Written<'a> {
+    /// One line more that the old text has not. A last line without an end gives that away.
+    fn insert(&mut self, text: String, end: &'a str) {
+        let end = match self.lines.last_mut() {
+            Some((_, last)) if !last.ends_with('\n') => std::mem::replace(last, end),
+            _ => end,
+        };
+        self.lines.push((text, end));
+    }
+
+    fn text(&self) -> String {
+        let lines = self.lines.iter();
+        lines.flat_map(|(text, end)| [text.as_str(), end]).collect()
+    }
 }
 
 /// Where the line of a new box goes.
@@ -132,7 +159,10 @@ impl<'a> Rewriting<'a> {
     fn new(text: &'a str, before: &'a Description, after: &'a Description) -> Rewriting<'a> {
         let lines: Vec<Line> = text.split_inclusive('\n').map(Line::new).collect();
         let boxes = BoxLines::of(lines.iter().map(|line| line.text));
+        let ceilings = lines.iter().enumerate();
+        let ceilings = ceilings.filter_map(|(number, line)| CeilingLine::read(number, line.text));
         Rewriting {
+            ceilings: ceilings.collect(),
             lines,
             boxes,
             before,
@@ -147,23 +177,25 @@ impl<'a> Rewriting<'a> {
             .into_iter()
             .map(|found| (self.spot(found.0.id), found))
             .collect();
-        let mut written: Vec<(String, &str)> = Vec::new();
+        let mut written = Written::default();
         for number in 0..=self.lines.len() {
             for (spot, found) in added.iter().filter(|(spot, _)| spot.line == number) {
                 let end = self.end_near(spot.model);
-                let end = match written.last_mut() {
-                    Some((_, last)) if !last.ends_with('\n') => std::mem::replace(last, end),
-                    _ => end,
-                };
-                written.push((self.added(spot, *found), end));
+                written.insert(self.added(spot, *found), end);
+                if let Some(text) = self.new_ceiling(spot.model, found.0) {
+                    written.insert(text, end);
+                }
             }
-            if let Some(line) = self.lines.get(number) {
-                let text = self.kept(number, line.text);
-                written.extend(text.map(|text| (text, line.end)));
+            let Some(line) = self.lines.get(number) else {
+                continue;
+            };
+            let text = self.kept(number, line.text);
+            written.lines.extend(text.map(|text| (text, line.end)));
+            if let Some((place, text)) = self.ceiling_of_old(number) {
+                written.insert(text, self.end_near(place));
             }
         }
-        let pieces = written.iter().flat_map(|(text, end)| [text.as_str(), end]);
-        pieces.collect()
+        written.text()
     }
 
     fn spot(&self, id: u32) -> Spot {
@@ -172,11 +204,30 @@ impl<'a> Rewriting<'a> {
         let first = staying.clone().next();
         let smaller = staying.rfind(|(_, line)| line.id < id);
         let (line, model) = match (smaller, first) {
-            (Some((place, smaller)), _) => (smaller.number + 1, place),
+            (Some((place, smaller)), _) => (self.end_of(smaller), place),
             (None, Some((place, first))) => (first.number, place),
             (None, None) => (self.lines.len(), self.boxes.lines.len() - 1),
         };
         Spot { line, model }
+    }
+
+    /// The line after that of an old box, and after that of its ceiling where this follows and stays.
+    fn end_of(&self, line: &BoxLine) -> usize {
+        let next = line.number + 1;
+        let ceiling = self.ceiling_line(line.id);
+        let follows = ceiling.is_some_and(|line| line.number == next && self.stays(line));
+        next + usize::from(follows)
+    }
+
+    /// Whether the line of a ceiling stays one, though perhaps with another number.
+    fn stays(&self, line: &CeilingLine) -> bool {
+        let ceiling = |described| find(described, line.id).map(|(node, _)| node.ceiling);
+        let after = ceiling(self.after);
+        after.is_some_and(|after| after < Node::NO_CEILING) || after == ceiling(self.before)
+    }
+
+    fn ceiling_line(&self, id: u32) -> Option<&CeilingLine<'a>> {
+        self.ceilings.iter().find(|line| line.id == id)
     }
 
     /// What ends the line of this box, or, where nothing does, the nearest line above it.
@@ -193,8 +244,41 @@ impl<'a> Rewriting<'a> {
         self.boxes.written(spot.model, texts)
     }
 
+    /// The line of a ceiling that the text does not have; none where the box needs none. It is set
+    /// apart as the box line at a place.
+    fn new_ceiling(&self, place: usize, node: &Node) -> Option<String> {
+        let [indent, blank] = self.boxes.lines[place].blanks();
+        let (word, id, ceiling) = (ceiling_lines::WORD, node.id, node.ceiling);
+        let is_needed = ceiling < Node::NO_CEILING && self.ceiling_line(id).is_none();
+        is_needed.then(|| format!("{indent}{word}{blank}{id}{blank}{ceiling}"))
+    }
+
+    /// The same of a box that has a line, this one, with its place among the boxes.
+    fn ceiling_of_old(&self, number: usize) -> Option<(usize, String)> {
+        let mut boxes = self.boxes.lines.iter();
+        let place = boxes.position(|line| line.number == number)?;
+        let (node, _) = find(self.after, self.boxes.lines[place].id)?;
+        Some((place, self.new_ceiling(place, node)?))
+    }
+
+    /// What becomes of the line of a ceiling.
+    fn kept_ceiling(&self, line: &CeilingLine, text: &str) -> Option<String> {
+        let after = find(self.after, line.id).filter(|_| self.stays(line));
+        let Some((after, _)) = after else {
+            return line.remark().map(String::from);
+        };
+        match find(self.before, line.id) {
+            Some((before, _)) if before.ceiling == after.ceiling => Some(text.into()),
+            _ => Some(line.with(after.ceiling)),
+        }
+    }
+
     /// What becomes of a line of the text; none where nothing is left of it.
     fn kept(&self, number: usize, text: &str) -> Option<String> {
+        let mut ceilings = self.ceilings.iter();
+        if let Some(line) = ceilings.find(|line| line.number == number) {
+            return self.kept_ceiling(line, text);
+        }
         let mut boxes = self.boxes.lines.iter();
         let Some(place) = boxes.position(|line| line.number == number) else {
             return Some(text.into());

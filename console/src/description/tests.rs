@@ -62,7 +62,7 @@ fn each_line_at_fault_is_told() {
         "line 1: copies takes one number, from 1 to 8",
         "line 2: zones takes one number, from 1 to 8",
         "line 3: bits takes one number, from 0 to 8",
-        "line 4: a line begins with copies, zones, bits or box, and not with 'coppies'",
+        "line 4: a line begins with copies, zones, bits, box or ceiling, and not with 'coppies'",
         "line 5: a box has an id, a zone and a capacity: box 1 home 2T",
         "line 6: the id of a box is a number from 1 to 4294967295, and not '0'",
         "line 8: box 1 is on line 7 already",
@@ -73,6 +73,62 @@ fn each_line_at_fault_is_told() {
         "line 13: bits is on line 3 already",
     ];
     assert_eq!(faults(text), expected);
+}
+
+fn ceilings(text: &str) -> Vec<u16> {
+    let described = Description::parse(text.as_bytes()).unwrap_or_else(|faults| panic!("{faults}"));
+    described.cluster.nodes.iter().map(|n| n.ceiling).collect()
+}
+
+/// A ceiling stands anywhere, and a box without one has the highest.
+#[test]
+fn ceilings_are_those_of_their_boxes() {
+    let boxes = "box 9 a 5 ceiling 3\nbox 3 a 5\nbox 4 a 5\n";
+    let below = format!("copies 2\nzones 1\n{boxes}ceiling 003 40 # thin line\n\tceiling\t9 0\r\n");
+    assert_eq!(ceilings(&below), [40, 256, 0]);
+    let above = format!("ceiling 4 256\nceiling 3 1#x\ncopies 2\nzones 1\n{boxes}");
+    assert_eq!(ceilings(&above), [1, 256, 256]);
+    assert_eq!(ceilings(GOOD), [256]);
+}
+
+/// A text with these lines from line 7 on, and what is told of them.
+fn told_below(lines: &[(&str, &str)]) {
+    let below: String = lines.iter().map(|(line, _)| format!("{line}\n")).collect();
+    let text = format!("{GOOD}box 2 a 5\nbox 3 a 5\nbox 4 a 5\n{below}");
+    let told = (7..).zip(lines).filter(|(_, (_, told))| !told.is_empty());
+    let told: Vec<String> = told
+        .map(|(number, (_, told))| format!("line {number}: {told}"))
+        .collect();
+    assert_eq!(faults(&text), told);
+}
+
+/// Each in the order of its line, also where it is known only at the end that there is no such box.
+#[test]
+fn each_ceiling_at_fault_is_told() {
+    let words = "a ceiling has the id of a box and the most copies that it may hold: ceiling 1 40";
+    let id = "the id of a box is a number from 1 to 4294967295, and not";
+    let number = "a ceiling is a number from 0 to 256, and not";
+    let line = "a line begins with copies, zones, bits, box or ceiling, and not with 'boks'";
+    let capacity =
+        "'5X' is not a capacity: write megabytes, or a number that ends in G or T, as 500G";
+    told_below(&[
+        ("ceiling 7 40", "there is no box 7 in this file"),
+        ("ceiling", words),
+        ("ceiling 1", words),
+        ("ceiling 1 2 3", words),
+        ("ceiling x 40", &format!("{id} 'x'")),
+        ("ceiling 0 40", &format!("{id} '0'")),
+        ("ceiling 1 257", &format!("{number} '257'")),
+        ("ceiling 1 40", "the ceiling of box 1 is on line 13 already"),
+        ("ceiling 2 65536", &format!("{number} '65536'")),
+        ("ceiling 3 -1", &format!("{number} '-1'")),
+        ("ceiling 4 few", &format!("{number} 'few'")),
+        ("ceiling 5 40", "there is no box 5 in this file"),
+        ("boks 5 a 5", line),
+        ("ceiling 8 40", ""),
+        ("box 8 a 5X", capacity),
+        ("ceiling 7 1", "the ceiling of box 7 is on line 7 already"),
+    ]);
 }
 
 #[test]
@@ -162,6 +218,10 @@ fn some_text(r: &mut Random) -> String {
         "box 9 Shop 1",
         "box 4294967295 é 1",
         "boks 1 a 1",
+        "ceiling 7 5",
+        "ceiling 1 257",
+        "box 70 a 1T\nceiling 70 256",
+        "ceiling 71 0\nbox 71 a 1T",
     ];
     let mut text = String::from("copies 2\nzones 1\n");
     for _ in 0..r.below(8) {

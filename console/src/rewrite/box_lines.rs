@@ -93,6 +93,13 @@ impl<'a> BoxLine<'a> {
         })
     }
 
+    /// The blanks before the line, and what a new line of few words has between them: a tab or a space.
+    pub fn blanks(&self) -> [&'a str; 2] {
+        let before = |part: usize| self.parts[part].as_ref().map_or("", |part| part.blanks);
+        let is_tab = before(ID) == "\t";
+        [before(0), if is_tab { "\t" } else { " " }]
+    }
+
     pub fn text(&self, part: usize) -> Option<&'a str> {
         self.parts[part].as_ref().map(|part| part.text)
     }

@@ -42,6 +42,7 @@ fn add(described: &mut Description, id: u32, zone: &str, capacity: u32, name: &s
         id,
         zone: number,
         capacity,
+        ceiling: Node::NO_CEILING,
     });
     described.labels.push(Label {
         name: name.into(),
@@ -53,6 +54,13 @@ fn resize(described: &mut Description, id: u32, capacity: u32) {
     let mut nodes = described.cluster.nodes.iter_mut();
     let node = nodes.find(|node| node.id == id).expect("it is there");
     node.capacity = capacity;
+}
+
+/// Gives a box another ceiling.
+fn limit(described: &mut Description, id: u32, ceiling: u16) {
+    let mut nodes = described.cluster.nodes.iter_mut();
+    let node = nodes.find(|node| node.id == id).expect("it is there");
+    node.ceiling = ceiling;
 }
 
 fn replace(described: &mut Description, id: u32, zone: &str, capacity: u32, name: &str) {
@@ -270,6 +278,89 @@ fn ends_of_lines_are_those_of_the_file() {
     );
 }
 
+#[test]
+fn the_ceiling_of_a_removed_box_goes_and_its_remark_stays() {
+    let text = "ceiling 1 40 # thin line\nbox 1 a 5 # old\nbox 2 a 5\n ceiling 2 30\nbox 3 a 5\n";
+    let rewritten = boxes_after(text, |d| remove(d, 1));
+    assert_eq!(
+        rewritten,
+        "# thin line\n# old\nbox 2 a 5\n ceiling 2 30\nbox 3 a 5\n"
+    );
+    let rewritten = boxes_after(text, |d| remove(d, 2));
+    assert_eq!(
+        rewritten,
+        "ceiling 1 40 # thin line\nbox 1 a 5 # old\nbox 3 a 5\n"
+    );
+    let last = "box 1 a 5\nbox 2 a 5\nceiling 2 7#x";
+    assert_eq!(boxes_after(last, |d| remove(d, 2)), "box 1 a 5\n#x");
+    let last = "box 1 a 5\nbox 2 a 5\nceiling 2 7";
+    assert_eq!(boxes_after(last, |d| remove(d, 2)), "box 1 a 5\n");
+}
+
+#[test]
+fn another_disk_leaves_the_ceiling() {
+    let text = "  ceiling\t1   040  # thin\nbox 1 a 5\n";
+    let rewritten = boxes_after(text, |d| resize(d, 1, 7));
+    assert_eq!(rewritten, text.replace("a 5", "a 7M"));
+}
+
+#[test]
+fn the_ceiling_of_a_new_box_follows_it() {
+    let text = "box 1 a 5\nceiling 1 40\nbox 5 a 5\n# end";
+    let add_limited = |d: &mut Description, id, ceiling| {
+        add(d, id, "a", 6, "");
+        limit(d, id, ceiling);
+    };
+    let rewritten = boxes_after(text, |d| {
+        add_limited(d, 3, 0);
+        add_limited(d, 4, 256);
+        add_limited(d, 7, 255);
+    });
+    let expected = "box 1 a 5\nceiling 1 40\nbox 3 a 6M\nceiling 3 0\nbox 4 a 6M\nbox 5 a 5\n\
+                    box 7 a 6M\nceiling 7 255\n# end";
+    assert_eq!(rewritten, expected);
+    let tabs = "\tbox\t1\ta\t5\r";
+    let rewritten = boxes_after(tabs, |d| add_limited(d, 3, 20));
+    assert_eq!(
+        rewritten,
+        "\tbox\t1\ta\t5\n\tbox\t3\ta\t6M\n\tceiling\t3\t20\r"
+    );
+    let rewritten = boxes_after("  box  1 a 5", |d| {
+        remove(d, 1);
+        add_limited(d, 3, 20);
+    });
+    assert_eq!(rewritten, "  box  3 a 6M\n  ceiling 3 20\n");
+}
+
+/// A box that was removed and added anew may have another ceiling, or none.
+#[test]
+fn a_box_that_was_replaced_keeps_the_line_of_its_ceiling() {
+    let text = "box 1 a 5\nbox 2 a 5 # x\n\nceiling  1 40 # y\n";
+    let with = |ceiling: u16| boxes_after(text, |d| limit(d, 1, ceiling));
+    assert_eq!(with(40), text);
+    assert_eq!(with(7), text.replace("40", "7"));
+    assert_eq!(with(256), text.replace("ceiling  1 40 ", ""));
+    let rewritten = boxes_after(text, |d| {
+        limit(d, 2, 9);
+        add(d, 3, "a", 5, "");
+    });
+    let expected = "box 1 a 5\nbox 2 a 5 # x\nceiling 2 9\nbox 3 a 5M\n\nceiling  1 40 # y\n";
+    assert_eq!(rewritten, expected);
+    let high = "box 1 a 5\nceiling 1 256 # z\n";
+    assert_eq!(
+        boxes_after(high, |d| limit(d, 1, 3)),
+        high.replace("256", "3")
+    );
+    let rewritten = boxes_after(high, |d| add(d, 2, "a", 5, ""));
+    assert_eq!(rewritten, high.to_string() + "box 2 a 5M\n");
+    let dropped = "box 1 a 5\nceiling 1 2 # z\n";
+    let rewritten = boxes_after(dropped, |d| {
+        limit(d, 1, 256);
+        add(d, 2, "a", 5, "");
+    });
+    assert_eq!(rewritten, "box 1 a 5\nbox 2 a 5M\n# z\n");
+}
+
 /// The first lines number the zones; box by box the words are the same.
 #[test]
 fn zones_are_those_of_the_words_though_their_numbers_shift() {
@@ -311,6 +402,7 @@ fn what_cannot_be_written_is_not() {
     refused(HOME, |d| (6..=33).for_each(|id| add(d, id, "home", 5, "")));
     refused(HOME, |d| d.cluster.nodes[0].zone = 2);
     refused(HOME, |d| d.labels.truncate(4));
+    refused(HOME, |d| limit(d, 3, 257));
 }
 
 mod random;

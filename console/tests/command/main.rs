@@ -1,5 +1,6 @@
 //! The command as its owner calls it: whole outputs, exit status, and what is in the folder after.
 
+mod ceilings;
 mod compared;
 mod folder;
 mod lost;
@@ -23,6 +24,8 @@ use folder::{layout_record, Folder};
 /// The sample of the README, and the same cluster after box 5 was replaced.
 const HOME: &str = include_str!("../../../samples/home.txt");
 const HOME_NEXT: &str = include_str!("../../../samples/home-next.txt");
+
+const README: &str = include_str!("../../../README.md");
 
 /// Example A of the paper: every row must name all three boxes.
 const THREE: &str =
@@ -129,12 +132,16 @@ fn the_plan_after_a_box_was_replaced_has_the_first_rows() {
 fn the_readme_shows_what_is_printed() {
     let printed = include_str!("next.txt").replace("next.txt", "shop.txt");
     let printed = printed.replace("Written to next.", "Written to shop-next.layout.");
-    let indented = |line: &str| match line {
+    assert!(README.contains(&indented(&printed)));
+}
+
+/// A text as the README shows it.
+fn indented(text: &str) -> String {
+    let line = |line: &str| match line {
         "" => "\n".into(),
         line => format!("    {line}\n"),
     };
-    let sample: String = printed.lines().map(indented).collect();
-    assert!(include_str!("../../../README.md").contains(&sample));
+    text.lines().map(line).collect()
 }
 
 #[test]
@@ -279,15 +286,15 @@ fn a_cluster_record_is_written() {
     folder.write("home.txt", THREE);
     let expected = [
         &[1, 0, 1, 1, 2, 0, 1, 3, 3, 0, 1, 2][..],
-        &[4, 0, 10, 0, 0, 0, 1, 0, 0, 0, 0, 0, 100],
-        &[4, 0, 10, 0, 0, 0, 2, 0, 0, 0, 0, 0, 70],
-        &[4, 0, 10, 0, 0, 0, 3, 0, 1, 0, 0, 0, 50],
+        &[4, 0, 12, 0, 0, 0, 1, 0, 0, 0, 0, 0, 100, 1, 0],
+        &[4, 0, 12, 0, 0, 0, 2, 0, 0, 0, 0, 0, 70, 1, 0],
+        &[4, 0, 12, 0, 0, 0, 3, 0, 1, 0, 0, 0, 50, 1, 0],
     ]
     .concat();
     let done = folder.call("record home.txt");
     assert_eq!((done.status, done.bytes), (0, expected.clone()));
     let done = folder.call("record home.txt --out record");
-    let told = "home.txt makes a cluster record of 51 bytes.\nWritten to record.\n";
+    let told = "home.txt makes a cluster record of 57 bytes.\nWritten to record.\n";
     assert_eq!((done.status, done.out.as_str()), (0, told));
     assert_eq!(folder.read("record"), expected);
 
@@ -485,6 +492,6 @@ fn help_and_version_are_printed() {
     for line in ["--version", "-V", "version"] {
         let version = folder.call(line);
         assert_eq!((version.status, version.err.as_str()), (0, ""), "{line}");
-        assert_eq!(version.out, "dezghuri 0.5.0\n", "{line}");
+        assert_eq!(version.out, "dezghuri 0.6.0\n", "{line}");
     }
 }

@@ -126,6 +126,31 @@ fn only_a_layout_is_replaced_by_a_layout() {
     }
 }
 
+/// Example A's record as version 0.5.0 wrote it: its boxes have ten bytes.
+#[test]
+fn a_cluster_record_without_ceilings_is_replaced_and_kept() {
+    let folder = Folder::new("records-before");
+    folder.write("home.txt", crate::THREE);
+    let before = [
+        &[1, 0, 1, 1, 2, 0, 1, 3, 3, 0, 1, 2][..],
+        &[4, 0, 10, 0, 0, 0, 1, 0, 0, 0, 0, 0, 100],
+        &[4, 0, 10, 0, 0, 0, 2, 0, 0, 0, 0, 0, 70],
+        &[4, 0, 10, 0, 0, 0, 3, 0, 1, 0, 0, 0, 50],
+    ]
+    .concat();
+    folder.write("record", &before);
+    let planned = folder.call("plan --record record");
+    assert_eq!((planned.status, planned.out.as_str()), (1, "refused 3\n"));
+    assert_eq!(folder.call("record home.txt --out record").status, 0);
+    assert_eq!(folder.read("record").len(), 57);
+    assert_eq!(folder.read("record.old"), before);
+    for other in [&before[..before.len() - 1], &before[1..], &[]] {
+        folder.write("other", other);
+        let done = folder.call("record home.txt --out other");
+        assert_eq!((done.status, folder.read("other")), (2, other.to_vec()));
+    }
+}
+
 #[test]
 fn only_a_cluster_record_is_replaced_by_one() {
     let folder = planned_home("records");
@@ -136,7 +161,7 @@ fn only_a_cluster_record_is_replaced_by_one() {
     assert_eq!(folder.call("record home.txt --out record").status, 0);
     let before = folder.read("record");
     let done = folder.call("record next.txt --former last --out record");
-    let told = "next.txt makes a cluster record of 4,429 bytes.\nWritten to record.\n\
+    let told = "next.txt makes a cluster record of 4,439 bytes.\nWritten to record.\n\
                 The cluster record before it is kept as record.old.\n";
     assert_eq!((done.status, done.out.as_str()), (0, told));
     assert!(folder.read("record.old") == before);

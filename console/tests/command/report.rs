@@ -298,13 +298,18 @@ fn scattered(first: u32, seed: u32) -> Vec<u8> {
     layout_record(8, 1, &rows)
 }
 
-/// The most boxes with the longest ids, names and zones, all but one new; eight copies each.
+/// The most boxes with the longest ids, names and zones, all but one new, each with a ceiling that it may
+/// not reach; eight copies each.
 #[test]
 fn the_largest_page_is_not_long() {
     let folder = Folder::new("report-largest");
     let boxes = (0..32u32).map(|b| {
         let (quotes, zone) = ("\"".repeat(200), format!("{b}-{}", "\"".repeat(100)));
-        format!("box {} {zone} {}T {quotes}\n", 4_294_967_231 + b, 2 + b % 7)
+        let id = 4_294_967_231 + b;
+        format!(
+            "box {id} {zone} {}T {quotes}\nceiling {id} 255\n",
+            2 + b % 7
+        )
     });
     let text = format!("copies 8\nzones 1\n{}", boxes.collect::<String>());
     folder.write("home.txt", text);

@@ -1,6 +1,7 @@
 //! Changes that are staged, shown, planned with, taken back and applied.
 
 mod applied;
+mod ceilings;
 mod cut_short;
 mod damaged;
 mod kept;
@@ -10,6 +11,7 @@ mod refused;
 
 use crate::folder::{Done, Folder};
 use crate::read_json::{read, Value};
+use crate::{indented, HOME, README};
 
 /// Three boxes in two zones, with remarks.
 const FILE: &str = "# The shop.\ncopies 2\nzones 1\nbits 1\n\nbox 1 home 4T study   # since May\n\
@@ -29,7 +31,7 @@ fn changes() -> Vec<u8> {
         b"attic",
         &[241, 0, 7],
         b"new box",
-        &[20, 0, 10, 0, 0, 0, 7, 0, 2, 0, 0x3d, 0x09, 0],
+        &[20, 0, 12, 0, 0, 0, 7, 0, 2, 0, 0x3d, 0x09, 0, 1, 0],
         &[21, 0, 4, 0, 0, 0, 2],
         &[22, 0, 8, 0, 0, 0, 3, 0, 0x7a, 0x12, 0],
     ]
@@ -146,6 +148,20 @@ fn what_is_staged_is_shown() {
     assert_eq!(folder.read("shop.txt.staged"), staged_bytes());
 }
 
+/// The changes of the README, staged for its sample one after the other.
+#[test]
+fn the_readme_shows_what_is_staged() {
+    let folder = Folder::new("staged-readme");
+    folder.write("shop.txt", HOME);
+    let lines = README
+        .lines()
+        .filter_map(|line| line.strip_prefix("    dezghuri "));
+    let lines = lines.filter(|line| line.starts_with("stage shop.txt "));
+    let printed: Vec<String> = lines.map(|line| done(&folder, line)).collect();
+    assert_eq!(printed.len(), 4);
+    assert!(README.contains(&indented(&printed[3])), "{}", printed[3]);
+}
+
 /// After each step back the file is what it was before the change was staged.
 #[test]
 fn changes_are_taken_back_again_and_again() {
@@ -230,7 +246,7 @@ fn objects_tell_what_is_staged() {
     done(&folder, "undo shop.txt");
     let stored = include_str!("staged/undo.json");
     assert_eq!(done(&folder, "undo shop.txt --json"), stored);
-    assert_eq!(folder.read("shop.txt.staged"), whole(&changes()[..38]));
+    assert_eq!(folder.read("shop.txt.staged"), whole(&changes()[..40]));
     done(&folder, CHANGES[2]);
     let stored = include_str!("staged/apply.json");
     assert_eq!(done(&folder, "apply shop.txt --json"), stored);

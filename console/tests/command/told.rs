@@ -68,14 +68,14 @@ fn boxes_that_are_all_at_fault_are_told_by_line() {
 }
 
 /// Each slip is warned of, and nothing else; all is done all the same. Nine boxes make a record of
-/// 12 + 9 * 13 bytes.
+/// 12 + 9 * 15 bytes.
 #[test]
 fn slips_are_warned_of() {
     let folder = Folder::new("slips");
     folder.write("home.txt", include_str!("slips.txt"));
     let done = folder.call("record home.txt --out record");
     assert_eq!(done.err, include_str!("slips-told.txt"));
-    let told = "home.txt makes a cluster record of 129 bytes.\nWritten to record.\n";
+    let told = "home.txt makes a cluster record of 147 bytes.\nWritten to record.\n";
     assert_eq!((done.status, done.out.as_str()), (0, told));
     let planned = folder.call("plan home.txt");
     assert_eq!(

@@ -92,8 +92,8 @@ pub struct Source {
 #[derive(Clone, Debug, PartialEq, Eq)]
 pub enum Staging {
     Show,
-    /// The words of a box's line in the file, with its id.
-    Add(String),
+    /// The words of a box's line in the file, with its id, and the ceiling.
+    Add(String, u16),
     Remove(u32),
     /// The capacity in megabytes.
     Resize(u32, u32),
@@ -172,7 +172,14 @@ const GRAMMARS: [(&str, Grammar); 10] = [
             flags: &[],
         },
     ),
-    ("stage", NO_OPTIONS),
+    (
+        "stage",
+        Grammar {
+            options: &[CEILING],
+            repeated: &[],
+            flags: &[JSON],
+        },
+    ),
     ("undo", NO_OPTIONS),
     ("apply", NO_OPTIONS),
 ];
@@ -194,6 +201,9 @@ pub const JSON: &str = "--json";
 
 /// Asks for the boxes with the staged changes.
 const STAGED: &str = "--staged";
+
+/// Gives a box that is staged its ceiling.
+const CEILING: &str = "--ceiling";
 
 /// The name of a command that takes words, if the word is one.
 pub fn command_name(word: &OsString) -> Option<&'static str> {

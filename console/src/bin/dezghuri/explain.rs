@@ -1,7 +1,7 @@
 //! Refusals in the words of the owner.
 
 use crate::units::{count, thousands};
-use dezghuri::{Description, Node, Place, Plan, Refusal, Refused};
+use dezghuri::{Cluster, Description, Node, Place, Plan, Refusal, Refused};
 use std::collections::BTreeSet;
 
 /// Why the cluster has no plan.
@@ -10,34 +10,85 @@ pub fn no_plan(described: &Description, refused: Refused) -> String {
         return refused.to_string();
     }
     let cluster = &described.cluster;
-    let with_space: Vec<_> = cluster.nodes.iter().filter(|n| n.capacity > 0).collect();
-    let zones: BTreeSet<u16> = with_space.iter().map(|node| node.zone).collect();
-    let (copies, wanted) = (cluster.replication.into(), cluster.redundancy.into());
-    let why = if with_space.len() < copies {
-        format!(
-            "{} with disk space, and {}",
-            match copies {
-                1 => "1 copy needs 1 box".into(),
-                _ => format!("{copies} copies need {copies} boxes"),
-            },
-            count(with_space.len() as u64, "has any", "have any")
-        )
-    } else if zones.len() < wanted {
-        format!(
-            "{wanted} zones are wanted, and the boxes with disk space lie in {}",
-            zones.len()
-        )
-    } else {
-        let free = match cluster.nodes.iter().any(keeps_free) {
-            true => ", a sixteenth of each kept free,",
-            false => "",
-        };
-        format!(
-            "the disks{free} are too small for {} of a megabyte each",
-            count(1 << cluster.bits, "partition", "partitions")
-        )
+    let why = match has_layout(&without_ceilings(cluster)) {
+        true => ceilings_too_low(cluster),
+        false => disks_too_small(cluster),
     };
     format!("there is no layout: {why} (refused 9)")
+}
+
+/// Whether there is a layout at size 1.
+fn has_layout(cluster: &Cluster) -> bool {
+    let counts = cluster.counts(1);
+    !counts.lack_room() && !counts.lack_zones()
+}
+
+fn without_ceilings(cluster: &Cluster) -> Cluster {
+    let mut cluster = cluster.clone();
+    let nodes = cluster.nodes.iter_mut();
+    nodes.for_each(|node| node.ceiling = Node::NO_CEILING);
+    cluster
+}
+
+/// Why the disks allow no layout, whatever the ceilings are.
+fn disks_too_small(cluster: &Cluster) -> String {
+    let with_space: Vec<_> = cluster.nodes.iter().filter(|n| n.capacity > 0).collect();
+    if let Some(why) = too_few(cluster, &with_space, ["with disk space", "have any"]) {
+        return why;
+    }
+    let free = match cluster.nodes.iter().any(keeps_free) {
+        true => ", a sixteenth of each kept free,",
+        false => "",
+    };
+    format!(
+        "the disks{free} are too small for {} of a megabyte each",
+        count(1 << cluster.bits, "partition", "partitions")
+    )
+}
+
+/// Why the ceilings allow no layout, though the disks do.
+fn ceilings_too_low(cluster: &Cluster) -> String {
+    let can_hold = |node: &&Node| node.capacity > 0 && node.ceiling > 0;
+    let can_hold: Vec<_> = cluster.nodes.iter().filter(can_hold).collect();
+    let words = ["with disk space and a ceiling above 0", "have both"];
+    if let Some(why) = too_few(cluster, &can_hold, words) {
+        return why;
+    }
+    let counts = cluster.counts(1);
+    match counts.lack_room() {
+        true => format!(
+            "the ceilings are too low: the boxes may hold {} together, and {}",
+            count(counts.room, "copy", "copies"),
+            count(counts.wanted, "is wanted", "are wanted"),
+        ),
+        false => format!(
+            "the ceilings are too low for {}: with each partition once in a zone the boxes may hold \
+             {}, and {}",
+            count(cluster.redundancy.into(), "zone", "zones"),
+            count(counts.zone_room, "copy", "copies"),
+            count(counts.zone_wanted, "is wanted", "are wanted"),
+        ),
+    }
+}
+
+/// That there are fewer such boxes than copies, or that they lie in fewer zones than are wanted. The
+/// words say which boxes they are, and that so many are.
+fn too_few(cluster: &Cluster, boxes: &[&Node], [which, have]: [&str; 2]) -> Option<String> {
+    let zones: BTreeSet<u16> = boxes.iter().map(|node| node.zone).collect();
+    let (copies, wanted) = (cluster.replication.into(), cluster.redundancy.into());
+    let has = have.replacen("have", "has", 1);
+    if boxes.len() < copies {
+        let needed = match copies {
+            1 => "1 copy needs 1 box".into(),
+            _ => format!("{copies} copies need {copies} boxes"),
+        };
+        let found = count(boxes.len() as u64, &has, have);
+        return Some(format!("{needed} {which}, and {found}"));
+    }
+    (zones.len() < wanted).then(|| {
+        let lie = zones.len();
+        format!("{wanted} zones are wanted, and the boxes {which} lie in {lie}")
+    })
 }
 
 /// Whether a part of its disk stays free: none does of one under 16 MB.
@@ -101,6 +152,17 @@ fn too_full(described: &Description, plan: &Plan, id: u32) -> String {
     let rows = plan.layout.rows();
     let copies = rows.filter(|(_, ids)| ids.contains(&id)).count() as u64;
     let together = copies * u64::from(plan.size);
+    let is_above = copies > node.ceiling.into();
+    // It fits the disk, as one does that was planned before a sixteenth was kept free, or before the
+    // box had its ceiling.
+    let advice = match together <= node.capacity.into() {
+        true => ": plan again, with this layout as --former",
+        false => "",
+    };
+    let to_hold = format!("box {id} is to hold {}", count(copies, "copy", "copies"));
+    if together <= node.usable().into() {
+        return format!("{to_hold}, and its ceiling is {}{advice}", node.ceiling);
+    }
     let capacity = thousands(node.capacity.into());
     let room = match keeps_free(node) {
         true => format!(
@@ -109,14 +171,12 @@ fn too_full(described: &Description, plan: &Plan, id: u32) -> String {
         ),
         false => format!("has {capacity} MB"),
     };
-    // It fits the disk, as one does that was planned before a sixteenth was kept free.
-    let advice = match together <= node.capacity.into() {
-        true => ": plan again, with this layout as --former",
-        false => "",
+    let ceiling = match is_above {
+        true => format!(", and its ceiling is {}", node.ceiling),
+        false => String::new(),
     };
     format!(
-        "box {id} is to hold {} of {} MB, {} MB together, and {room}{advice}",
-        count(copies, "copy", "copies"),
+        "{to_hold} of {} MB, {} MB together, and {room}{ceiling}{advice}",
         thousands(plan.size.into()),
         thousands(together),
     )

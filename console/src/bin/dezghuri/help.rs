@@ -28,8 +28,8 @@ Plans where the copies of a cluster of storage boxes lie.
       --add \"ZONE CAPACITY [NAME]\", --remove ID or --resize ID=CAPACITY
   dezghuri stage FILE CHANGE
       stages a change of the boxes, to be planned and applied with others; FILE
-      stays as it is. A CHANGE is add ID ZONE CAPACITY [NAME ..], remove ID or
-      resize ID CAPACITY
+      stays as it is. A CHANGE is add ID ZONE CAPACITY [NAME ..] [--ceiling N],
+      remove ID or resize ID CAPACITY
   dezghuri stage FILE
       shows what is staged
   dezghuri undo FILE
@@ -53,10 +53,12 @@ FILE is a text file:
   zones 2                     # that these lie in at least
   bits 8                      # 2^8 = 256 partitions; may be left out
   box 1 workshop 4T tower     # id, zone, capacity, and a name if you like
+  ceiling 1 40                # box 1 holds at most 40 copies; may be left out
 
 A capacity is in megabytes, or ends in G or T. It is that of the whole disk, of
 which a sixteenth stays free. A zone is a name of one word, or a number from 0
-to 65535. A # begins a remark.
+to 65535. A ceiling is a number from 0 to 256, for a large disk on a thin line;
+a box without one may hold every partition. A # begins a remark.
 
 With --staged, plan, check, show, diff and report take the boxes of FILE with
 all staged changes made. What is staged is kept in FILE.staged.

@@ -126,6 +126,12 @@ impl From<u8> for Json {
     }
 }
 
+impl From<u16> for Json {
+    fn from(value: u16) -> Json {
+        Json::Number(value.into())
+    }
+}
+
 impl From<u32> for Json {
     fn from(value: u32) -> Json {
         Json::Number(value.into())

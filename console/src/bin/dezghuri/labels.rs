@@ -1,7 +1,8 @@
 //! What boxes are called, those that are gone included.
 
 use crate::json::Json;
-use dezghuri::{Description, Label};
+use crate::units::count;
+use dezghuri::{Cluster, Description, Label, Node};
 
 /// In the place of the zone of a box that the file does not have.
 pub const GONE: &str = "not there any more";
@@ -35,6 +36,33 @@ pub fn json(described: &Description, id: u32) -> Json {
     ])
 }
 
+/// A ceiling that is one: below 256.
+pub fn own_ceiling(ceiling: u16) -> Option<u16> {
+    (ceiling < Node::NO_CEILING).then_some(ceiling)
+}
+
+/// The ceiling of a box, where it has one.
+pub fn ceiling(node: &Node) -> Option<u16> {
+    own_ceiling(node.ceiling)
+}
+
+/// The same in words.
+pub fn ceiling_in_words(node: &Node) -> Option<String> {
+    let copies = |ceiling: u16| count(ceiling.into(), "copy", "copies");
+    ceiling(node).map(|ceiling| format!("at most {}", copies(ceiling)))
+}
+
+/// Whether some box has a ceiling: nothing is said of them where none has.
+pub fn has_ceilings(cluster: &Cluster) -> bool {
+    cluster.nodes.iter().any(|node| ceiling(node).is_some())
+}
+
+/// A box in a sentence, or several: the word for it, and the ids.
+pub fn boxes(ids: &[u32]) -> String {
+    let word = if ids.len() == 1 { "box" } else { "boxes" };
+    format!("{word} {}", listed(ids.iter()))
+}
+
 /// So many are named in a sentence; of more, only the number is told.
 pub const NAMED: usize = 8;
 
@@ -62,6 +90,23 @@ mod tests {
         assert_eq!(few(3), "1, 2 and 3");
         assert_eq!(few(8), "1, 2, 3, 4, 5, 6, 7 and 8");
         assert_eq!(few(10), "1, 2, 3, 4, 5, 6, 7, 8 and 2 more");
+    }
+
+    #[test]
+    fn ceilings_are_told_below_256() {
+        let told = |ceiling| {
+            let (id, zone, capacity) = (1, 0, 5);
+            ceiling_in_words(&Node {
+                id,
+                zone,
+                capacity,
+                ceiling,
+            })
+        };
+        assert_eq!(told(0).as_deref(), Some("at most 0 copies"));
+        assert_eq!(told(1).as_deref(), Some("at most 1 copy"));
+        assert_eq!(told(255).as_deref(), Some("at most 255 copies"));
+        assert_eq!(told(256), None);
     }
 
     #[test]

@@ -20,6 +20,8 @@ struct BoxLine {
     id: u32,
     name: String,
     zone: String,
+    /// The most copies that it may hold; of a box that is gone it is not known.
+    ceiling: Option<u16>,
     held: Held,
 }
 
@@ -91,6 +93,7 @@ impl<'a> Overview<'a> {
                 id: *id,
                 name: labels::of(described, *id).name,
                 zone: labels::of(described, *id).zone,
+                ceiling: None,
                 held: held(*copies),
             });
         }
@@ -117,7 +120,14 @@ impl<'a> Overview<'a> {
         columns.retain(|column| !column.is_blank());
         let mut held: Vec<Held> = self.boxes.iter().map(|line| line.held).collect();
         held.push(sum(&held));
-        columns.extend(self.disk_columns(&held));
+        let [capacity, rest @ ..] = self.disk_columns(&held);
+        columns.push(capacity);
+        if self.has_ceilings() {
+            let ceilings = self.boxes.iter().map(BoxLine::ceiling_in_words);
+            let ceilings = ceilings.chain([String::new()]);
+            columns.push(Column::new(Side::Right, "ceiling", ceilings));
+        }
+        columns.extend(rest);
         if let Some(transfers) = transfers {
             columns.push(counted("to receive", &transfers.received));
             columns.push(counted("to drop", &transfers.dropped));
@@ -159,9 +169,11 @@ impl<'a> Overview<'a> {
         match self.hope {
             Some(hope) => format!(
                 "Size: each partition may grow to {partition} MB, all data to {all} {name}; used is \
-                 what it takes then.\n{}\
-                 Hope: with nothing lost to rounding and zones it would be {} MB a partition.\n",
+                 what it takes then.\n{}{}\
+                 Hope: with nothing lost to {} it would be {} MB a partition.\n",
                 self.free(),
+                self.ceilings(),
+                losses_of_hope(self.has_ceilings()),
                 thousands(hope)
             ),
             None => format!(
@@ -178,6 +190,23 @@ impl<'a> Overview<'a> {
             true => "Free: a sixteenth of each disk stays free; share is of the whole disk.\n",
             false => "",
         }
+    }
+
+    /// What a ceiling is, and which boxes are at theirs; nothing where no box has one.
+    fn ceilings(&self) -> String {
+        let at_theirs = self.boxes.iter().filter(|line| line.is_at_ceiling());
+        let at_theirs: Vec<u32> = at_theirs.map(|line| line.id).collect();
+        let who = match at_theirs.len() {
+            _ if !self.has_ceilings() => return String::new(),
+            0 => "no box is at its ceiling".into(),
+            1 => format!("{} is at its ceiling", labels::boxes(&at_theirs)),
+            _ => format!("{} are at their ceilings", labels::boxes(&at_theirs)),
+        };
+        format!("Ceiling: the most copies that a box may hold; {who}.\n")
+    }
+
+    fn has_ceilings(&self) -> bool {
+        self.boxes.iter().any(|line| line.own_ceiling().is_some())
     }
 
     /// The numbers of the plan, its boxes with the transfers of a plan that was made just now, and
@@ -255,6 +284,21 @@ impl<'a> Overview<'a> {
 }
 
 impl BoxLine {
+    /// The ceiling where it has one: below 256.
+    fn own_ceiling(&self) -> Option<u16> {
+        self.ceiling.and_then(labels::own_ceiling)
+    }
+
+    fn ceiling_in_words(&self) -> String {
+        let ceiling = self.own_ceiling();
+        ceiling.map_or_else(String::new, |ceiling| ceiling.to_string())
+    }
+
+    fn is_at_ceiling(&self) -> bool {
+        let ceiling = self.own_ceiling();
+        ceiling.is_some_and(|ceiling| self.held.copies == ceiling.into())
+    }
+
     fn json(&self, size: u64, moved: Option<(u64, u64)>) -> Json {
         let is_present = self.held.capacity.is_some();
         let mut members = vec![
@@ -263,7 +307,9 @@ impl BoxLine {
             ("zone", is_present.then_some(self.zone.as_str()).into()),
             ("present", is_present.into()),
         ];
-        members.extend(self.held.json(size));
+        let [capacity, rest @ ..] = self.held.json(size);
+        members.extend([capacity, ("ceiling", self.ceiling.into())]);
+        members.extend(rest);
         if let Some((received, dropped)) = moved {
             members.push(("received", received.into()));
             members.push(("dropped", dropped.into()));
@@ -292,6 +338,14 @@ impl Held {
     }
 }
 
+/// What the size to hope for does not know of.
+pub fn losses_of_hope(has_ceilings: bool) -> &'static str {
+    match has_ceilings {
+        true => "rounding, zones and ceilings",
+        false => "rounding and zones",
+    }
+}
+
 /// A line for each box of the cluster.
 fn box_lines(described: &Description, copies: &[u32]) -> Vec<BoxLine> {
     let nodes = described.cluster.nodes.iter().zip(&described.labels);
@@ -299,6 +353,7 @@ fn box_lines(described: &Description, copies: &[u32]) -> Vec<BoxLine> {
         id: node.id,
         name: label.name.clone(),
         zone: label.zone.clone(),
+        ceiling: Some(node.ceiling),
         held: Held {
             capacity: Some(node.capacity.into()),
             usable: Some(node.usable().into()),

@@ -63,11 +63,13 @@ impl Staged {
     fn take(&mut self, bytes: &[u8]) -> Result<Option<String>, Failure> {
         let contents = file::parse(bytes).map_err(|fault| {
             let (path, text) = (self.path.display(), self.file.display());
+            let advice = match fault.is_of_before {
+                true => format!("Apply it with that version, or move {path} away, and stage anew."),
+                false => format!("Move {path} away, and stage anew."),
+            };
             Failure::Bad(vec![
                 format!("{path}: this is not a whole file of staged changes: {fault}"),
-                format!(
-                    "Nothing was touched, and {text} is as it was. Move {path} away, and stage anew."
-                ),
+                format!("Nothing was touched, and {text} is as it was. {advice}"),
             ])
         })?;
         let now = file::sum(&self.text);

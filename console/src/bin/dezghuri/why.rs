@@ -1,9 +1,9 @@
 //! Why the size is no larger, and why boxes are not used, in the words of the owner.
 
 use crate::json::Json;
-use crate::labels::{self, listed};
+use crate::labels::{self, boxes, listed};
 use crate::units::{count, thousands};
-use dezghuri::{Counts, Description, Plan, Unused};
+use dezghuri::{Counts, Description, Node, Plan, Unused};
 
 /// The size is explained where it is under the hope by this part of it, or more: nearer than that
 /// no owner asks.
@@ -47,19 +47,50 @@ fn zones_bind(described: &Description, counts: &Counts, size: u32) -> String {
         1 => format!("the other zone, {others}, has"),
         _ => format!("the other zones, {others}, have"),
     };
+    let mut bound = bound_nodes(described, counts);
+    bound.retain(|node| counts.part_zones.contains(&node.zone));
     format!(
         "each partition lies in at least {}, and besides {whole} {others} no room for {} of each \
-         above {} MB.\nMore disk in {whole} would not help.",
+         above {} MB.\n{}More disk in {whole} would not help.",
         count(wanted, "zone", "zones"),
         count(left, "more copy", "more copies"),
         thousands(size.into()),
+        ceilings_bind(&bound),
     )
+}
+
+/// Boxes whose ceiling is what binds: their disks have room for more copies.
+fn bound_nodes<'a>(described: &'a Description, counts: &Counts) -> Vec<&'a Node> {
+    let nodes = described.cluster.nodes.iter();
+    let bound = nodes.filter(|node| counts.ceiling_nodes.contains(&node.id));
+    bound.collect()
+}
+
+/// That ceilings bind, and not the disks; nothing where none does.
+fn ceilings_bind(bound: &[&Node]) -> String {
+    let named = bound
+        .iter()
+        .map(|node| format!("{} ({})", node.id, node.ceiling));
+    let named = listed(named.collect::<Vec<String>>().iter());
+    match bound.len() {
+        0 => String::new(),
+        1 => {
+            format!("The ceiling of box {named} keeps copies off a disk that has room for them.\n")
+        }
+        _ => format!(
+            "The ceilings of boxes {named} keep copies off disks that have room for them.\n"
+        ),
+    }
 }
 
 /// Boxes with room for everything count once each; the others must take what is left.
 fn boxes_bind(described: &Description, counts: &Counts, size: u32) -> String {
     let cluster = &described.cluster;
     let whole = &counts.whole_nodes;
+    let bound = bound_nodes(described, counts);
+    if !bound.is_empty() {
+        return boxes_and_ceilings_bind(counts, &bound);
+    }
     if whole.is_empty() {
         return format!(
             "at {} MB a partition the disks together have room for {}, and {}.",
@@ -68,11 +99,7 @@ fn boxes_bind(described: &Description, counts: &Counts, size: u32) -> String {
             count(counts.wanted, "is wanted", "are wanted"),
         );
     }
-    let (boxes, disks) = match whole.len() {
-        1 => ("box", "A larger disk"),
-        _ => ("boxes", "Larger disks"),
-    };
-    let boxes = format!("{boxes} {}", listed(whole.iter()));
+    let boxes = boxes(whole);
     let left = u64::from(cluster.replication) - whole.len() as u64;
     let others = match cluster.nodes.len() - whole.len() {
         1 => "the other box has".into(),
@@ -80,10 +107,35 @@ fn boxes_bind(described: &Description, counts: &Counts, size: u32) -> String {
     };
     format!(
         "a box holds each partition once at most, and besides {boxes} {others} no room for {} of \
-         each above {} MB.\n{disks} in {boxes} would not help.",
+         each above {} MB.\n{}",
         count(left, "more copy", "more copies"),
         thousands(size.into()),
+        no_larger_disks(whole),
     )
+}
+
+/// Boxes at their ceilings count with these, and what their disks have room for does not.
+fn boxes_and_ceilings_bind(counts: &Counts, bound: &[&Node]) -> String {
+    let mut useless = counts.whole_nodes.clone();
+    useless.extend(bound.iter().map(|node| node.id));
+    useless.sort_unstable();
+    format!(
+        "at {} MB a partition the boxes have room for {}, and {}.\n{}{}",
+        thousands(counts.size),
+        count(counts.room, "copy", "copies"),
+        count(counts.wanted, "is wanted", "are wanted"),
+        ceilings_bind(bound),
+        no_larger_disks(&useless),
+    )
+}
+
+/// That what these boxes hold is not bound by their disks.
+fn no_larger_disks(ids: &[u32]) -> String {
+    let disks = match ids.len() {
+        1 => "A larger disk",
+        _ => "Larger disks",
+    };
+    format!("{disks} in {} would not help.", boxes(ids))
 }
 
 fn zone_names(described: &Description, zones: &[u16]) -> String {
@@ -96,11 +148,14 @@ fn zone_names(described: &Description, zones: &[u16]) -> String {
     listed(names.iter())
 }
 
-/// A line for each box that holds nothing; but one of capacity 0 is meant to hold nothing.
+/// A line for each box that holds nothing; but one of capacity or ceiling 0 is meant to hold nothing.
 pub fn unused(described: &Description, plan: &Plan) -> String {
     let mut unused = described.cluster.unused(&plan.layout, plan.size);
     let nodes = &described.cluster.nodes;
-    unused.retain(|(id, _)| nodes.iter().any(|node| node.id == *id && node.capacity > 0));
+    unused.retain(|(id, why)| {
+        let has_disk = nodes.iter().any(|node| node.id == *id && node.capacity > 0);
+        has_disk && *why != Unused::Ceiling
+    });
     let line = |(id, why): &(u32, Unused)| {
         let label = labels::of(described, *id);
         let why = match why {
@@ -141,6 +196,7 @@ pub fn json(described: &Description, plan: &Plan) -> [(&'static str, Json); 2] {
     let unused = described.cluster.unused(&plan.layout, plan.size);
     let unused = unused.iter().map(|(id, why)| {
         let why = match why {
+            Unused::Ceiling => "ceiling",
             Unused::Small => "small",
             Unused::ZoneWhole => "zone",
             _ => "spare",
@@ -163,8 +219,36 @@ mod tests {
         for id in 1..=r.between(copies, 6) {
             let zone = ["home", "shop", "attic", "shed"][r.below(4) as usize];
             text += &format!("box {id} {zone} {}\n", r.between(1, 90));
+            if r.chance(30) {
+                text += &format!("ceiling {id} {}\n", r.below(9));
+            }
         }
         text
+    }
+
+    /// The largest size of a cluster in which these boxes have other numbers.
+    fn size_with(described: &Description, ids: &[u32], change: impl Fn(&mut Node)) -> u32 {
+        let mut cluster = described.cluster.clone();
+        let nodes = cluster.nodes.iter_mut();
+        nodes.filter(|n| ids.contains(&n.id)).for_each(change);
+        cluster.plan(dezghuri::ENOUGH).expect("it had a plan").size
+    }
+
+    /// What is said to help, or not to, at the size of the plan.
+    fn sentences_are_true(described: &Description, size: u32, told: &[String]) {
+        let counts = counts(described, size);
+        let bound = counts.ceiling_nodes;
+        let is_said = told.iter().any(|why| why.contains("eiling"));
+        assert!(!is_said || !bound.is_empty(), "{told:?}");
+        // A larger disk in a box whose ceiling binds never helps.
+        let larger = size_with(described, &bound, |node| node.capacity *= 100);
+        assert_eq!(larger, size, "{told:?}");
+        // Where a ceiling is not named, none is what binds.
+        if !is_said {
+            let all: Vec<u32> = described.cluster.nodes.iter().map(|n| n.id).collect();
+            let higher = size_with(described, &all, |node| node.ceiling = Node::NO_CEILING);
+            assert_eq!(higher, size, "{told:?}");
+        }
     }
 
     /// At the largest size there is a sentence for what falls short and none for what does not; at
@@ -172,7 +256,7 @@ mod tests {
     #[test]
     fn sentences_name_what_falls_short() {
         let mut r = Random::new(61);
-        let mut seen = [0; 3];
+        let (mut seen, mut ceilings) = ([0; 3], 0);
         for _ in 0..2000 {
             let described: Description = some_text(&mut r).parse().unwrap();
             let Ok(plan) = described.cluster.plan(dezghuri::ENOUGH) else {
@@ -191,6 +275,8 @@ mod tests {
             if plan.size > 1 {
                 assert!(sentences(&described, plan.size - 1).is_empty());
             }
+            sentences_are_true(&described, plan.size, &told);
+            ceilings += u32::from(told.iter().any(|why| why.contains("eiling")));
             let kind = match (told.len(), zones) {
                 (1, 0) => 0,
                 (1, _) => 1,
@@ -199,5 +285,6 @@ mod tests {
             seen[kind] += 1;
         }
         assert!(seen.iter().all(|number| *number > 10), "{seen:?}");
+        assert!(ceilings > 100, "{ceilings}");
     }
 }

@@ -28,6 +28,28 @@ fn some_capacity(r: &mut Random) -> u32 {
     r.between(1, 4_000) as u32 * unit
 }
 
+/// Ceilings at both ends of the range, and between.
+fn some_ceiling(r: &mut Random) -> u16 {
+    match r.below(4) {
+        0 => Node::NO_CEILING,
+        1 => 0,
+        _ => r.between(1, 255) as u16,
+    }
+}
+
+fn ceiling_line(r: &mut Random, style: Style, indent: &str, id: u64, remark: &str) -> String {
+    let blank = match style {
+        Style::Tabs => "\t",
+        Style::Ragged => pick(r, &[" ", "  ", "\t", " \t", "\u{a0}"]),
+        _ => " ",
+    };
+    let zeros = pick(r, &["", "", "00"]);
+    let ceiling = some_ceiling(r);
+    let touching = remark.is_empty() || r.chance(20);
+    let before_remark = if touching { "" } else { blank };
+    format!("{indent}ceiling{blank}{zeros}{id}{blank}{zeros}{ceiling}{before_remark}{remark}")
+}
+
 fn box_line(r: &mut Random, style: Style, indent: &str, id: u64, remark: &str) -> String {
     let number = match r.chance(10) {
         true => format!("00{id}"),
@@ -58,6 +80,15 @@ fn box_line(r: &mut Random, style: Style, indent: &str, id: u64, remark: &str) -
         line = line.replace(" big", "  big") + pick(r, &[" ", "\t", "   "]);
     }
     format!("{indent}{line}")
+}
+
+/// Anywhere in the text, or right after the box.
+fn ceiling_place(r: &mut Random, lines: &[String], id: u64) -> usize {
+    let of_box = lines.iter().position(|line| id_of(line) == Some(id as u32));
+    match r.chance(40) {
+        true => of_box.expect("it has a line") + 1,
+        false => r.below(lines.len() as u64 + 1) as usize,
+    }
 }
 
 fn some_text(r: &mut Random, style: Style) -> String {
@@ -91,6 +122,16 @@ fn some_text(r: &mut Random, style: Style) -> String {
             lines.push(remark(r, 60));
         }
     }
+    for id in seen
+        .into_iter()
+        .filter(|_| r.chance(40))
+        .collect::<Vec<u64>>()
+    {
+        let text = remark(r, 40);
+        let line = ceiling_line(r, style, indent, id, &text);
+        let place = ceiling_place(r, &lines, id);
+        lines.insert(place, line);
+    }
     let place = r.below(lines.len() as u64 + 1) as usize;
     lines.insert(place, pick(r, &["bits 3", "# first", " ", ""]).into());
     let end = pick(r, &["\n", "\r\n"]);
@@ -106,12 +147,18 @@ fn change(r: &mut Random, described: &mut Description) {
         let id = ids[r.below(ids.len() as u64) as usize];
         let new = r.between(1, 50) as u32;
         let (zone, name) = (pick(r, &ZONES), pick(r, &NAMES));
-        let capacity = some_capacity(r);
+        let (capacity, ceiling) = (some_capacity(r), some_ceiling(r));
         match r.below(4) {
             0 if ids.len() > 1 => remove(described, id),
             1 => resize(described, id, capacity),
-            2 if ids.len() > 1 => replace(described, id, zone, capacity, name),
-            _ if !ids.contains(&new) => add(described, new, zone, capacity, name),
+            2 if ids.len() > 1 => {
+                replace(described, id, zone, capacity, name);
+                limit(described, id, ceiling);
+            }
+            _ if !ids.contains(&new) => {
+                add(described, new, zone, capacity, name);
+                limit(described, new, ceiling);
+            }
             _ => (),
         }
     }
@@ -124,8 +171,17 @@ fn lines(text: &str) -> Vec<Line<'_>> {
 
 /// The id of a box line, by a way of its own.
 fn id_of(line: &str) -> Option<u32> {
+    id_after("box", line)
+}
+
+/// The id of the line of a ceiling.
+fn ceiling_of(line: &str) -> Option<u32> {
+    id_after("ceiling", line)
+}
+
+fn id_after(word: &str, line: &str) -> Option<u32> {
     let mut words = line.split('#').next()?.split_whitespace();
-    (words.next() == Some("box")).then(|| words.next().unwrap().parse().unwrap())
+    (words.next() == Some(word)).then(|| words.next().unwrap().parse().unwrap())
 }
 
 fn remark_of(line: &str) -> Option<&str> {
@@ -137,26 +193,54 @@ fn same_box(before: &Description, after: &Description, id: u32) -> bool {
     words(before) == words(after)
 }
 
+/// The ceiling of a box that is there.
+fn ceiling(described: &Description, id: u32) -> Option<u16> {
+    find(described, id).map(|(node, _)| node.ceiling)
+}
+
+/// What becomes of a line: nothing but its remark stays, it changes, or it stays as it is.
+#[derive(Clone, Copy, PartialEq, Eq)]
+enum Fate {
+    Goes,
+    Changes,
+    Stays,
+}
+
+fn fate(line: &str, before: &Description, after: &Description) -> Fate {
+    match (id_of(line), ceiling_of(line)) {
+        (Some(id), _) | (_, Some(id)) if !after.has(id) => Fate::Goes,
+        (Some(id), _) if !same_box(before, after, id) => Fate::Changes,
+        (_, Some(id)) if ceiling(before, id) == ceiling(after, id) => Fate::Stays,
+        (_, Some(id)) if ceiling(after, id) == Some(256) => Fate::Goes,
+        (_, Some(_)) => Fate::Changes,
+        _ => Fate::Stays,
+    }
+}
+
 /// Line by line: what stays is the same, and what changes keeps its remark.
 fn check_lines(text: &str, rewritten: &str, before: &Description, after: &Description) {
-    let mut left = lines(rewritten);
-    left.retain(|line| id_of(line.text).is_none_or(|id| before.has(id)));
-    let mut left = left.into_iter();
     let old = lines(text);
+    let mut left = lines(rewritten);
+    left.retain(|line| {
+        let id = ceiling_of(line.text);
+        let is_new = id.is_some() && old.iter().all(|old| ceiling_of(old.text) != id);
+        !is_new && id_of(line.text).is_none_or(|id| before.has(id))
+    });
+    let mut left = left.into_iter();
     for (number, line) in old.iter().enumerate() {
-        let id = id_of(line.text);
-        let is_gone = id.is_some_and(|id| !after.has(id));
-        if is_gone && remark_of(line.text).is_none() {
+        let fate = fate(line.text, before, after);
+        if fate == Fate::Goes && remark_of(line.text).is_none() {
             continue;
         }
         let new = left.next().expect("there is a line for it");
-        match id {
-            Some(_) if is_gone => assert_eq!(Some(new.text), remark_of(line.text)),
-            Some(id) if !same_box(before, after, id) => {
-                assert_eq!(id_of(new.text), Some(id));
+        match fate {
+            Fate::Goes => assert_eq!(Some(new.text), remark_of(line.text)),
+            Fate::Changes => {
+                assert_eq!(id_of(new.text), id_of(line.text));
+                assert_eq!(ceiling_of(new.text), ceiling_of(line.text));
                 assert_eq!(remark_of(new.text), remark_of(line.text));
             }
-            _ => assert_eq!(new.text, line.text),
+            Fate::Stays => assert_eq!(new.text, line.text),
         }
         let is_last = number + 1 == old.len();
         assert!(new.end == line.end || is_last && line.end.is_empty());
@@ -164,9 +248,24 @@ fn check_lines(text: &str, rewritten: &str, before: &Description, after: &Descri
     assert!(left.next().is_none());
 }
 
-/// New boxes follow the last old one of a smaller id, or come before all.
+/// The line of a ceiling that the old text does not have stands right after its box.
+fn check_ceilings(text: &str, rewritten: &str) {
+    let ids = |text: &str| -> Vec<Option<u32>> {
+        let lines = lines(text).into_iter();
+        lines.map(|line| ceiling_of(line.text)).collect()
+    };
+    let (old, all) = (ids(text), lines(rewritten));
+    for (place, id) in ids(rewritten).into_iter().enumerate() {
+        if id.is_some() && !old.contains(&id) {
+            assert_eq!(id_of(all[place - 1].text), id);
+        }
+    }
+}
+
+/// New boxes follow the last old one of a smaller id, with its ceiling, or come before all.
 fn check_places(rewritten: &str, before: &Description, after: &Description) {
-    let all = lines(rewritten);
+    let mut all = lines(rewritten);
+    all.retain(|line| ceiling_of(line.text).is_none());
     let is_old = |id: u32| before.has(id) && after.has(id);
     let ids: Vec<Option<u32>> = all.iter().map(|line| id_of(line.text)).collect();
     for (place, id) in ids.iter().enumerate() {
@@ -235,6 +334,7 @@ fn whatever_changes_the_text_follows() {
         assert_eq!(marks[0], marks[1]);
         check_lines(&text, &rewritten, &before, &after);
         check_places(&rewritten, &before, &after);
+        check_ceilings(&text, &rewritten);
         if matches!(style, Style::Columns | Style::Tabs) {
             check_style(&text, &rewritten, style);
         }

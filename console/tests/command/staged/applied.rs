@@ -86,7 +86,7 @@ fn what_was_about_to_be_applied_stands() {
     assert!(shown.starts_with("shop.txt with 3 staged changes:\n"));
     assert_eq!(folder.read("shop.txt.staged"), sealed());
     done(&folder, "undo shop.txt");
-    assert_eq!(folder.read("shop.txt.staged"), whole(&changes()[..38]));
+    assert_eq!(folder.read("shop.txt.staged"), whole(&changes()[..40]));
     folder.write("shop.txt.staged", sealed());
     done(&folder, "stage shop.txt resize 1 8T");
     let grown = [22, 0, 8, 0, 0, 0, 1, 0, 0x7a, 0x12, 0];
@@ -178,7 +178,7 @@ fn an_edited_text_keeps_what_was_about_to_be_applied() {
     let object = read(&warned(&folder, "stage shop.txt --json"));
     assert_eq!(object.get("warnings").line(), format!("[\"{EDITED}\"]"));
     warned(&folder, "undo shop.txt");
-    assert_eq!(folder.read("shop.txt.staged"), whole(&changes()[..38]));
+    assert_eq!(folder.read("shop.txt.staged"), whole(&changes()[..40]));
     done(&folder, "stage shop.txt");
     let folder = edited("edited-before-stage", FILE);
     warned(&folder, "stage shop.txt remove 1");

@@ -88,7 +88,7 @@ fn staging_ends_at_every_step() {
 fn undoing_ends_at_every_step() {
     let steps = at_every_step("cut-undo", "undo shop.txt", &|folder| {
         let staged = folder.read("shop.txt.staged");
-        assert!(staged == staged_bytes() || staged == whole(&changes()[..38]));
+        assert!(staged == staged_bytes() || staged == whole(&changes()[..40]));
         assert_eq!(folder.read("shop.txt"), FILE.as_bytes());
     });
     assert!(steps > 3, "{steps}");

@@ -41,31 +41,61 @@ fn faults_are_told_by_byte_and_nothing_is_touched() {
         bytes
     };
     let cut = "one or two bytes left, or a field's body cut short, at byte";
-    is_at_fault(&folder, &good[..48], &format!("{cut} 38 (refused 1)"));
+    is_at_fault(&folder, &good[..50], &format!("{cut} 40 (refused 1)"));
     is_at_fault(&folder, &good[..20], &format!("{cut} 18 (refused 1)"));
     let missing = "the record ends before a field or row that it must have, at byte";
     is_at_fault(&folder, b"", &format!("{missing} 0 (refused 7)"));
     is_at_fault(&folder, &good[..18], &format!("{missing} 18 (refused 7)"));
-    is_at_fault(&folder, &good[..38], &format!("{missing} 38 (refused 7)"));
-    is_at_fault(&folder, &good[..49], &format!("{missing} 49 (refused 7)"));
+    is_at_fault(&folder, &good[..40], &format!("{missing} 40 (refused 7)"));
+    is_at_fault(&folder, &good[..51], &format!("{missing} 51 (refused 7)"));
     let tag = "a tag that is not allowed next, at byte";
-    is_at_fault(&folder, &with(31, 23), &format!("{tag} 31 (refused 2)"));
+    is_at_fault(&folder, &with(33, 23), &format!("{tag} 33 (refused 2)"));
     is_at_fault(&folder, &with(18, 21), &format!("{tag} 18 (refused 2)"));
     is_at_fault(&folder, FILE.as_bytes(), &format!("{tag} 0 (refused 2)"));
     let twice = whole(&good);
-    is_at_fault(&folder, &twice, &format!("{tag} 60 (refused 2)"));
-    let length = "a length that is not legal for the tag, at byte 31 (refused 3)";
-    is_at_fault(&folder, &with(33, 5), length);
+    is_at_fault(&folder, &twice, &format!("{tag} 62 (refused 2)"));
+    let length = "a length that is not legal for the tag, at byte 33 (refused 3)";
+    is_at_fault(&folder, &with(35, 5), length);
     let range = "a value outside its range, at byte";
-    is_at_fault(&folder, &with(37, 0), &format!("{range} 31 (refused 4)"));
+    is_at_fault(&folder, &with(39, 0), &format!("{range} 33 (refused 4)"));
     is_at_fault(&folder, &with(3, b' '), &format!("{range} 0 (refused 4)"));
     is_at_fault(&folder, &with(11, 0xff), &format!("{range} 8 (refused 4)"));
-    let other = format!("{range} 49 (refused 4): {OTHERS}");
-    for bytes in [with(48, 1), with(37, 1), with(3, b'A'), with(59, !good[59])] {
+    let too_high = &with(31, 2);
+    is_at_fault(&folder, too_high, &format!("{range} 18 (refused 4)"));
+    let other = format!("{range} 51 (refused 4): {OTHERS}");
+    for bytes in [with(50, 1), with(39, 1), with(3, b'A'), with(61, !good[61])] {
         is_at_fault(&folder, &bytes, &other);
     }
     folder.write("shop.txt.staged", good);
     done(&folder, "apply shop.txt");
+}
+
+/// As version 0.5.0 wrote it: the box has ten bytes, and no ceiling. Nothing of it is lost.
+#[test]
+fn what_a_version_before_ceilings_has_staged_is_told() {
+    let folder = staged_shop("before");
+    let before = [
+        &[240, 0, 5][..],
+        b"attic",
+        &[20, 0, 10, 0, 0, 0, 7, 0, 2, 0, 0x3d, 0x09, 0],
+        &[21, 0, 4, 0, 0, 0, 2],
+    ];
+    folder.write("shop.txt.staged", whole(&before.concat()));
+    let told = "shop.txt.staged: this is not a whole file of staged changes: a length that is not legal \
+                for the tag, at byte 8 (refused 3): a version before 0.6.0 has staged this, without a \
+                ceiling\n\
+                Nothing was touched, and shop.txt is as it was. Apply it with that version, or move \
+                shop.txt.staged away, and stage anew.";
+    for line in CALLS {
+        fails(&folder, line, 2, told);
+    }
+    let no_box = [before[3], &[22, 0, 8, 0, 0, 0, 3, 0, 0x7a, 0x12, 0]].concat();
+    folder.write("shop.txt.staged", whole(&no_box));
+    let shown = done(&folder, "stage shop.txt");
+    assert!(
+        shown.starts_with("shop.txt with 2 staged changes:\n"),
+        "{shown}"
+    );
 }
 
 /// The bytes at which fields begin, and that at which the last one ends.
@@ -166,10 +196,10 @@ fn a_change_that_does_not_fit_is_not_staged() {
     let mut fields = Vec::new();
     for id in 10..25 {
         fields.extend([&[241, 0xff, 0xff], name.as_bytes()].concat());
-        fields.extend([20, 0, 10, 0, 0, 0, id, 0, 2, 0, 0x3d, 0x09, 0]);
+        fields.extend([20, 0, 12, 0, 0, 0, id, 0, 2, 0, 0x3d, 0x09, 0, 1, 0]);
     }
     folder.write("shop.txt.staged", whole(&fields));
-    let room = (1 << 20) - 30 - fields.len() - 3 - 13;
+    let room = (1 << 20) - 30 - fields.len() - 3 - 15;
     let stage = |length: usize| {
         let name = &name[..length];
         folder.call_words(&["stage", "shop.txt", "add", "7 5 4T", name])

@@ -29,7 +29,7 @@ fn a_read_only_file_is_not_replaced() {
     for line in ["stage shop.txt remove 1", "undo shop.txt", "apply shop.txt"] {
         fails(&folder, line, 2, told);
     }
-    folder.write("other", whole(&changes()[..31]));
+    folder.write("other", whole(&changes()[..33]));
     fs::rename(folder.path("other"), folder.path("shop.txt.staged")).unwrap();
     set_mode(&folder, "shop.txt.staged", 0o444);
     let told = "shop.txt.staged: not removed: it is read-only";

@@ -28,7 +28,7 @@ fn a_zone_is_known_by_its_name() {
     done(&folder, "stage shop.txt add 8 shop 4T");
     let at = |bytes: &[u8], place: usize| u16::from_be_bytes([bytes[place], bytes[place + 1]]);
     let bytes = folder.read("shop.txt.staged");
-    assert_eq!((at(&bytes, 8 + 7), at(&bytes, 21 + 7 + 7)), (2, 1));
+    assert_eq!((at(&bytes, 8 + 7), at(&bytes, 23 + 7 + 7)), (2, 1));
     let zones_before = [zone("home", "2"), zone("shop", "2"), zone("attic", "1")];
     assert_eq!(zones(&folder), zones_before);
     folder.write("shop.txt", format!("box 6 cellar 4T\n{FILE}"));

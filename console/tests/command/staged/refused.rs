@@ -124,7 +124,7 @@ fn a_change_that_the_text_does_not_allow_any_more_is_told() {
     folder.write("shop.txt", FILE.replace("box 2 ", "box 5 "));
     let told =
         "shop.txt.staged: change 2, remove box 2, cannot be made: there is no box 2, at byte \
-                31 (refused 14); `dezghuri undo shop.txt` takes the last one back";
+                33 (refused 14); `dezghuri undo shop.txt` takes the last one back";
     for line in [
         "plan shop.txt --staged",
         "check shop.txt shop.txt --staged",
@@ -168,7 +168,7 @@ fn a_text_that_is_at_fault_keeps_no_change() {
     assert_eq!(untouched(&folder, "apply shop.txt").status, 2);
     let object = read(&done(&folder, "undo shop.txt --json"));
     assert_eq!(object.get("boxes").line(), "null");
-    assert_eq!(folder.read("shop.txt.staged"), whole(&changes()[..38]));
+    assert_eq!(folder.read("shop.txt.staged"), whole(&changes()[..40]));
     let undone = done(&folder, "undo shop.txt");
     assert!(
         undone.starts_with("Taken back: remove box 2.\n"),

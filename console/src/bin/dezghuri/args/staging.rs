@@ -1,15 +1,18 @@
 //! The words of the commands that stage changes.
 
-use super::{id, Command, Staging, Words};
+use super::{id, number, Command, Staging, Words, CEILING};
 use crate::units;
+use dezghuri::Node;
 use std::ffi::OsString;
-use std::path::PathBuf;
+use std::path::{Path, PathBuf};
 
 /// What `stage` can do with a file.
 const ACTIONS: &str = "stage FILE add, remove, resize or show";
 
 /// `stage FILE ..`; the file may stand after show, undo and apply too.
-pub fn stage(words: Words) -> Result<Command, String> {
+pub fn stage(mut words: Words) -> Result<Command, String> {
+    let ceiling = words.option(CEILING).map(|word| ceiling(&word));
+    let ceiling = ceiling.transpose()?;
     let mut places = words.places;
     let is_plain = |word: &OsString| ["show", "undo", "apply"].iter().any(|w| word == w);
     if places.len() == 2 && is_plain(&places[0]) {
@@ -26,14 +29,44 @@ pub fn stage(words: Words) -> Result<Command, String> {
                 .ok_or_else(|| format!("{word:?} is not plain text"))?,
         );
     }
+    if ceiling.is_some() && rest.first() != Some(&"add") {
+        return Err(format!(
+            "{CEILING} goes with a new box: stage FILE add 7 attic 4T {CEILING} 40"
+        ));
+    }
     match rest[..] {
         ["undo"] => Ok(Command::Undo { file }),
         ["apply"] => Ok(Command::Apply { file }),
+        ["add", ref words @ ..] => Ok(Command::Stage {
+            file,
+            staging: add(&words.join(" "), ceiling.unwrap_or(Node::NO_CEILING))?,
+        }),
+        ["ceiling", ref words @ ..] => Err(no_ceiling(&file, words)),
         _ => Ok(Command::Stage {
             file,
             staging: staging(&rest)?,
         }),
     }
+}
+
+/// The most copies that a new box may hold.
+fn ceiling(word: &OsString) -> Result<u16, String> {
+    let ceiling = number(word).filter(|ceiling| *ceiling <= Node::NO_CEILING);
+    let most = Node::NO_CEILING;
+    ceiling.ok_or_else(|| format!("{CEILING} takes a number from 0 to {most}, and not {word:?}"))
+}
+
+/// A change has an id and a capacity, or a whole new box: no ceiling of one that is there.
+fn no_ceiling(file: &Path, words: &[&str]) -> String {
+    let words = match words {
+        [id, number] => format!("{id} {number}"),
+        _ => "ID N".into(),
+    };
+    format!(
+        "a staged change cannot carry the ceiling of a box that is there: put the line `ceiling \
+         {words}` into {}",
+        file.display()
+    )
 }
 
 pub fn undo(words: Words) -> Result<Command, String> {
@@ -49,7 +82,6 @@ pub fn apply(words: Words) -> Result<Command, String> {
 fn staging(words: &[&str]) -> Result<Staging, String> {
     match words {
         [] | ["show"] => Ok(Staging::Show),
-        ["add", words @ ..] => add(&words.join(" ")),
         ["remove", word] => Ok(Staging::Remove(id("remove", &word.into())?)),
         ["resize", word, capacity] => {
             let id = id("resize", &word.into())?;
@@ -63,13 +95,13 @@ fn staging(words: &[&str]) -> Result<Staging, String> {
 }
 
 /// The words of a line; that it is one line is all that is asked here.
-fn add(words: &str) -> Result<Staging, String> {
+fn add(words: &str, ceiling: u16) -> Result<Staging, String> {
     if words.contains('\n') || words.split_whitespace().count() < 3 {
         let what = "add takes an id, a zone and a capacity, and perhaps a name: \
                     stage FILE add 7 attic 4T new box";
         return Err(what.into());
     }
-    Ok(Staging::Add(words.into()))
+    Ok(Staging::Add(words.into(), ceiling))
 }
 
 #[cfg(test)]
@@ -88,8 +120,14 @@ mod tests {
 
     #[test]
     fn changes_are_staged_as_they_are_said() {
-        let add = Staging::Add("7 attic 4T new box".into());
-        assert_eq!(called("stage home.txt add 7 attic 4T new box"), staged(add));
+        let add = |ceiling| staged(Staging::Add("7 attic 4T new box".into(), ceiling));
+        let line = "stage home.txt add 7 attic 4T new box";
+        assert_eq!(called(line), add(256));
+        for ceiling in [0, 40, 256] {
+            assert_eq!(called(&format!("{line} --ceiling {ceiling}")), add(ceiling));
+        }
+        let between = "stage home.txt --ceiling=40 add 7 attic --json 4T new box";
+        assert_eq!(called(between), add(40));
         assert_eq!(
             called("stage home.txt remove 2"),
             staged(Staging::Remove(2))
@@ -164,6 +202,39 @@ mod tests {
             ("stage home.txt remove 3 --staged", option),
         ] {
             assert_eq!(called(line), Err(told.into()), "{line}");
+        }
+    }
+
+    #[test]
+    fn only_a_new_box_has_a_ceiling_here() {
+        let add = "--ceiling goes with a new box: stage FILE add 7 attic 4T --ceiling 40";
+        let number = "--ceiling takes a number from 0 to 256, and not";
+        let no = "a staged change cannot carry the ceiling of a box that is there: put the line";
+        for (line, told) in [
+            ("resize 3 8T --ceiling 40", add.into()),
+            ("show --ceiling 40", add.into()),
+            ("ceiling 3 40 --ceiling 40", add.into()),
+            ("add 7 a 4T --ceiling 257", format!("{number} \"257\"")),
+            ("add 7 a 4T --ceiling few", format!("{number} \"few\"")),
+            (
+                "add 7 a 4T --ceiling",
+                "--ceiling needs a word after it".into(),
+            ),
+            (
+                "add 7 a 4T --ceiling 1 --ceiling 1",
+                "--ceiling is given twice".into(),
+            ),
+            ("ceiling 3 40", format!("{no} `ceiling 3 40` into home.txt")),
+            ("ceiling 3", format!("{no} `ceiling ID N` into home.txt")),
+            ("ceiling", format!("{no} `ceiling ID N` into home.txt")),
+        ] {
+            let line = format!("stage home.txt {line}");
+            assert_eq!(called(&line), Err(told), "{line}");
+        }
+        for word in ["undo", "apply"] {
+            let option = "--ceiling is not an option here";
+            let line = format!("{word} home.txt --ceiling 40");
+            assert_eq!(called(&line), Err(option.into()));
         }
     }
 

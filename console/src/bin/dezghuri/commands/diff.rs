@@ -118,6 +118,14 @@ impl<'a> Compared<'a> {
             Column::new(Side::Left, "name", names.chain([String::new()])),
             Column::new(Side::Left, "zone", zones.chain([String::new()])),
         ];
+        let nodes = &self.described.cluster.nodes;
+        let ceiling = |line: &BoxLine| {
+            let node = nodes.iter().find(|node| node.id == line.id);
+            let ceiling = node.and_then(labels::ceiling);
+            ceiling.map_or_else(String::new, |ceiling| ceiling.to_string())
+        };
+        let ceilings = self.boxes.iter().map(ceiling).chain([String::new()]);
+        columns.push(Column::new(Side::Right, "ceiling", ceilings));
         columns.retain(|column| !column.is_blank());
         let mut moved: Vec<Moved> = self.boxes.iter().map(|line| line.moved).collect();
         moved.push(self.all());

@@ -120,10 +120,11 @@ impl Seen<'_> {
             )));
         }
         let named = labels::in_words(&self.described, id);
+        let most = self.ceiling_in_words(id, held.len());
         let text = match held.len() {
-            0 => format!("Box {named} holds none of {}.\n", self.partitions()),
+            0 => format!("Box {named} holds none of {}{most}.\n", self.partitions()),
             n => format!(
-                "Box {named} holds {n} of {}:\n\n{}",
+                "Box {named} holds {n} of {}{most}:\n\n{}",
                 self.partitions(),
                 number_lines(&held)
             ),
@@ -132,6 +133,17 @@ impl Seen<'_> {
         members.push(("box", labels::json(&self.described, id)));
         members.push(("partitions", Json::list(held)));
         Ok(Answer::with_json(text, members))
+    }
+
+    /// The ceiling of a box that holds so many copies; nothing where it has none.
+    fn ceiling_in_words(&self, id: u32, held: usize) -> String {
+        let mut nodes = self.described.cluster.nodes.iter();
+        let node = nodes.find(|node| node.id == id);
+        match node.and_then(labels::ceiling).map(usize::from) {
+            None => String::new(),
+            Some(ceiling) if ceiling == held => ", and is at its ceiling".into(),
+            Some(ceiling) => format!(", and its ceiling is {ceiling}"),
+        }
     }
 
     /// The row of each partition.

@@ -15,9 +15,9 @@ pub fn run(file: &Path, staging: &Staging, warnings: &mut Vec<String>) -> Result
     let known = staged.known()?;
     let entry = match staging {
         Staging::Show => return Ok(show(&staged, &known)),
-        Staging::Add(words) => {
+        Staging::Add(words, ceiling) => {
             let before = staged.made(&known)?;
-            staged::read_line(&before.described, words, warnings)?
+            staged::read_line(&before.described, words, *ceiling, warnings)?
         }
         Staging::Remove(id) => staged::plain(Change::Remove(*id)),
         Staging::Resize(id, capacity) => {
@@ -127,6 +127,7 @@ fn boxes(described: &Description) -> Json {
             ("name", label.name.as_str().into()),
             ("zone", label.zone.as_str().into()),
             ("capacity_mb", node.capacity.into()),
+            ("ceiling", node.ceiling.into()),
         ])
     }))
 }

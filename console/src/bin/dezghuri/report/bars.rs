@@ -2,6 +2,7 @@
 
 use super::facts::{Cell, Facts, Laid, Row};
 use super::html::{self, name, section};
+use crate::labels;
 use crate::units::{count, percent, thousands, Unit};
 
 /// So many grid lines at most, beside that at 0.
@@ -16,9 +17,15 @@ struct Scale {
 /// What the part of a disk that stays free is called.
 const FREE: (&str, &str) = ("free", "stays free");
 
+/// What the line across a bar is.
+const LINE: &str =
+    "The line across a bar is the ceiling of its box, the most copies that it may hold.";
+
 /// A bar: parts from the left, each with its class and its megabytes.
 struct Bar {
     parts: Vec<(&'static str, u64)>,
+    /// Where the ceiling of its box lies, if that is on the disk.
+    ceiling: Option<u64>,
     title: String,
 }
 
@@ -49,7 +56,12 @@ pub fn of_layout(facts: &Facts, laid: &Laid) -> String {
                   free. At its right: copies, share of the disk."
         }
     };
-    figure(&legend(&parts(facts, laid)), caption, &body)
+    let caption = match facts.has_ceilings() {
+        true => &format!("{caption} {LINE}"),
+        false => caption,
+    };
+    let legend = legend(&parts(facts, laid), facts.has_ceilings());
+    figure(&legend, caption, &body)
 }
 
 /// The bars of a cluster that has no layout.
@@ -60,6 +72,7 @@ pub fn of_disks(facts: &Facts) -> String {
         let free = capacity - usable;
         let bar = Bar {
             parts: vec![("unused", usable), ("free", free)],
+            ceiling: None,
             title: title(facts, b, &[("disk", capacity), ("free", free)]),
         };
         let figures = format!(
@@ -70,7 +83,7 @@ pub fn of_disks(facts: &Facts) -> String {
         line(facts, b, &bar, &figures, &scale)
     });
     figure(
-        &legend(&[("unused", "may be filled"), FREE]),
+        &legend(&[("unused", "may be filled"), FREE], false),
         "Each bar is a disk, of which a sixteenth stays free.",
         &(body + &axis(&scale)),
     )
@@ -102,9 +115,14 @@ pub fn band(name: &str, class: &str, lines: &str) -> String {
 
 /// Where a box is told by id and name; it leads to its line in the table.
 pub fn label(facts: &Facts, b: usize) -> String {
+    label_with(facts, b, "")
+}
+
+/// The same, with something after the name.
+fn label_with(facts: &Facts, b: usize, more: &str) -> String {
     let (id, label) = (facts.cluster().nodes[b].id, &facts.described.labels[b]);
     format!(
-        "<a class=\"label\" href=\"#box-{id}\"><span class=\"id\">{id}</span> {}</a>",
+        "<a class=\"label\" href=\"#box-{id}\"><span class=\"id\">{id}</span> {}{more}</a>",
         html::label(&label.name)
     )
 }
@@ -112,9 +130,16 @@ pub fn label(facts: &Facts, b: usize) -> String {
 fn line(facts: &Facts, b: usize, bar: &Bar, figures: &str, scale: &Scale) -> String {
     format!(
         "<div class=\"row\">{}{}<span class=\"figures\">{figures}</span></div>\n",
-        label(facts, b),
+        limited_label(facts, b),
         bar.svg(scale)
     )
+}
+
+/// The label of a box, with its ceiling where it has one.
+fn limited_label(facts: &Facts, b: usize) -> String {
+    let limit = facts.ceiling_in_words(b);
+    let limit = limit.map(|limit| format!(" <span class=\"limit\">{limit}</span>"));
+    label_with(facts, b, &limit.unwrap_or_default())
 }
 
 /// The bar of a disk with its copies, each as large as a partition may grow.
@@ -130,8 +155,11 @@ fn disk(facts: &Facts, laid: &Laid, b: usize) -> Bar {
         true => vec![("disk", capacity), ("kept", kept), ("received", received)],
         false => vec![("disk", capacity), ("held", kept)],
     };
+    let ceiling = labels::ceiling(&facts.cluster().nodes[b]);
+    let ceiling = ceiling.map(|copies| u64::from(copies) * laid.size);
     Bar {
         parts: [&[("kept", kept), ("received", received)][..], &rest].concat(),
+        ceiling: ceiling.filter(|place| *place <= usable),
         title: title(facts, b, &[&held[..], &rest].concat()),
     }
 }
@@ -153,8 +181,10 @@ fn title(facts: &Facts, b: usize, told: &[(&str, u64)]) -> String {
         "" => String::new(),
         called => format!(" ({})", name(called)),
     };
+    let ceiling = facts.ceiling_in_words(b);
+    let ceiling = ceiling.map_or_else(String::new, |ceiling| format!(", {ceiling}"));
     format!(
-        "Box {}{called}: {}",
+        "Box {}{called}{ceiling}: {}",
         facts.cluster().nodes[b].id,
         told.join(", ")
     )
@@ -184,6 +214,7 @@ fn gone(laid: &Laid, scale: &Scale) -> String {
         let held = count(copies, "copy", "copies");
         let bar = Bar {
             parts: vec![("gone", copies * laid.former_size.unwrap_or(0))],
+            ceiling: None,
             title: format!("Box {}, not there any more: it held {held}", row.id),
         };
         format!(
@@ -220,15 +251,20 @@ fn parts(facts: &Facts, laid: &Laid) -> Vec<(&'static str, &'static str)> {
     parts
 }
 
-/// What the colours mean.
-fn legend(parts: &[(&str, &str)]) -> String {
+/// What the colours mean, and the line of a ceiling where there are any.
+fn legend(parts: &[(&str, &str)], has_ceilings: bool) -> String {
     let item = |(class, word): &(&str, &str)| {
         format!(
             "<span><svg width=\"26\" height=\"14\" aria-hidden=\"true\"><rect class=\"{class}\" \
              x=\"1\" y=\"1\" width=\"24\" height=\"12\"/></svg> {word}</span>"
         )
     };
-    let items: String = parts.iter().map(item).collect();
+    let mut items: String = parts.iter().map(item).collect();
+    if has_ceilings {
+        items +=
+            "<span><svg width=\"26\" height=\"14\" aria-hidden=\"true\"><line class=\"ceiling\" \
+                  x1=\"13\" x2=\"13\" y1=\"0\" y2=\"14\"/></svg> ceiling</span>";
+    }
     format!("<p class=\"legend\">{items}</p>\n")
 }
 
@@ -307,6 +343,11 @@ impl Bar {
                     thousandths(to - from)
                 );
             }
+        }
+        if let Some(ceiling) = self.ceiling {
+            let at = thousandths(scale.edge(ceiling));
+            parts +=
+                &format!("<line class=\"ceiling\" x1=\"{at}%\" x2=\"{at}%\" y1=\"0\" y2=\"20\"/>");
         }
         format!(
             "<svg class=\"bar\" role=\"img\" width=\"100%\" height=\"20\"><title>{}</title>\

@@ -1,6 +1,7 @@
 //! What the page tells, gathered before any of it is written.
 
-use crate::units::Unit;
+use crate::labels;
+use crate::units::{count, Unit};
 use crate::why;
 use dezghuri::{Cluster, Description, Layout, Plan, Refused, ENOUGH};
 use std::collections::BTreeSet;
@@ -89,6 +90,25 @@ impl<'a> Facts<'a> {
 
     pub fn has_former(&self) -> bool {
         self.names.former.is_some()
+    }
+
+    pub fn has_ceilings(&self) -> bool {
+        labels::has_ceilings(self.cluster())
+    }
+
+    /// The ceiling of a box in words, and whether it is reached; nothing where it has none.
+    pub fn ceiling_in_words(&self, b: usize) -> Option<String> {
+        let node = &self.cluster().nodes[b];
+        let ceiling = u64::from(labels::ceiling(node)?);
+        let laid = self.laid.as_ref().ok();
+        let copies = laid.map(|laid| laid.rows.here[b].copies());
+        match copies == Some(ceiling) {
+            true => Some(format!(
+                "at its ceiling of {}",
+                count(ceiling, "copy", "copies")
+            )),
+            false => labels::ceiling_in_words(node),
+        }
     }
 
     /// The zones, each with the places of its boxes: in the order of their first boxes.

@@ -9,6 +9,8 @@ const BEGINNING: &str = "<!DOCTYPE html>\n<html lang=\"en\">\n<head>\n<meta char
 const END: &str = "</main>\n</body>\n</html>\n";
 
 const STYLE: &str = include_str!("style.css");
+/// What a page needs besides where some box has a ceiling.
+const CEILINGS: &str = include_str!("ceilings.css");
 const PATTERNS: &str = include_str!("patterns.svg");
 
 /// Longer names are cut, so that one of them cannot take the page.
@@ -26,6 +28,7 @@ pub fn is_page(bytes: &[u8]) -> bool {
 /// The whole page, well-formed as XML too.
 pub fn page(facts: &Facts) -> String {
     let title = name(last_part(&facts.names.file));
+    let ceilings = if facts.has_ceilings() { CEILINGS } else { "" };
     let figures = match &facts.laid {
         Ok(laid) => of_layout(facts, laid),
         Err(_) => [
@@ -37,7 +40,7 @@ pub fn page(facts: &Facts) -> String {
     [
         BEGINNING,
         "<meta name=\"viewport\" content=\"width=device-width, initial-scale=1\"/>\n",
-        &format!("<title>Layout of {title}</title>\n<style>\n{STYLE}</style>\n</head>\n<body>\n"),
+        &format!("<title>Layout of {title}</title>\n<style>\n{STYLE}{ceilings}</style>\n</head>\n<body>\n"),
         PATTERNS,
         &format!("<main>\n<h1>Layout of {title}</h1>\n"),
         &first_words(facts),
@@ -70,7 +73,7 @@ fn first_words(facts: &Facts) -> String {
 
 /// The parts of a page with a layout, in the order in which an owner asks.
 fn of_layout(facts: &Facts, laid: &Laid) -> String {
-    let why = words::why_not_more(laid);
+    let why = words::why_not_more(facts, laid);
     let why: String = why.iter().map(|line| paragraph("why", line)).collect();
     let why = match why.is_empty() {
         true => why,

@@ -2,6 +2,7 @@
 
 use super::facts::{Cell, Facts, Laid};
 use super::html::{isolated, section};
+use crate::labels;
 use crate::units::{percent, thousands};
 use dezghuri::Layout;
 
@@ -29,14 +30,16 @@ impl Held {
         }
     }
 
-    fn cells(&self, facts: &Facts, laid: &Laid) -> String {
+    /// The cells of a line; a ceiling stands in a table of boxes only, where one has any.
+    fn cells(&self, facts: &Facts, laid: &Laid, ceiling: Option<String>) -> String {
         let (unit, used) = (facts.unit(), self.copies * laid.size);
-        let mut cells = vec![
-            unit.of(self.capacity),
+        let mut cells = vec![unit.of(self.capacity)];
+        cells.extend(ceiling);
+        cells.extend([
             thousands(self.copies),
             unit.of(used),
             percent(used, self.capacity),
-        ];
+        ]);
         if facts.has_former() {
             cells.extend([thousands(self.received), thousands(self.dropped)]);
         }
@@ -52,19 +55,23 @@ pub fn boxes_and_zones(facts: &Facts, laid: &Laid) -> String {
     let all: Vec<usize> = (0..facts.cluster().nodes.len()).collect();
     let mut lines = String::new();
     for b in &all {
-        let cells = Held::of(facts, laid, &[*b]).cells(facts, laid);
+        let cells = Held::of(facts, laid, &[*b]).cells(facts, laid, ceiling(facts, Some(*b)));
         lines += &format!("{}{cells}</tr>\n", box_head(facts, *b));
     }
-    let sum = Held::of(facts, laid, &all).cells(facts, laid);
+    let sum = Held::of(facts, laid, &all).cells(facts, laid, ceiling(facts, None));
     lines += &format!("<tr class=\"sum\"><th>all</th><td></td><td></td>{sum}</tr>\n");
-    let heads = numbers(facts);
-    let caption = format!(
+    let mut heads = numbers(facts);
+    let mut caption = format!(
         "The boxes. Capacity and used are in {}; used is what the copies take once each partition \
          has grown to its size, share is of the whole disk, a sixteenth of which stays free.",
         facts.unit().name
     );
+    if facts.has_ceilings() {
+        heads.insert(1, "ceiling");
+        caption += CEILING;
+    }
     let boxes = table(
-        "cards of-boxes",
+        class_of_boxes(facts),
         &caption,
         &[&["box", "name", "zone"][..], &heads].concat(),
         &lines,
@@ -74,7 +81,7 @@ pub fn boxes_and_zones(facts: &Facts, laid: &Laid) -> String {
 
 fn zone_table(facts: &Facts, laid: &Laid) -> String {
     let line = |(zone, places): (&str, Vec<usize>)| {
-        let cells = Held::of(facts, laid, &places).cells(facts, laid);
+        let cells = Held::of(facts, laid, &places).cells(facts, laid, None);
         format!(
             "<tr><th>{}</th><td class=\"n\">{}</td>{cells}</tr>\n",
             isolated(zone),
@@ -96,19 +103,40 @@ pub fn disks(facts: &Facts) -> String {
     let unit = facts.unit();
     let line = |b: usize| {
         let capacity = unit.of(facts.cluster().nodes[b].capacity.into());
+        let ceiling = ceiling(facts, Some(b));
+        let ceiling = ceiling.map(|cell| format!("<td class=\"n\">{cell}</td>"));
         format!(
-            "{}<td class=\"n\">{capacity}</td></tr>\n",
-            box_head(facts, b)
+            "{}<td class=\"n\">{capacity}</td>{}</tr>\n",
+            box_head(facts, b),
+            ceiling.unwrap_or_default()
         )
     };
     let lines: String = (0..facts.cluster().nodes.len()).map(line).collect();
-    let caption = format!("The boxes. Capacity is in {}.", unit.name);
-    table(
-        "cards of-boxes",
-        &caption,
-        &["box", "name", "zone", "capacity"],
-        &lines,
-    )
+    let mut caption = format!("The boxes. Capacity is in {}.", unit.name);
+    let mut heads = vec!["box", "name", "zone", "capacity"];
+    if facts.has_ceilings() {
+        heads.push("ceiling");
+        caption += CEILING;
+    }
+    table(class_of_boxes(facts), &caption, &heads, &lines)
+}
+
+/// What the caption of a table with ceilings says more.
+const CEILING: &str = " Ceiling is the most copies that a box may hold.";
+
+/// The class of the table of boxes.
+fn class_of_boxes(facts: &Facts) -> &'static str {
+    match facts.has_ceilings() {
+        true => "cards of-boxes ceilings",
+        false => "cards of-boxes",
+    }
+}
+
+/// The cell of a box's ceiling, or of the sum, where the table has such a column.
+fn ceiling(facts: &Facts, b: Option<usize>) -> Option<String> {
+    let ceiling = b.and_then(|b| labels::ceiling(&facts.cluster().nodes[b]));
+    let cell = ceiling.map_or_else(String::new, |ceiling| ceiling.to_string());
+    facts.has_ceilings().then_some(cell)
 }
 
 /// The beginning of a box's line, which can be linked to.

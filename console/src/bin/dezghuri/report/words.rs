@@ -1,6 +1,7 @@
 //! The sentences with which the page begins.
 
 use super::facts::{Best, Facts, Laid};
+use crate::overview::losses_of_hope;
 use crate::units::{count, thousands};
 
 /// What the command says of the page: the same sentences in plain text.
@@ -62,7 +63,11 @@ fn moves(facts: &Facts, laid: &Laid) -> String {
 fn best(facts: &Facts, laid: &Laid) -> Option<String> {
     match laid.best {
         Best::Larger(size) => Some(format!(
-            "The disks allow {} MB a partition: a new plan has more.",
+            "The {} allow {} MB a partition: a new plan has more.",
+            match facts.has_ceilings() {
+                true => "disks and ceilings",
+                false => "disks",
+            },
             thousands(size)
         )),
         _ if !facts.has_former() => None,
@@ -94,12 +99,13 @@ pub fn source(facts: &Facts) -> String {
 }
 
 /// What keeps the size from being larger, in sentences.
-pub fn why_not_more(laid: &Laid) -> Vec<String> {
+pub fn why_not_more(facts: &Facts, laid: &Laid) -> Vec<String> {
     let sentence = |why: &String| with_capital(&why.replace('\n', " "));
     let mut sentences: Vec<String> = laid.why.iter().map(sentence).collect();
     if laid.hope > laid.size {
         sentences.push(format!(
-            "With nothing lost to rounding and zones it would be {} MB a partition.",
+            "With nothing lost to {} it would be {} MB a partition.",
+            losses_of_hope(facts.has_ceilings()),
             thousands(laid.hope)
         ));
     }

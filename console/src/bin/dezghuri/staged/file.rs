@@ -1,6 +1,6 @@
 //! The file of what is staged: the fields of a change record, with the owner's words between them.
 
-use dezghuri::{Change, Label, Place, Refusal, Refused};
+use dezghuri::{Change, Label, Node, Place, Refusal, Refused};
 use std::fmt;
 
 /// No file of staged changes is longer; what is longer is some other file.
@@ -23,6 +23,9 @@ mod tag {
     /// The sum of all bytes of the file before this field, which is its last.
     pub const CHECK: u8 = 243;
 }
+
+/// How the field of a new box began before version 0.6.0: with ten bytes, of which none was a ceiling.
+const ADD_BEFORE: [u8; 3] = [tag::ADD, 0, 10];
 
 /// A staged change, as it stands in the file.
 #[derive(Clone, Debug, PartialEq, Eq)]
@@ -108,15 +111,20 @@ pub struct Fault {
     pub refused: Refused,
     /// Whether all fields are well, and the check is not that of the bytes before it.
     pub is_of_check: bool,
+    /// Whether it is a box without a ceiling, as versions before 0.6.0 have staged it.
+    pub is_of_before: bool,
 }
 
 impl fmt::Display for Fault {
     fn fmt(&self, f: &mut fmt::Formatter<'_>) -> fmt::Result {
         write!(f, "{}", self.refused)?;
-        match self.is_of_check {
-            true => f.write_str(": the bytes before it are not those that were written"),
-            false => Ok(()),
+        if self.is_of_check {
+            f.write_str(": the bytes before it are not those that were written")?;
         }
+        if self.is_of_before {
+            f.write_str(": a version before 0.6.0 has staged this, without a ceiling")?;
+        }
+        Ok(())
     }
 }
 
@@ -126,7 +134,10 @@ pub fn parse(bytes: &[u8]) -> Result<Contents, Fault> {
     let mut reader = Reader::default();
     let mut at = 0;
     while at < bytes.len() {
-        at = reader.take(bytes, at).map_err(|why| fault(why, at))?;
+        at = reader.take(bytes, at).map_err(|why| Fault {
+            is_of_before: why == Refusal::Length && bytes[at..].starts_with(&ADD_BEFORE),
+            ..fault(why, at)
+        })?;
     }
     match reader.check {
         Some((begins, check)) if check != sum(&bytes[..begins]) => Err(Fault {
@@ -168,6 +179,7 @@ fn fault(refusal: Refusal, at: usize) -> Fault {
     Fault {
         refused: Refused { refusal, place },
         is_of_check: false,
+        is_of_before: false,
     }
 }
 
@@ -229,7 +241,9 @@ impl Reader {
 
     fn take_change(&mut self, bytes: &[u8], at: usize) -> Result<(), Refusal> {
         let change = Change::from_field(bytes).expect("tag and length are those of a change");
-        if change.id() == 0 {
+        let is_too_high = |node: Node| node.ceiling > Node::NO_CEILING;
+        let is_outside = matches!(change, Change::Add(node) if is_too_high(node));
+        if change.id() == 0 || is_outside {
             return Err(Refusal::Range);
         }
         self.found.ends = at + bytes.len();
@@ -251,7 +265,7 @@ fn number(body: &[u8]) -> u64 {
 
 fn is_legal(tag: u8, length: usize) -> bool {
     match tag {
-        tag::ADD => length == 10,
+        tag::ADD => length == 12,
         tag::REMOVE => length == 4,
         tag::RESIZE | tag::CHECK => length == 8,
         tag::SUMS => length == 16,

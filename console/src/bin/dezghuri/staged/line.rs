@@ -3,7 +3,7 @@
 use super::file::Entry;
 use crate::failure::Failure;
 use dezghuri::units::capacity_in_words;
-use dezghuri::{Change, Description, Note};
+use dezghuri::{Change, Description, Node, Note};
 
 /// A text has 32 boxes at most; one of them is the new one.
 const MOST_OTHERS: usize = 31;
@@ -17,11 +17,12 @@ struct Text {
     last: usize,
 }
 
-/// The box that the words describe, beside those that there are; what looks like a slip goes to the
+/// The box that the words describe, with this ceiling, beside those that there are; what looks like a slip goes to the
 /// warnings. Whether the id is free is not asked here.
 pub fn entry(
     described: &Description,
     words: &str,
+    ceiling: u16,
     warnings: &mut Vec<String>,
 ) -> Result<Entry, Failure> {
     let text = Text::new(described, words);
@@ -38,7 +39,7 @@ pub fn entry(
     Ok(Entry {
         begins: 0,
         byte: 0,
-        change: Change::Add(*node),
+        change: Change::Add(Node { ceiling, ..*node }),
         zone: (!is_number).then(|| label.zone.clone()),
         name: (!label.name.is_empty()).then(|| label.name.clone()),
     })

@@ -147,17 +147,19 @@ fn in_words(change: &Change, label: &Label, before: &Description) -> String {
     let id = change.id();
     match (change, node(before, id)) {
         (Change::Add(node), _) => {
-            let words = [&label.zone, &capacity_in_words(node.capacity), &label.name];
+            let capacity = capacity_in_words(node.capacity);
+            let words = [&label.zone, &capacity, &label.name, &most(node)];
             format!("add box {id} in {}", with_commas(words))
         }
         (Change::Remove(_), Some((node, label))) => {
-            let words = [&label.name, &label.zone, &capacity_in_words(node.capacity)];
+            let capacity = capacity_in_words(node.capacity);
+            let words = [&label.name, &label.zone, &capacity, &most(node)];
             format!("remove box {id} ({})", with_commas(words))
         }
         (Change::Remove(_), None) => format!("remove box {id}"),
-        (Change::Resize { capacity, .. }, Some((node, _))) => format!(
-            "resize box {} from {} to {}",
-            labels::in_words(before, id),
+        (Change::Resize { capacity, .. }, Some((node, label))) => format!(
+            "resize box {id} ({}) from {} to {}",
+            with_commas([&label.name, &label.zone, &most(node), &String::new()]),
             capacity_in_words(node.capacity),
             capacity_in_words(*capacity)
         ),
@@ -167,8 +169,13 @@ fn in_words(change: &Change, label: &Label, before: &Description) -> String {
     }
 }
 
+/// The ceiling of a box in words; nothing where it has none.
+fn most(node: &Node) -> String {
+    labels::ceiling_in_words(node).unwrap_or_default()
+}
+
 /// Those that are not empty.
-fn with_commas(words: [&String; 3]) -> String {
+fn with_commas(words: [&String; 4]) -> String {
     let words = words.map(String::as_str).into_iter();
     let words: Vec<&str> = words.filter(|word| !word.is_empty()).collect();
     words.join(", ")
@@ -182,6 +189,10 @@ fn json(change: &Change, label: &Label, before: &Description) -> Json {
         Change::Resize { capacity, .. } => ("resize", Some(*capacity)),
     };
     let was = node(before, change.id()).filter(|_| kind != "add");
+    let ceiling = match change {
+        Change::Add(node) => Some(node.ceiling),
+        _ => was.map(|(node, _)| node.ceiling),
+    };
     let label = match change {
         Change::Add(_) => Some(label),
         _ => was.map(|(_, label)| label),
@@ -192,6 +203,7 @@ fn json(change: &Change, label: &Label, before: &Description) -> Json {
         ("name", label.map(|label| label.name.as_str()).into()),
         ("zone", label.map(|label| label.zone.as_str()).into()),
         ("capacity_mb", capacity.into()),
+        ("ceiling", ceiling.into()),
         ("was_mb", was.map(|(node, _)| node.capacity).into()),
     ])
 }

@@ -85,6 +85,7 @@ mod tests {
             id: 9,
             zone,
             capacity: 5,
+            ceiling: Node::NO_CEILING,
         };
         Entry {
             begins: 0,

@@ -17,10 +17,11 @@ fn add(id: u32, zone: u16) -> Change {
         id,
         zone,
         capacity: 500,
+        ceiling: 40,
     })
 }
 
-/// The fields of four changes, 68 bytes.
+/// The fields of four changes, 72 bytes.
 fn changes() -> Vec<u8> {
     let grown = Change::Resize { id: 3, capacity: 9 };
     let entries = [
@@ -60,19 +61,19 @@ fn changes_stand_with_their_words_before_them() {
         b"attic",
         &[241, 0, 7],
         b"new box",
-        &[20, 0, 10, 0, 0, 0, 7, 0, 2, 0, 0, 1, 244],
+        &[20, 0, 12, 0, 0, 0, 7, 0, 2, 0, 0, 1, 244, 0, 40],
         &[21, 0, 4, 0, 0, 0, 2],
         &[241, 0, 3],
         b"old",
-        &[20, 0, 10, 0, 0, 0, 8, 0, 5, 0, 0, 1, 244],
+        &[20, 0, 12, 0, 0, 0, 8, 0, 5, 0, 0, 1, 244, 0, 40],
         &[22, 0, 8, 0, 0, 0, 3, 0, 0, 0, 9],
     ]
     .concat();
     assert_eq!(changes(), expected);
     let found = parse(&whole(&changes())).unwrap();
     let places: Vec<_> = found.entries.iter().map(|e| (e.begins, e.byte)).collect();
-    assert_eq!(places, [(0, 18), (31, 31), (38, 44), (57, 57)]);
-    assert_eq!((found.sums, found.ends), (None, 68));
+    assert_eq!(places, [(0, 18), (33, 33), (40, 46), (61, 61)]);
+    assert_eq!((found.sums, found.ends), (None, 72));
     assert_eq!(found.entries[0].label().zone, "attic");
     assert_eq!(found.entries[2].label().zone, "5");
     assert_eq!(found.entries[2].label().name, "old");
@@ -93,49 +94,49 @@ fn the_sums_stand_at_the_end() {
         &[0x11, 0x12, 0x13, 0x14, 0x15, 0x16, 0x17, 0x18],
     ]
     .concat();
-    assert_eq!(bytes[68..87], sums);
+    assert_eq!(bytes[72..91], sums);
     let found = parse(&bytes).unwrap();
-    assert_eq!((found.sums, found.ends), (Some(SUMS), 68));
-    assert_eq!(fault(&sealed(&bytes[..87], SUMS)), at(2, 87));
-    let more = [&bytes[..87], &Change::Remove(1).to_field()].concat();
-    assert_eq!(fault(&more), at(2, 87));
+    assert_eq!((found.sums, found.ends), (Some(SUMS), 72));
+    assert_eq!(fault(&sealed(&bytes[..91], SUMS)), at(2, 91));
+    let more = [&bytes[..91], &Change::Remove(1).to_field()].concat();
+    assert_eq!(fault(&more), at(2, 91));
     assert_eq!(fault(&sealed(&[], SUMS)), at(2, 0));
     let one = [&changes()[..], &[242, 0, 8, 1, 2, 3, 4, 5, 6, 7, 8]].concat();
-    assert_eq!(fault(&whole(&one)), at(3, 68));
+    assert_eq!(fault(&whole(&one)), at(3, 72));
 }
 
 #[test]
 fn the_check_stands_last_of_all() {
     let bytes = whole(&changes());
-    assert_eq!(bytes[68..71], [243, 0, 8]);
-    assert_eq!(bytes[71..], sum(&changes()).to_be_bytes());
+    assert_eq!(bytes[72..75], [243, 0, 8]);
+    assert_eq!(bytes[75..], sum(&changes()).to_be_bytes());
     let sealed = sealed(&changes(), SUMS);
-    assert_eq!(sealed.len(), 68 + LAST_BYTES);
-    assert_eq!(sealed[87..90], [243, 0, 8]);
-    assert_eq!(sealed[90..], sum(&sealed[..87]).to_be_bytes());
-    assert_eq!(fault(&changes()), at(7, 68));
-    assert_eq!(fault(&sealed[..87]), at(7, 87));
+    assert_eq!(sealed.len(), 72 + LAST_BYTES);
+    assert_eq!(sealed[91..94], [243, 0, 8]);
+    assert_eq!(sealed[94..], sum(&sealed[..91]).to_be_bytes());
+    assert_eq!(fault(&changes()), at(7, 72));
+    assert_eq!(fault(&sealed[..91]), at(7, 91));
     assert_eq!(fault(&whole(&[])), at(2, 0));
     assert_eq!(fault(&whole(&changes()[..8])), at(2, 8));
-    assert_eq!(fault(&whole(&bytes)), at(2, 79));
+    assert_eq!(fault(&whole(&bytes)), at(2, 83));
     let more = [&bytes[..], &Change::Remove(1).to_field()].concat();
-    assert_eq!(fault(&more), at(2, 79));
+    assert_eq!(fault(&more), at(2, 83));
 }
 
 /// What is wrong with a field comes first, after the check too.
 #[test]
 fn another_check_is_told_last() {
     let mut bytes = whole(&changes());
-    bytes[67] = 8;
+    bytes[71] = 8;
     let told = parse(&bytes).expect_err("its check is another one");
     assert!(told.is_of_check);
-    let line = "a value outside its range, at byte 68 (refused 4): the bytes before it are not \
+    let line = "a value outside its range, at byte 72 (refused 4): the bytes before it are not \
                 those that were written";
     assert_eq!(told.to_string(), line);
-    assert_eq!(fault(&[&bytes[..], &[21]].concat()), at(1, 79));
-    bytes[37] = 0;
-    assert_eq!(fault(&bytes), at(4, 31));
-    let line = "a value outside its range, at byte 31 (refused 4)";
+    assert_eq!(fault(&[&bytes[..], &[21]].concat()), at(1, 83));
+    bytes[39] = 0;
+    assert_eq!(fault(&bytes), at(4, 33));
+    let line = "a value outside its range, at byte 33 (refused 4)";
     assert_eq!(parse(&bytes).unwrap_err().to_string(), line);
 }
 
@@ -196,6 +197,46 @@ fn faults_are_told_by_byte() {
     assert_eq!(fault(&named), at(2, 4));
     let removed = [&zone[..], &Change::Remove(1).to_field()].concat();
     assert_eq!(fault(&removed), at(2, 4));
+}
+
+#[test]
+fn a_ceiling_is_256_at_most() {
+    let with = |ceiling: u16| {
+        let Change::Add(node) = add(1, 1) else {
+            unreachable!("a box is added");
+        };
+        whole(&Change::Add(Node { ceiling, ..node }).to_field())
+    };
+    for ceiling in [0, 255, 256] {
+        let found = parse(&with(ceiling)).unwrap();
+        let change = found.entries[0].change;
+        assert!(matches!(change, Change::Add(node) if node.ceiling == ceiling));
+    }
+    assert_eq!(fault(&with(257)), at(4, 0));
+    assert_eq!(fault(&with(u16::MAX)), at(4, 0));
+}
+
+/// A box of ten bytes is told as what it is, and no other field of a wrong length.
+#[test]
+fn what_was_staged_before_there_were_ceilings_is_told() {
+    let before = [&[20, 0, 10][..], &[0, 0, 0, 7, 0, 2, 0, 0, 1, 244]].concat();
+    let later = [&Change::Remove(2).to_field()[..], &before].concat();
+    for (bytes, byte) in [(&before, 0), (&later, 7)] {
+        let told = parse(&whole(bytes)).expect_err("it has no ceiling");
+        assert!(told.is_of_before && !told.is_of_check);
+        let line = format!(
+            "a length that is not legal for the tag, at byte {byte} (refused 3): a version before \
+             0.6.0 has staged this, without a ceiling"
+        );
+        assert_eq!(told.to_string(), line);
+    }
+    for other in [[20, 0, 11], [20, 1, 10], [21, 0, 10], [20, 0, 13]] {
+        let told = parse(&other).expect_err("its length is wrong");
+        assert_eq!(
+            (told.refused.refusal.number(), told.is_of_before),
+            (3, false)
+        );
+    }
 }
 
 #[test]
