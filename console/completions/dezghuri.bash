@@ -19,7 +19,7 @@ _dezghuri() {
         plan) options='--staged --former --out --allowance --replace --record --json --help' ;;
         check | diff) options='--staged --json --help' ;;
         show) options='--box --all --staged --json --help' ;;
-        what-if) options='--former --add --remove --resize --json --help' ;;
+        what-if) options='--former --add --remove --resize --ceiling --json --help' ;;
         stage) options='--ceiling --json --help' ;;
         undo | apply) options='--json --help' ;;
         report) options='--staged --former --out --help' ;;

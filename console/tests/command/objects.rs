@@ -116,6 +116,12 @@ fn tried_changes_are_an_object() {
     let last = object.get("lines").list().last().unwrap();
     assert_eq!(last.get("refusal").line(), "9");
     assert_eq!(last.get("sent"), &Value::Null);
+    let done = folder.call("what-if home.txt --ceiling 1=1 --json");
+    let object = read(&done.out);
+    let last = object.get("lines").list().last().unwrap();
+    let change = r#"{"ceiling":1,"id":1,"kind":"ceiling"}"#;
+    assert_eq!(last.get("change").line(), change);
+    assert_eq!(last.get("size_mb").line(), "2");
 }
 
 /// The names of all members, those of inner objects included.

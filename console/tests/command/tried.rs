@@ -55,6 +55,25 @@ fn changes_that_leave_no_layout_are_told() {
     assert_eq!(done.out, include_str!("what-if-none.txt"));
 }
 
+/// With at most one copy on box 1 box 2 has three, of 2 MB each, and one is sent. With none on box 2 box 1
+/// has all four, of 2 MB, and two are sent. The highest ceiling limits nothing. Of 25 MB 24 may be filled:
+/// three copies of 8 MB, and box 1 has one. Of two ceilings of one box the later counts.
+#[test]
+fn ceilings_are_tried() {
+    let folder = two_boxes("tried-ceilings");
+    let changes = "--ceiling 1=1 --ceiling 2=0 --ceiling 2=256 --resize 2=25";
+    let done = folder.call(&format!("what-if home.txt --former last {changes}"));
+    assert_eq!((done.status, done.err.as_str()), (0, ""));
+    assert_eq!(done.out, include_str!("what-if-ceilings.txt"));
+    assert_eq!(folder.names(), ["home.txt", "last"]);
+    let done = folder.call("what-if home.txt --ceiling 1=0 --ceiling 2=1");
+    let told =
+        "\nall together: there is no layout: the ceilings are too low: the boxes may hold 1 copy \
+                together, and 4 are wanted (refused 9).\n";
+    assert_eq!((done.status, done.err.as_str()), (1, ""));
+    assert!(done.out.contains(told), "{}", done.out);
+}
+
 #[test]
 fn changes_that_cannot_be_made_are_told() {
     let folder = two_boxes("tried-bad");
@@ -67,6 +86,10 @@ fn changes_that_cannot_be_made_are_told() {
     assert_eq!(
         told(&["--remove", "2", "--resize", "2=9"]),
         "--resize 2=..: there is no box 2\n"
+    );
+    assert_eq!(
+        told(&["--ceiling", "3=40"]),
+        "--ceiling 3=..: there is no box 3\n"
     );
     assert_eq!(
         told(&["--add", "my attic 4T", "--add", "attic x"]),

@@ -3,6 +3,7 @@
 mod staging;
 
 use crate::units;
+use dezghuri::Node;
 use std::ffi::OsString;
 use std::path::PathBuf;
 
@@ -116,6 +117,8 @@ pub enum Change {
     Remove(u32),
     /// The capacity in megabytes.
     Resize(u32, u32),
+    /// The most copies that the box may hold.
+    Ceiling(u32, u16),
 }
 
 /// What the words after a command may be.
@@ -151,8 +154,8 @@ const GRAMMARS: [(&str, Grammar); 10] = [
     (
         "what-if",
         Grammar {
-            options: &["--former", "--add", "--remove", "--resize"],
-            repeated: &["--add", "--remove", "--resize"],
+            options: &["--former", "--add", "--remove", "--resize", CEILING],
+            repeated: &["--add", "--remove", "--resize", CEILING],
             flags: &[JSON],
         },
     ),
@@ -202,7 +205,7 @@ pub const JSON: &str = "--json";
 /// Asks for the boxes with the staged changes.
 const STAGED: &str = "--staged";
 
-/// Gives a box that is staged its ceiling.
+/// Gives a box its ceiling: a new one that is staged, or one of the file for a try.
 const CEILING: &str = "--ceiling";
 
 /// The name of a command that takes words, if the word is one.
@@ -339,7 +342,7 @@ fn what_if(mut words: Words) -> Result<Command, String> {
         .map(|(name, word)| change(name, word))
         .collect::<Result<_, _>>()?;
     if changes.is_empty() {
-        return Err("say what would change: --add, --remove or --resize".into());
+        return Err("say what would change: --add, --remove, --resize or --ceiling".into());
     }
     let [file] = words.places("a FILE")?;
     Ok(Command::WhatIf {
@@ -353,18 +356,27 @@ fn change(name: &'static str, word: &OsString) -> Result<Change, String> {
     match name {
         "--remove" => Ok(Change::Remove(id(name, word)?)),
         "--resize" => {
-            let text = word.to_str().unwrap_or("");
-            let Some((box_, capacity)) = text.split_once('=') else {
-                return Err("--resize takes a box and its capacity, as 3=8T".into());
-            };
+            let what = "--resize takes a box and its capacity, as 3=8T";
+            let (box_, capacity) = pair(word).ok_or(what)?;
             let capacity = units::megabytes(capacity)?;
-            Ok(Change::Resize(id(name, &box_.into())?, capacity))
+            Ok(Change::Resize(id(name, &box_)?, capacity))
+        }
+        CEILING => {
+            let what = "--ceiling takes a box and the most copies that it may hold, as 3=40";
+            let (box_, most) = pair(word).ok_or(what)?;
+            Ok(Change::Ceiling(id(name, &box_)?, ceiling(&most.into())?))
         }
         _ => match word.to_str() {
             Some(words) => Ok(Change::Add(words.into())),
             None => Err(format!("{name} takes plain text")),
         },
     }
+}
+
+/// A box and what is said of it, as in 3=8T.
+fn pair(word: &OsString) -> Option<(OsString, &str)> {
+    let (box_, said) = word.to_str()?.split_once('=')?;
+    Some((box_.into(), said))
 }
 
 fn report(mut words: Words) -> Result<Command, String> {
@@ -408,6 +420,13 @@ fn number<T: std::str::FromStr>(word: &OsString) -> Option<T> {
 fn id(option: &str, word: &OsString) -> Result<u32, String> {
     let id = number(word).filter(|id| *id != 0);
     id.ok_or_else(|| format!("{option} takes the id of a box, and not {word:?}"))
+}
+
+/// The most copies that a box may hold.
+fn ceiling(word: &OsString) -> Result<u16, String> {
+    let ceiling = number(word).filter(|ceiling| *ceiling <= Node::NO_CEILING);
+    let most = Node::NO_CEILING;
+    ceiling.ok_or_else(|| format!("{CEILING} takes a number from 0 to {most}, and not {word:?}"))
 }
 
 /// The words after the first, options apart from the others.
@@ -607,7 +626,9 @@ mod tests {
             "what-if", "home.txt", "--resize", "3=1.5T", "--add", "attic 4T",
         ];
         let more = ["--remove=2", "--former", "last", "--add=shed 1T new"];
-        let call = parse(words.iter().chain(&more).map(OsString::from)).unwrap();
+        let ceilings = ["--ceiling", "3=0", "--ceiling=4=256"];
+        let words = words.iter().chain(&more).chain(&ceilings);
+        let call = parse(words.map(OsString::from)).unwrap();
         let expected = Command::WhatIf {
             file: "home.txt".into(),
             former: Some("last".into()),
@@ -616,6 +637,8 @@ mod tests {
                 Change::Add("attic 4T".into()),
                 Change::Remove(2),
                 Change::Add("shed 1T new".into()),
+                Change::Ceiling(3, 0),
+                Change::Ceiling(4, 256),
             ],
         };
         assert_eq!(call.command, expected);
@@ -710,7 +733,7 @@ mod tests {
             ),
             (
                 "what-if home.txt",
-                "say what would change: --add, --remove or --resize",
+                "say what would change: --add, --remove, --resize or --ceiling",
             ),
             (
                 "what-if home.txt --remove 0",
@@ -723,6 +746,18 @@ mod tests {
             (
                 "what-if home.txt --resize 3=1.5",
                 "1.5 is not a whole number of megabytes",
+            ),
+            (
+                "what-if home.txt --ceiling 40",
+                "--ceiling takes a box and the most copies that it may hold, as 3=40",
+            ),
+            (
+                "what-if home.txt --ceiling study=40",
+                "--ceiling takes the id of a box, and not \"study\"",
+            ),
+            (
+                "what-if home.txt --ceiling 3=257",
+                "--ceiling takes a number from 0 to 256, and not \"257\"",
             ),
             (
                 "what-if home.txt --remove 1 --former a --former b",

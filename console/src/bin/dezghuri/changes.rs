@@ -14,6 +14,8 @@ pub enum Step {
     Remove(u32),
     /// The capacity in megabytes.
     Resize(u32, u32),
+    /// The most copies that the box may hold; no change record has such a change.
+    Ceiling(u32, u16),
 }
 
 /// The cluster as it is, and the changes in the order of the call.
@@ -52,6 +54,7 @@ impl Tried {
             steps.push(match change {
                 Change::Remove(id) => Step::Remove(*id),
                 Change::Resize(id, capacity) => Step::Resize(*id, *capacity),
+                Change::Ceiling(id, ceiling) => Step::Ceiling(*id, *ceiling),
                 Change::Add(words) => {
                     let id = ids.next().expect("each has one");
                     let (node, label) = take(&mut described, id).expect("it was read");
@@ -127,6 +130,7 @@ impl Step {
                 let (id, capacity) = (*id, *capacity);
                 (dezghuri::Change::Resize { id, capacity }, Label::default())
             }
+            Step::Ceiling(id, ceiling) => return limit(described, *id, *ceiling),
         };
         let made = make(described, &change.to_field(), 0, label);
         made.map(drop)
@@ -151,6 +155,13 @@ impl Step {
                 labels::in_words(described, *id),
                 capacity_in_words(*capacity)
             ),
+            Step::Ceiling(id, ceiling) => {
+                let named = labels::in_words(described, *id);
+                match labels::own_ceiling(*ceiling) {
+                    Some(ceiling) => format!("ceiling {ceiling} for box {named}"),
+                    None => format!("no ceiling for box {named}"),
+                }
+            }
         }
     }
 
@@ -159,6 +170,7 @@ impl Step {
             Step::Add(node, _, _) => ("add", node.id),
             Step::Remove(id) => ("remove", *id),
             Step::Resize(id, _) => ("resize", *id),
+            Step::Ceiling(id, _) => ("ceiling", *id),
         };
         let members = Json::Object(vec![("kind", kind.into()), ("id", id.into())]);
         match self {
@@ -168,6 +180,7 @@ impl Step {
                 .with("capacity_mb", node.capacity),
             Step::Remove(_) => members,
             Step::Resize(_, capacity) => members.with("capacity_mb", *capacity),
+            Step::Ceiling(_, ceiling) => members.with("ceiling", *ceiling),
         }
     }
 }
@@ -185,6 +198,15 @@ pub fn make(
     let known = |node: &Node| before.label(node.id).unwrap_or(&label).clone();
     described.labels = described.cluster.nodes.iter().map(known).collect();
     Ok(changed)
+}
+
+/// Gives a box another ceiling.
+fn limit(described: &mut Description, id: u32, ceiling: u16) -> Result<(), String> {
+    let mut nodes = described.cluster.nodes.iter_mut();
+    let node = nodes.find(|node| node.id == id);
+    let node = node.ok_or_else(|| format!("--ceiling {id}=..: there is no box {id}"))?;
+    node.ceiling = ceiling;
+    Ok(())
 }
 
 /// Takes a box out of the cluster.
@@ -272,6 +294,10 @@ mod tests {
         assert_eq!(Step::Remove(7).make(&mut described), Ok(()));
         let told = Step::Resize(7, 5).make(&mut described).unwrap_err();
         assert_eq!(told, "--resize 7=..: there is no box 7");
+        assert_eq!(Step::Ceiling(3, 0).make(&mut described), Ok(()));
+        assert_eq!(described.cluster.nodes[0].ceiling, 0);
+        let told = Step::Ceiling(7, 5).make(&mut described).unwrap_err();
+        assert_eq!(told, "--ceiling 7=..: there is no box 7");
     }
 
     #[test]

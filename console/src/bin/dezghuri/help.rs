@@ -25,7 +25,8 @@ Plans where the copies of a cluster of storage boxes lie.
   dezghuri what-if FILE [--former LAST] CHANGE ..
       shows what changes of the boxes would bring, each alone and all together:
       size, gain and copies to send; nothing is written. A CHANGE is
-      --add \"ZONE CAPACITY [NAME]\", --remove ID or --resize ID=CAPACITY
+      --add \"ZONE CAPACITY [NAME]\", --remove ID, --resize ID=CAPACITY or
+      --ceiling ID=N
   dezghuri stage FILE CHANGE
       stages a change of the boxes, to be planned and applied with others; FILE
       stays as it is. A CHANGE is add ID ZONE CAPACITY [NAME ..] [--ceiling N],

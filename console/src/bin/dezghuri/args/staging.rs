@@ -1,6 +1,6 @@
 //! The words of the commands that stage changes.
 
-use super::{id, number, Command, Staging, Words, CEILING};
+use super::{ceiling, id, Command, Staging, Words, CEILING};
 use crate::units;
 use dezghuri::Node;
 use std::ffi::OsString;
@@ -47,13 +47,6 @@ pub fn stage(mut words: Words) -> Result<Command, String> {
             staging: staging(&rest)?,
         }),
     }
-}
-
-/// The most copies that a new box may hold.
-fn ceiling(word: &OsString) -> Result<u16, String> {
-    let ceiling = number(word).filter(|ceiling| *ceiling <= Node::NO_CEILING);
-    let most = Node::NO_CEILING;
-    ceiling.ok_or_else(|| format!("{CEILING} takes a number from 0 to {most}, and not {word:?}"))
 }
 
 /// A change has an id and a capacity, or a whole new box: no ceiling of one that is there.

@@ -17,8 +17,8 @@ struct Text {
     last: usize,
 }
 
-/// The box that the words describe, with this ceiling, beside those that there are; what looks like a slip goes to the
-/// warnings. Whether the id is free is not asked here.
+/// The box that the words describe, with this ceiling, beside those that there are; what looks like a
+/// slip goes to the warnings. Whether the id is free is not asked here.
 pub fn entry(
     described: &Description,
     words: &str,
