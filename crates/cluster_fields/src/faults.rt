@@ -42,7 +42,8 @@ fn node_fault(count: usize, last: u32, node: Node) -> u32
     if node.out_of_range() {
         return refusal::RANGE;
     }
-    if node.id <= last {
+    let id = node.id;
+    if id <= last {
         return refusal::ORDER;
     }
     if Cluster::NODES <= count {

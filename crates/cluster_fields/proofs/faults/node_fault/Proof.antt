@@ -17,17 +17,17 @@ returns c = simp (sym (c .before .out-of-range .ensures) ∙ c .if1 .taken)
 
 returns-2 : tie.Need-returns-2
 returns-2 c =
-    let k = c .before .before in
+    let k = c .before in
     simp (sym (k .before .out-of-range .ensures) ∙ k .if1 .left, le-leb _ _ (c .if2 .taken))
 
 returns-3 : tie.Need-returns-3
 returns-3 c =
-    let k = c .before .before .before in
+    let k = c .before .before in
     simp (sym (k .before .out-of-range .ensures) ∙ k .if1 .left, lt-leb _ _ (c .before .if2 .left), le-leb _ _ (c .if3 .taken))
 
 returns-4 : tie.Need-returns-4
 returns-4 c =
-    let k = c .before .before .before in
+    let k = c .before .before in
     simp (sym (k .before .out-of-range .ensures) ∙ k .if1 .left, lt-leb _ _ (c .before .if2 .left), lt-leb _ _ (c .if3 .left))
 
 pub node-fault-spec : {M : Type 1} → statement M
