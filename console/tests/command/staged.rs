@@ -1,6 +1,7 @@
 //! Changes that are staged, shown, planned with, taken back and applied.
 
 mod applied;
+mod before;
 mod ceilings;
 mod cut_short;
 mod damaged;

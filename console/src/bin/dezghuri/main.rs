@@ -3,6 +3,7 @@
 #![forbid(unsafe_code)]
 
 mod args;
+mod before;
 mod changes;
 mod commands;
 mod deeds;

@@ -1,11 +1,12 @@
 //! The file that a call writes: what may stand there, and how none of it is lost.
 
+use crate::before;
 use crate::failure::Failure;
 use crate::files;
 use crate::json::Json;
 use crate::report;
 use crate::staged;
-use dezghuri::{ffi, Cluster, Description, Node, Plan};
+use dezghuri::{ffi, Cluster, Description, Plan};
 use std::fs::{self, File, Metadata, OpenOptions};
 use std::io::{self, ErrorKind, Read, Write};
 use std::os::unix::fs::{fchown, MetadataExt, OpenOptionsExt, PermissionsExt};
@@ -64,28 +65,7 @@ impl Kind {
 /// Whether the bytes are a cluster record, of this version or of one before 0.6.0.
 fn is_cluster_record(bytes: &[u8]) -> bool {
     let is_record = |bytes: &[u8]| Cluster::from_record(bytes).is_ok();
-    is_record(bytes) || with_ceilings(bytes).is_some_and(|bytes| is_record(&bytes))
-}
-
-/// A cluster record in which each box of ten bytes, as there were before version 0.6.0, has the highest
-/// ceiling; nothing where a field is cut short.
-fn with_ceilings(bytes: &[u8]) -> Option<Vec<u8>> {
-    let mut record = Vec::new();
-    let mut rest = bytes;
-    while let [tag, high, low, after @ ..] = rest {
-        let length = usize::from(u16::from_be_bytes([*high, *low]));
-        let (body, after) = after.split_at_checked(length)?;
-        match [*tag, *high, *low] {
-            [4, 0, 10] => {
-                record.extend([4, 0, 12]);
-                record.extend(body);
-                record.extend(Node::NO_CEILING.to_be_bytes());
-            }
-            head => record.extend(head.iter().chain(body)),
-        }
-        rest = after;
-    }
-    rest.is_empty().then_some(record)
+    is_record(bytes) || before::record_with_ceilings(bytes).is_some_and(|bytes| is_record(&bytes))
 }
 
 /// A record or page to be written, and what stands in its place.

@@ -26,8 +26,7 @@ pub struct Staged {
     pub text: Vec<u8>,
     /// The bytes of the file of what is staged, if there is one.
     found: Option<Vec<u8>>,
-    /// The fields of the changes that stand.
-    changes: Vec<u8>,
+    /// The changes that stand.
     pub entries: Vec<Entry>,
     /// Whether all was written into the text, and only the file is left over.
     pub was_applied: bool,
@@ -49,7 +48,6 @@ impl Staged {
             found: files::read_staged(&path)?,
             path,
             text,
-            changes: Vec::new(),
             entries: Vec::new(),
             was_applied: false,
         };
@@ -63,13 +61,11 @@ impl Staged {
     fn take(&mut self, bytes: &[u8]) -> Result<Option<String>, Failure> {
         let contents = file::parse(bytes).map_err(|fault| {
             let (path, text) = (self.path.display(), self.file.display());
-            let advice = match fault.is_of_before {
-                true => format!("Apply it with that version, or move {path} away, and stage anew."),
-                false => format!("Move {path} away, and stage anew."),
-            };
             Failure::Bad(vec![
                 format!("{path}: this is not a whole file of staged changes: {fault}"),
-                format!("Nothing was touched, and {text} is as it was. {advice}"),
+                format!(
+                    "Nothing was touched, and {text} is as it was. Move {path} away, and stage anew."
+                ),
             ])
         })?;
         let now = file::sum(&self.text);
@@ -77,7 +73,6 @@ impl Staged {
         if self.was_applied {
             return Ok(None);
         }
-        self.changes = bytes[..contents.ends].to_vec();
         self.entries = contents.entries;
         let was_edited = contents.sums.is_some_and(|sums| sums.before != now);
         Ok(was_edited.then(|| self.edited()))
@@ -125,43 +120,49 @@ impl Staged {
     }
 
     /// One more change at the end; `known` is the cluster of the text.
-    pub fn push(&mut self, known: &Description, mut entry: Entry) -> Result<(), Failure> {
-        entry.begins = self.changes.len();
+    pub fn push(&mut self, known: &Description, entry: Entry) -> Result<(), Failure> {
+        let before = file::fields(&self.entries).len();
         self.entries.push(entry);
         let (_, changes) = zones::numbered(known, &self.entries);
         let entry = self.entries.last_mut().expect("it was pushed");
         entry.change = *changes.last().expect("there are as many");
-        let room = LONGEST.saturating_sub(file::LAST_BYTES + self.changes.len());
+        let room = LONGEST.saturating_sub(file::LAST_BYTES + before);
         let Some(bytes) = entry.to_bytes().filter(|bytes| bytes.len() <= room) else {
-            let what = format!("{}: this is too long to be staged", self.path.display());
-            return Err(Failure::bad(what));
+            return Err(self.too_long());
         };
-        entry.byte = entry.begins + bytes.len() - entry.change.to_field().len();
-        self.changes.extend(bytes);
+        entry.byte = before + bytes.len() - entry.change.to_field().len();
         Ok(())
     }
 
     /// Takes the last change away.
     pub fn pop(&mut self) {
-        if let Some(last) = self.entries.pop() {
-            self.changes.truncate(last.begins);
-        }
+        self.entries.pop();
+    }
+
+    fn too_long(&self) -> Failure {
+        let what = format!("{}: this is too long to be staged", self.path.display());
+        Failure::bad(what)
     }
 
     /// The file of what is staged, written with the changes as they are here.
     pub fn output(&self) -> Result<Output, Failure> {
-        self.output_of(file::whole(&self.changes))
+        self.output_of(file::whole(&file::fields(&self.entries)))
     }
 
     /// The file of what is staged, written with the sums of the text and of the one that the changes
     /// lead to; and the same file removed.
     pub fn sealed(&self, text: &[u8]) -> Result<(Output, Removal), Failure> {
-        let bytes = file::sealed(&self.changes, Sums::new(&self.text, text));
+        let bytes = file::sealed(&file::fields(&self.entries), Sums::new(&self.text, text));
         let removal = Removal::later(&self.path, Kind::Staged, bytes.clone());
         Ok((self.output_of(bytes)?, removal))
     }
 
+    /// Boxes that were staged before version 0.6.0 grow by their ceilings: what would be too long to be
+    /// read again is not written.
     fn output_of(&self, bytes: Vec<u8>) -> Result<Output, Failure> {
+        if bytes.len() > LONGEST {
+            return Err(self.too_long());
+        }
         let output = Output::new(&self.path, Kind::Staged, bytes)?;
         output.stands_on(self.found.as_deref())?;
         Ok(output)
@@ -182,7 +183,6 @@ impl Staged {
 /// A change that is no new box has no words with it.
 pub fn plain(change: Change) -> Entry {
     Entry {
-        begins: 0,
         byte: 0,
         change,
         zone: None,

@@ -70,34 +70,6 @@ fn faults_are_told_by_byte_and_nothing_is_touched() {
     done(&folder, "apply shop.txt");
 }
 
-/// As version 0.5.0 wrote it: the box has ten bytes, and no ceiling. Nothing of it is lost.
-#[test]
-fn what_a_version_before_ceilings_has_staged_is_told() {
-    let folder = staged_shop("before");
-    let before = [
-        &[240, 0, 5][..],
-        b"attic",
-        &[20, 0, 10, 0, 0, 0, 7, 0, 2, 0, 0x3d, 0x09, 0],
-        &[21, 0, 4, 0, 0, 0, 2],
-    ];
-    folder.write("shop.txt.staged", whole(&before.concat()));
-    let told = "shop.txt.staged: this is not a whole file of staged changes: a length that is not legal \
-                for the tag, at byte 8 (refused 3): a version before 0.6.0 has staged this, without a \
-                ceiling\n\
-                Nothing was touched, and shop.txt is as it was. Apply it with that version, or move \
-                shop.txt.staged away, and stage anew.";
-    for line in CALLS {
-        fails(&folder, line, 2, told);
-    }
-    let no_box = [before[3], &[22, 0, 8, 0, 0, 0, 3, 0, 0x7a, 0x12, 0]].concat();
-    folder.write("shop.txt.staged", whole(&no_box));
-    let shown = done(&folder, "stage shop.txt");
-    assert!(
-        shown.starts_with("shop.txt with 2 staged changes:\n"),
-        "{shown}"
-    );
-}
-
 /// The bytes at which fields begin, and that at which the last one ends.
 fn begins(bytes: &[u8]) -> Vec<usize> {
     let (mut begins, mut at) = (vec![0], 0);

@@ -1,5 +1,6 @@
 //! The file of what is staged: the fields of a change record, with the owner's words between them.
 
+use crate::before;
 use dezghuri::{Change, Label, Node, Place, Refusal, Refused};
 use std::fmt;
 
@@ -24,14 +25,9 @@ mod tag {
     pub const CHECK: u8 = 243;
 }
 
-/// How the field of a new box began before version 0.6.0: with ten bytes, of which none was a ceiling.
-const ADD_BEFORE: [u8; 3] = [tag::ADD, 0, 10];
-
 /// A staged change, as it stands in the file.
 #[derive(Clone, Debug, PartialEq, Eq)]
 pub struct Entry {
-    /// The byte at which the first of its fields begins.
-    pub begins: usize,
     /// The byte at which the field of the change begins.
     pub byte: usize,
     pub change: Change,
@@ -73,8 +69,6 @@ pub struct Contents {
     /// In the order in which they were staged, one at least.
     pub entries: Vec<Entry>,
     pub sums: Option<Sums>,
-    /// The byte at which the changes end.
-    pub ends: usize,
 }
 
 /// The sums of a text and of the one that was about to replace it.
@@ -111,20 +105,15 @@ pub struct Fault {
     pub refused: Refused,
     /// Whether all fields are well, and the check is not that of the bytes before it.
     pub is_of_check: bool,
-    /// Whether it is a box without a ceiling, as versions before 0.6.0 have staged it.
-    pub is_of_before: bool,
 }
 
 impl fmt::Display for Fault {
     fn fmt(&self, f: &mut fmt::Formatter<'_>) -> fmt::Result {
         write!(f, "{}", self.refused)?;
-        if self.is_of_check {
-            f.write_str(": the bytes before it are not those that were written")?;
+        match self.is_of_check {
+            true => f.write_str(": the bytes before it are not those that were written"),
+            false => Ok(()),
         }
-        if self.is_of_before {
-            f.write_str(": a version before 0.6.0 has staged this, without a ceiling")?;
-        }
-        Ok(())
     }
 }
 
@@ -134,10 +123,7 @@ pub fn parse(bytes: &[u8]) -> Result<Contents, Fault> {
     let mut reader = Reader::default();
     let mut at = 0;
     while at < bytes.len() {
-        at = reader.take(bytes, at).map_err(|why| Fault {
-            is_of_before: why == Refusal::Length && bytes[at..].starts_with(&ADD_BEFORE),
-            ..fault(why, at)
-        })?;
+        at = reader.take(bytes, at).map_err(|why| fault(why, at))?;
     }
     match reader.check {
         Some((begins, check)) if check != sum(&bytes[..begins]) => Err(Fault {
@@ -147,6 +133,12 @@ pub fn parse(bytes: &[u8]) -> Result<Contents, Fault> {
         Some(_) => Ok(reader.found),
         None => Err(fault(Refusal::Missing, at)),
     }
+}
+
+/// The fields of changes, one after the other; their words were seen to fit.
+pub fn fields(entries: &[Entry]) -> Vec<u8> {
+    let fields = |entry: &Entry| entry.to_bytes().expect("its words fit a field");
+    entries.iter().flat_map(fields).collect()
 }
 
 /// The whole file with these changes.
@@ -179,7 +171,6 @@ fn fault(refusal: Refusal, at: usize) -> Fault {
     Fault {
         refused: Refused { refusal, place },
         is_of_check: false,
-        is_of_before: false,
     }
 }
 
@@ -187,8 +178,6 @@ fn fault(refusal: Refusal, at: usize) -> Fault {
 #[derive(Default)]
 struct Reader {
     found: Contents,
-    /// Where the first field of the words that wait begins.
-    begins: Option<usize>,
     zone: Option<String>,
     name: Option<String>,
     /// The byte at which the check begins, and the check.
@@ -217,15 +206,12 @@ impl Reader {
             tag::CHECK => self.check = Some((at, number(body))),
             _ => self.take_change(&bytes[at..next], at)?,
         }
-        if [tag::ZONE, tag::NAME].contains(tag) {
-            self.begins.get_or_insert(at);
-        }
         Ok(next)
     }
 
     /// Whether the tag may come next.
     fn allows(&self, tag: u8) -> bool {
-        let waits = self.begins.is_some();
+        let waits = self.zone.is_some() || self.name.is_some();
         let may_end = !waits && !self.found.entries.is_empty();
         match tag {
             _ if self.check.is_some() => false,
@@ -240,21 +226,29 @@ impl Reader {
     }
 
     fn take_change(&mut self, bytes: &[u8], at: usize) -> Result<(), Refusal> {
-        let change = Change::from_field(bytes).expect("tag and length are those of a change");
+        let change = change_in(bytes).expect("tag and length are those of a change");
         let is_too_high = |node: Node| node.ceiling > Node::NO_CEILING;
         let is_outside = matches!(change, Change::Add(node) if is_too_high(node));
         if change.id() == 0 || is_outside {
             return Err(Refusal::Range);
         }
-        self.found.ends = at + bytes.len();
         self.found.entries.push(Entry {
-            begins: self.begins.take().unwrap_or(at),
             byte: at,
             change,
             zone: self.zone.take(),
             name: self.name.take(),
         });
         Ok(())
+    }
+}
+
+/// The change of a field; a box that was staged before version 0.6.0 has no ceiling.
+fn change_in(bytes: &[u8]) -> Option<Change> {
+    match bytes {
+        [tag::ADD, _, _, body @ ..] if body.len() == before::BOX_BYTES => {
+            Change::from_field(&before::with_ceiling(tag::ADD, body))
+        }
+        _ => Change::from_field(bytes),
     }
 }
 
@@ -265,7 +259,7 @@ fn number(body: &[u8]) -> u64 {
 
 fn is_legal(tag: u8, length: usize) -> bool {
     match tag {
-        tag::ADD => length == 12,
+        tag::ADD => [12, before::BOX_BYTES].contains(&length),
         tag::REMOVE => length == 4,
         tag::RESIZE | tag::CHECK => length == 8,
         tag::SUMS => length == 16,

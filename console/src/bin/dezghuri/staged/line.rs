@@ -37,7 +37,6 @@ pub fn entry(
         .expect("the last line has a box");
     let is_number = label.zone.bytes().all(|byte| byte.is_ascii_digit());
     Ok(Entry {
-        begins: 0,
         byte: 0,
         change: Change::Add(Node { ceiling, ..*node }),
         zone: (!is_number).then(|| label.zone.clone()),

@@ -88,7 +88,6 @@ mod tests {
             ceiling: Node::NO_CEILING,
         };
         Entry {
-            begins: 0,
             byte: 0,
             change: Change::Add(node),
             zone: name.map(String::from),

@@ -4,7 +4,6 @@ use dezghuri::Node;
 fn entry(change: Change, zone: &str, name: &str) -> Entry {
     let some = |word: &str| (!word.is_empty()).then(|| word.to_string());
     Entry {
-        begins: 0,
         byte: 0,
         change,
         zone: some(zone),
@@ -71,9 +70,10 @@ fn changes_stand_with_their_words_before_them() {
     .concat();
     assert_eq!(changes(), expected);
     let found = parse(&whole(&changes())).unwrap();
-    let places: Vec<_> = found.entries.iter().map(|e| (e.begins, e.byte)).collect();
-    assert_eq!(places, [(0, 18), (33, 33), (40, 46), (61, 61)]);
-    assert_eq!((found.sums, found.ends), (None, 72));
+    let places: Vec<_> = found.entries.iter().map(|e| e.byte).collect();
+    assert_eq!(places, [18, 33, 46, 61]);
+    assert_eq!(found.sums, None);
+    assert_eq!(fields(&found.entries), changes());
     assert_eq!(found.entries[0].label().zone, "attic");
     assert_eq!(found.entries[2].label().zone, "5");
     assert_eq!(found.entries[2].label().name, "old");
@@ -96,7 +96,8 @@ fn the_sums_stand_at_the_end() {
     .concat();
     assert_eq!(bytes[72..91], sums);
     let found = parse(&bytes).unwrap();
-    assert_eq!((found.sums, found.ends), (Some(SUMS), 72));
+    assert_eq!(found.sums, Some(SUMS));
+    assert_eq!(fields(&found.entries), changes());
     assert_eq!(fault(&sealed(&bytes[..91], SUMS)), at(2, 91));
     let more = [&bytes[..91], &Change::Remove(1).to_field()].concat();
     assert_eq!(fault(&more), at(2, 91));
@@ -216,26 +217,25 @@ fn a_ceiling_is_256_at_most() {
     assert_eq!(fault(&with(u16::MAX)), at(4, 0));
 }
 
-/// A box of ten bytes is told as what it is, and no other field of a wrong length.
+/// A box of ten bytes is one without a ceiling, and it is written with twelve; its byte is that of the
+/// file. No other length is taken.
 #[test]
-fn what_was_staged_before_there_were_ceilings_is_told() {
+fn what_was_staged_before_there_were_ceilings_is_taken() {
     let before = [&[20, 0, 10][..], &[0, 0, 0, 7, 0, 2, 0, 0, 1, 244]].concat();
-    let later = [&Change::Remove(2).to_field()[..], &before].concat();
-    for (bytes, byte) in [(&before, 0), (&later, 7)] {
-        let told = parse(&whole(bytes)).expect_err("it has no ceiling");
-        assert!(told.is_of_before && !told.is_of_check);
-        let line = format!(
-            "a length that is not legal for the tag, at byte {byte} (refused 3): a version before \
-             0.6.0 has staged this, without a ceiling"
-        );
-        assert_eq!(told.to_string(), line);
-    }
+    let removed = Change::Remove(2).to_field();
+    let bytes = [&before[..], &removed, b"\xf1\0\x03old", &before].concat();
+    let now = [&[20, 0, 12][..], &before[3..], &[1, 0]].concat();
+    let found = parse(&whole(&bytes)).unwrap();
+    let places: Vec<_> = found.entries.iter().map(|e| e.byte).collect();
+    assert_eq!(places, [0, 13, 26]);
+    let expected = [&now[..], &removed, b"\xf1\0\x03old", &now].concat();
+    assert_eq!(fields(&found.entries), expected);
+    let mut other = whole(&bytes);
+    other[12] = 0;
+    assert!(parse(&other).is_err_and(|told| told.is_of_check));
+    assert_eq!(fault(&bytes[..12]), at(1, 0));
     for other in [[20, 0, 11], [20, 1, 10], [21, 0, 10], [20, 0, 13]] {
-        let told = parse(&other).expect_err("its length is wrong");
-        assert_eq!(
-            (told.refused.refusal.number(), told.is_of_before),
-            (3, false)
-        );
+        assert_eq!(fault(&other), at(3, 0));
     }
 }
 
