@@ -1,90 +1,53 @@
--- The copies in the rows so far: one row more, and the turns of the walk that adds it.
+-- The walk over the nodes of a row, the lowest first: each is met once and has one copy more.
 -- Assumes nothing.
-use Prim.Native.Nat.{ℕ, _+_, _≤_, _<_}
-use mathlib.Core.Path.{_≡_, refl, sym, ap, ap₂, _∙_}
-use mathlib.Core.List.{List, [], _∷_, _++_, append-nil}
-use native.Mathlib.Numerals.{add-one}
+use Prim.Native.Nat.{ℕ, _+_, _^_, _<_}
+use mathlib.Core.Path.{_≡_, sym, ap, ap₂, _∙_}
+use mathlib.Core.List.{List}
+use mathlib.Core.Logic.{⊎-elim}
 use native.Mathlib.Omega.{arith}
-use lib.ListN.{length, drop, getD, set, replicate}
-use lib.Seq.{getD-append-add, getD-drop, drop-length}
-use Rattle.sums.specs.TermsSums.{one-if, tab}
-use Rattle.cells.proofs.Cells.{length-tab, getD-tab, tab-cong, tab-more}
-use Rattle.sets.specs.ModelBits.{bit}
-use Rattle.cluster.specs.Terms.{mostNodes, Topology, nodeAt, mem, Layout, copiesIn, rowAt, idsIn, rowsIn}
-use Rattle.cluster.proofs.Taking.{copies-few}
-use Rattle.cell_rows.proofs.CellLayouts.{length-rowsIn}
-use Rattle.copies.specs.ModelCopies.{rowNodes, copiesSoFar}
+use lib.ListN.{length, getD, set}
+use lib.Seq.{getD-set-same, getD-set-other}
+use Rattle.sums.proofs.Sum.{is-cases}
+use Rattle.sets.specs.ModelBits.{maskBits, bit, withoutOf, leastOf}
+use Rattle.sets.proofs.Laws.{bit-zero, bit-without, least-some, least-at}
+use Rattle.cluster.specs.Terms.{mostNodes, Topology}
+use Rattle.copies.specs.TermsCounts.{countsAfter}
+use Rattle.copies.specs.ModelCopies.{rowNodes}
 use Rattle.copies.proofs.RowNodes.{bit-nodes}
+use Rattle.copies.proofs.Counted.{row-counted}
 
--- One row more at the end.
-copies-append : (L : Layout) (r : List ℕ) (i : ℕ) → copiesIn (L ++ (r ∷ [])) i ≡ copiesIn L i + one-if (mem i r)
-unfolding copiesIn
-copies-append [] r i = omega arith
-copies-append (x ∷ xs) r i = omega (arith, copies-append xs r i)
+-- The count that node b comes to: what it has, and one copy more where it is left to be met.
+unfoldable pub comesTo : List ℕ → ℕ → ℕ → ℕ
+comesTo counts left b = getD counts b 0 + bit left b
 
--- After one row more an id has a copy more where the row names it.
-pub copies-more : (cells : List ℕ) (p i : ℕ) → copiesIn (rowsIn (p + 1) cells) i ≡ copiesIn (rowsIn p cells) i + one-if (mem i (idsIn (rowAt cells p)))
-unfolding rowsIn tab
-copies-more cells p i =
-    ap (λ (n : ℕ). copiesIn (tab (λ q. idsIn (rowAt cells q)) n) i) (add-one p)
-    ∙ copies-append (tab (λ q. idsIn (rowAt cells q)) p) (idsIn (rowAt cells p)) i
+-- The lowest node that is left is met: what any node comes to stays.
+pub meets : (counts : List ℕ) (left : ℕ) → length counts ≡ mostNodes → left < 2 ^ maskBits → (left ≡ 0 → ⊥) → (b : ℕ) → b < mostNodes
+    → comesTo (set counts (leastOf left) (getD counts (leastOf left) 0 + 1)) (withoutOf left (leastOf left)) b ≡ comesTo counts left b
+unfolding comesTo
+meets counts left long word some b h =
+    let u = leastOf left in
+    let v = getD counts u 0 + 1 in
+    let low : u < maskBits = least-some left word some in
+    ⊎-elim
+    (λ w. omega (
+      arith,
+      ap (λ (x : ℕ). getD (set counts u v) x 0) (w .0),
+      getD-set-same counts u v 0 (omega (arith, low, long)),
+      ap (λ (x : ℕ). getD counts x 0) (w .0),
+      bit-without left u b h,
+      w .1,
+      least-at left low,
+      ap (bit left) (w .0),
+    ))
+    (λ w. omega (arith, getD-set-other counts u b v 0 (λ e. w .0 (sym e)), bit-without left u b h, w .1))
+    (is-cases u b)
 
--- ---- the walk
-
--- What is read of the first cell that is not written yet.
-pub unwritten : (f : ℕ → ℕ) (b : ℕ) (l : List ℕ) → getD (tab f b ++ drop b l) b 0 ≡ getD l b 0
-unwritten f b l =
-    let e : b ≡ length (tab f b) + 0 = omega (arith, length-tab f b) in
-    let d : b + 0 ≡ b = omega arith in
-    ap (λ (i : ℕ). getD (tab f b ++ drop b l) i 0) e
-    ∙ (getD-append-add (tab f b) (drop b l) 0 0 ∙ (getD-drop b l 0 0 ∙ ap (λ (i : ℕ). getD l i 0) d))
-
--- The counts with a copy more for each node of a set.
-unfoldable pub oneMore : List ℕ → ℕ → ℕ → ℕ
-oneMore counts nodes b = getD counts b 0 + bit nodes b
-
--- A turn of the walk over the nodes: node b has one copy more where it is in the set.
-pub count-turn : (l counts : List ℕ) (nodes b met : ℕ) → b < length l → counts ≡ tab (oneMore l nodes) b ++ drop b l
-    → met ≡ getD counts b 0 + bit nodes b → set counts b met ≡ tab (oneMore l nodes) (b + 1) ++ drop (b + 1) l
-unfolding oneMore
-count-turn l counts nodes b met h e m =
-    ap₂ (λ (r : List ℕ) (v : ℕ). set r b v) e
-    (m ∙ ap (λ (v : ℕ). v + bit nodes b) (ap (λ (r : List ℕ). getD r b 0) e ∙ unwritten (oneMore l nodes) b l))
-    ∙ tab-more (oneMore l nodes) b l h
-
-module _ (t : Topology) (cells : List ℕ) where
-  -- Before the first row no node has a copy.
-  pub so-far-none : replicate mostNodes 0 ≡ copiesSoFar t cells 0
-  unfolding copiesSoFar rowsIn tab copiesIn
-  so-far-none = refl
-
-  -- There is a count for each node that there can be.
-  pub length-so-far : (p : ℕ) → length (copiesSoFar t cells p) ≡ mostNodes
-  unfolding copiesSoFar
-  length-so-far p = length-tab (λ b. copiesIn (rowsIn p cells) (nodeAt t b .id)) mostNodes
-
-  -- The count of node b.
-  pub so-far-cell : (p b : ℕ) → b < mostNodes → getD (copiesSoFar t cells p) b 0 ≡ copiesIn (rowsIn p cells) (nodeAt t b .id)
-  unfolding copiesSoFar
-  so-far-cell p b h = getD-tab (λ x. copiesIn (rowsIn p cells) (nodeAt t x .id)) mostNodes b 0 h
-
-  -- It is at most the number of rows.
-  pub so-far-few : (p b : ℕ) → b < mostNodes → getD (copiesSoFar t cells p) b 0 ≤ p
-  so-far-few p b h = omega (arith, so-far-cell p b h, copies-few (rowsIn p cells) (nodeAt t b .id), length-rowsIn p cells)
-
-  -- After each row the counts are, for every node, the copies in the rows so far.
-  pub so-far-next : (p : ℕ) → tab (oneMore (copiesSoFar t cells p) (rowNodes t cells p)) mostNodes ≡ copiesSoFar t cells (p + 1)
-  so-far-next p =
-      unfold copiesSoFar in
-      tab-cong (oneMore (copiesSoFar t cells p) (rowNodes t cells p)) (λ b. copiesIn (rowsIn (p + 1) cells) (nodeAt t b .id)) mostNodes
-      (λ b h. unfold oneMore in
-      (ap₂ _+_ (so-far-cell p b h) (bit-nodes t cells p b) ∙ sym (copies-more cells p (nodeAt t b .id))))
-
-  -- The end of the walk over the nodes: all counts have the row added.
-  pub count-end : (p : ℕ) (l : List ℕ) (nodes b : ℕ) → l ≡ copiesSoFar t cells p → nodes ≡ rowNodes t cells p → b ≡ mostNodes
-      → tab (oneMore l nodes) b ++ drop b l ≡ copiesSoFar t cells (p + 1)
-  count-end p l nodes b e n h =
-      let d : b ≡ length l = omega (arith, ap length e, length-so-far p) in
-      ap₂ _++_ (ap (tab (oneMore l nodes)) h ∙ ap₂ (λ (r : List ℕ) (m : ℕ). tab (oneMore r m) mostNodes) e n)
-      (ap (λ (i : ℕ). drop i l) d ∙ drop-length l)
-      ∙ (append-nil (tab (oneMore (copiesSoFar t cells p) (rowNodes t cells p)) mostNodes) ∙ so-far-next p)
+-- None is left: the counts are those of one row more.
+pub all-met : (t : Topology) (cells counts₀ counts : List ℕ) (p nodes left : ℕ) → counts₀ ≡ countsAfter t cells p → nodes ≡ rowNodes t cells p
+    → length counts ≡ mostNodes → left ≡ 0 → ((b : ℕ) → b < mostNodes → comesTo counts left b ≡ comesTo counts₀ nodes b)
+    → counts ≡ countsAfter t cells (p + 1)
+unfolding comesTo
+all-met t cells counts₀ counts p nodes left before row long none same =
+    row-counted t cells p counts long
+    (λ b h. let e : getD counts b 0 ≡ getD counts₀ b 0 + bit nodes b = omega (arith, same b h, ap (λ (x : ℕ). bit x b) none, bit-zero b) in
+    e ∙ ap₂ _+_ (ap (λ (l : List ℕ). getD l b 0) before) (ap (λ (x : ℕ). bit x b) row ∙ bit-nodes t cells p b))

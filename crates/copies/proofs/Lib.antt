@@ -1,2 +1,3 @@
 pub mod CopyWalk
+pub mod Counted
 pub mod RowNodes

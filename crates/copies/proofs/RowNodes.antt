@@ -1,6 +1,6 @@
 -- The set of the nodes of a row.
 -- Assumes nothing.
-use Prim.Native.Nat.{ℕ, zero, suc}
+use Prim.Native.Nat.{ℕ, zero, suc, _≤_}
 use mathlib.Core.Path.{_≡_, refl, sym, ap, _∙_}
 use mathlib.Core.Bool.{Bool, false, _||_}
 use mathlib.Core.List.{List, [], _∷_}
@@ -32,12 +32,15 @@ module _ (t : Topology) (cells : List ℕ) (p : ℕ) where
   abbrev named : ℕ → Bool
   named b = mem (nodeAt t b .id) (idsIn (rowAt cells p))
 
+  -- It names no slot that is not in use.
+  pub unused-unnamed : (b : ℕ) → length (t .nodes) ≤ b → named b ≡ false
+  unused-unnamed b h = ap (λ (n : Node). mem (n .id) (idsIn (rowAt cells p))) (List·getD-eq-default (t .nodes) noNode h) ∙ zero-unnamed (rowAt cells p)
+
   -- The digits of the set of the nodes of a row.
   pub bit-nodes : (b : ℕ) → bit (rowNodes t cells p) b ≡ one-if (named b)
   unfolding rowNodes one-if
   bit-nodes b =
       ⊎-elim
       (λ h. bit-maskOf (bitsOf (t .nodes) (idsIn (rowAt cells p))) (length (t .nodes)) b h (one-if-le (named b)))
-      (λ h. bit-mask-high (bitsOf (t .nodes) (idsIn (rowAt cells p))) (length (t .nodes)) b h
-      ∙ ap one-if (sym (ap (λ (n : Node). mem (n .id) (idsIn (rowAt cells p))) (List·getD-eq-default (t .nodes) noNode h) ∙ zero-unnamed (rowAt cells p))))
+      (λ h. bit-mask-high (bitsOf (t .nodes) (idsIn (rowAt cells p))) (length (t .nodes)) b h ∙ ap one-if (sym (unused-unnamed b h)))
       (lt-or-ge b (length (t .nodes)))

@@ -1,1 +1,2 @@
+pub mod TermsCounts
 pub mod ModelCopies

@@ -1,33 +1,30 @@
 -- The turns of the walks that make the figures, over plain lists and numbers, and what the figures are made of.
 -- Assumes nothing.
 use Prim.Native.Nat.{ℕ, zero, suc, _+_, _*_, _≤_, _<_}
-use mathlib.Core.Path.{_≡_, refl, sym, ap, ap₂, _∙_}
+use mathlib.Core.Path.{_≡_, sym, ap, ap₂, _∙_}
 use mathlib.Core.Bool.{Bool, cond}
 use mathlib.Core.List.{List, [], _∷_, _++_, append-assoc, append-nil}
-use mathlib.Core.Logic.{⊎-elim}
-use native.Mathlib.Numerals.{add-one}
 use native.Mathlib.Omega.{arith}
 use lib.Dec.{ltb, eqb}
-use lib.ListN.{length, take, drop, getD, set, length-append, length-drop, take-append-drop, List·getD-eq-default}
+use lib.ListN.{length, take, drop, getD, set, length-append, length-drop, take-append-drop}
 use lib.Seq.{length-take-le, take-at, drop-cons, drop-append-add, drop-drop, set-at}
 use borrow.Author.Tests.{lt-ltb, le-ltb, eq-eqb, ne-eqb}
-use Rattle.sums.specs.TermsSums.{sumTo, one-if, tab}
+use Rattle.sums.specs.TermsSums.{sumTo, tab}
 use Rattle.sums.specs.ModelSums.{is}
-use Rattle.sums.proofs.Sum.{is-times, not-times, lt-or-ge, sum-cong}
+use Rattle.sums.proofs.Sum.{is-times, not-times, sum-cong}
 use Rattle.cells.specs.ModelCells.{put}
 use Rattle.cells.proofs.Cells.{length-tab, put-cong}
-use Rattle.cluster.specs.Terms.{mostNodes, Topology, topology, partitions, noNode, nodeAt, copiesIn, rowAt, rowsIn}
+use Rattle.cluster.specs.Terms.{mostNodes, Topology, topology, partitions, noNode, nodeAt, copiesIn, rowsIn}
 use Rattle.cluster.specs.TermsReading.{figureCells}
 use Rattle.cluster.specs.declared.Cluster.{Cluster}
 use Rattle.cluster.specs.declared.Node.{Node}
 use Rattle.cluster.proofs.Slots.{node-slot}
-use Rattle.copies.specs.ModelCopies.{copiesSoFar}
-use Rattle.copies.proofs.RowNodes.{zero-unnamed}
-use Rattle.copies.proofs.CopyWalk.{copies-more, so-far-cell}
+use Rattle.copies.specs.TermsCounts.{nodeCopies, countsAfter}
+use Rattle.copies.proofs.Counted.{counted, counted-used}
 use Rattle.layouts.specs.declared.check.Checked.{Checked}
 use Rattle.layouts.specs.TermsCheck.{fault, checkOf}
 use Rattle.figures.specs.declared.Figured.{Figured}
-use Rattle.figures.specs.TermsFigures.{nodeCopies, zoneCopies, figuresMade, hopeOf, figuresFault, figuresOf, figuresIn}
+use Rattle.figures.specs.TermsFigures.{zoneCopies, figuresMade, hopeOf, figuresFault, figuresOf, figuresIn}
 use Rattle.figures.specs.ModelZones.{zoneSum}
 
 -- Numbers put from a place on stand between what was before and what comes after.
@@ -93,35 +90,17 @@ module _ (t : Topology) (counts : List ℕ) (b : ℕ) where
 -- ---- the figures
 
 module _ (t : Topology) (cells : List ℕ) (p : ℕ) where
-  -- No row names a slot that is not in use.
-  unused-none : (q : ℕ) → copiesIn (rowsIn q cells) 0 ≡ 0
-  unfolding copiesIn rowsIn tab one-if
-  unused-none zero = refl
-  unused-none (suc q) =
-      ap (λ (n : ℕ). copiesIn (rowsIn n cells) 0) (sym (add-one q))
-      ∙ (copies-more cells q 0 ∙ ap₂ (λ (n : ℕ) (m : Bool). n + one-if m) (unused-none q) (zero-unnamed (rowAt cells q)))
-
-  -- The counts are the copies of the nodes in use, then zeros.
-  pub node-figure : (b : ℕ) → b < mostNodes → getD (copiesSoFar t cells p) b 0 ≡ nodeCopies t (rowsIn p cells) b
-  unfolding nodeCopies
-  node-figure b h =
-      so-far-cell t cells p b h
-      ∙ ⊎-elim (λ l. sym (ap (λ (m : Bool). cond m (copiesIn (rowsIn p cells) (nodeAt t b .id)) 0) (lt-ltb b (length (t .nodes)) l)))
-      (λ l. ap (λ (n : Node). copiesIn (rowsIn p cells) (n .id)) (List·getD-eq-default (t .nodes) noNode l)
-      ∙ (unused-none p ∙ sym (ap (λ (m : Bool). cond m (copiesIn (rowsIn p cells) (nodeAt t b .id)) 0) (le-ltb b (length (t .nodes)) l))))
-      (lt-or-ge b (length (t .nodes)))
-
   -- The sums of the counts are the copies of the zones.
-  pub zone-figure : length (t .nodes) ≤ mostNodes → (b : ℕ) → zoneSum t (copiesSoFar t cells p) b ≡ zoneCopies t (rowsIn p cells) b
+  pub zone-figure : length (t .nodes) ≤ mostNodes → (b : ℕ) → zoneSum t (countsAfter t cells p) b ≡ zoneCopies t (rowsIn p cells) b
   unfolding zoneSum zoneCopies is
   zone-figure few b =
       ap (λ (n : ℕ). cond (ltb b (length (t .nodes))) n 0)
-      (sum-cong (length (t .nodes)) (λ x. is (nodeAt t x .zone) (nodeAt t b .zone) * getD (copiesSoFar t cells p) x 0)
+      (sum-cong (length (t .nodes)) (λ x. is (nodeAt t x .zone) (nodeAt t b .zone) * getD (countsAfter t cells p) x 0)
       (λ x. is (nodeAt t x .zone) (nodeAt t b .zone) * copiesIn (rowsIn p cells) (nodeAt t x .id))
-      (λ x l. ap (λ (n : ℕ). is (nodeAt t x .zone) (nodeAt t b .zone) * n) (so-far-cell t cells p x (omega arith))))
+      (λ x l. ap (λ (n : ℕ). is (nodeAt t x .zone) (nodeAt t b .zone) * n) (counted-used t cells p x (omega arith) l)))
 
   -- All 64 cells.
-  pub all-figures : length (t .nodes) ≤ mostNodes → (counts l : List ℕ) → figureCells ≤ length l → counts ≡ copiesSoFar t cells p
+  pub all-figures : length (t .nodes) ≤ mostNodes → (counts l : List ℕ) → figureCells ≤ length l → counts ≡ countsAfter t cells p
       → put mostNodes (zoneSum t counts) mostNodes (put 0 (λ b. getD counts b 0) mostNodes l)
       ≡ figuresMade t (rowsIn p cells) l
   all-figures few counts l long e =
@@ -129,7 +108,7 @@ module _ (t : Topology) (cells : List ℕ) (p : ℕ) where
       (λ b h. ap (λ (k : List ℕ). zoneSum t k b) e ∙ zone-figure few b)
       ∙ (ap (put mostNodes (zoneCopies t (rowsIn p cells)) mostNodes)
       (put-cong 0 (λ b. getD counts b 0) (nodeCopies t (rowsIn p cells)) mostNodes l
-      (λ b h. ap (λ (k : List ℕ). getD k b 0) e ∙ node-figure b h))
+      (λ b h. ap (λ (k : List ℕ). getD k b 0) e ∙ counted t cells p b h))
       ∙ put-both (nodeCopies t (rowsIn p cells)) (zoneCopies t (rowsIn p cells)) l long)
 
 -- ---- the answer

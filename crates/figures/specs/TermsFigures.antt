@@ -9,13 +9,10 @@ use mathlib.Core.Bool.{cond}
 use Rattle.cluster.specs.Terms.{mostNodes, Topology, topology, partitions, nodeAt, Layout, copiesIn, usable, rowsIn}
 use Rattle.cluster.specs.TermsReading.{figureCells}
 use Rattle.cluster.specs.declared.Cluster.{Cluster}
+use Rattle.copies.specs.TermsCounts.{nodeCopies}
 use Rattle.layouts.specs.declared.check.Checked.{Checked}
 use Rattle.layouts.specs.TermsCheck.{fault, checkOf}
 use Rattle.figures.specs.declared.Figured.{Figured}
-
--- "copies held per box in id order"; "unused cells 0"
-unfoldable pub nodeCopies : Topology → Layout → ℕ → ℕ
-nodeCopies t L b = cond (ltb b (length (t .nodes))) (copiesIn L (nodeAt t b .id)) 0
 
 -- "copies in that box's zone": the copies of all nodes of the same zone; "unused cells 0"
 unfoldable pub zoneCopies : Topology → Layout → ℕ → ℕ

@@ -6,14 +6,15 @@ use mathlib.Core.Bool.{Bool, cond}
 use mathlib.Core.List.{List}
 use native.Mathlib.Numerals.{add-one}
 use native.Mathlib.Omega.{arith}
-use lib.ListN.{getD}
+use lib.ListN.{length, getD}
 use borrow.Author.Tests.{eq-eqb, ne-eqb}
 use Rattle.cluster.specs.Terms.{takes, mostNodes, topology, noNode, rowsIn}
 use Rattle.cluster.specs.declared.Cluster.{Cluster}
 use Rattle.cluster.specs.declared.Node.{Node}
 use Rattle.cluster.proofs.Slots.{node-slot}
-use Rattle.copies.specs.ModelCopies.{copiesSoFar}
-use Rattle.copies.proofs.CopyWalk.{so-far-cell}
+use Rattle.cluster.proofs.Accepting.{nodes-count}
+use Rattle.copies.specs.TermsCounts.{countsAfter}
+use Rattle.copies.proofs.Counted.{counted-used}
 use Rattle.layouts.specs.declared.check.Checked.{Checked}
 use Rattle.layouts.specs.TermsCheck.{fault, firstFault, nodeFault}
 
@@ -42,8 +43,9 @@ module _ (n i : ℕ) (f : ℕ → Checked) where
 -- ---- the fault of a node
 
 -- It is read in the slot of node b and in the counts.
-pub node-reads : (c : Cluster) (cells : List ℕ) (p size b : ℕ) → b < c .count → b < mostNodes
-    → nodeFault (topology c) (rowsIn p cells) size b ≡ cond (takes (getD (c .nodes) b noNode) (getD (copiesSoFar (topology c) cells p) b 0) size) 0 12
+pub node-reads : (c : Cluster) (cells : List ℕ) (p size b : ℕ) → length (c .nodes) ≡ mostNodes → c .count ≤ mostNodes → b < c .count
+    → nodeFault (topology c) (rowsIn p cells) size b ≡ cond (takes (getD (c .nodes) b noNode) (getD (countsAfter (topology c) cells p) b 0) size) 0 12
 unfolding nodeFault
-node-reads c cells p size b used few =
-    ap₂ (λ (n : Node) (k : ℕ). cond (takes n k size) 0 12) (node-slot c b used) (sym (so-far-cell (topology c) cells p b few))
+node-reads c cells p size b slots few used =
+    ap₂ (λ (n : Node) (k : ℕ). cond (takes n k size) 0 12) (node-slot c b used)
+    (sym (counted-used (topology c) cells p b (omega arith) (omega (arith, nodes-count c slots few))))

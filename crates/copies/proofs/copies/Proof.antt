@@ -1,19 +1,19 @@
--- `copies::copies` meets its contract. The loop's invariant: the counts are, for every node, the copies in the rows so far.
+-- `copies::copies` meets its contract. The loop's invariant: the counts are those after the rows so far.
 -- Assumes nothing.
 use borrow.Author.Needs.{needs}
 use native.Mathlib.Omega.{arith}
 use Prim.Native.Nat.{_≤_, _-_}
-use mathlib.Core.Path.{_≡_, sym, ap, _∙_}
+use mathlib.Core.Path.{_≡_, refl, sym, ap, _∙_}
 use lib.ListN.{length}
 use Rattle.cluster.specs.Terms.{bufferRows, topology, partitions}
-use Rattle.copies.specs.ModelCopies.{copiesSoFar}
+use Rattle.copies.specs.TermsCounts.{countsAfter}
 use Rattle.cluster.proofs.Accepting.{partitions-in-range, accepted}
-use Rattle.copies.proofs.CopyWalk.{length-so-far, so-far-none}
+use Rattle.copies.proofs.Counted.{length-counts}
 use Rattle.copies.proofs.copies.Statement.{statement}
 use Rattle.copies.proofs.copies.Tie as tie
 
 abbrev Inv-loop : tie.InvT-loop
-Inv-loop c cells partitions counts₀ p₀ counts p = (p ≤ partitions) × (partitions ≤ bufferRows) × (counts ≡ copiesSoFar (topology c) cells p)
+Inv-loop c cells partitions counts₀ p₀ counts p = (p ≤ partitions) × (partitions ≤ bufferRows) × (counts ≡ countsAfter (topology c) cells p)
 
 abbrev μ-loop : tie.MeasureT-loop
 μ-loop c cells partitions counts₀ p₀ counts p = partitions - p
@@ -27,17 +27,18 @@ rows c = let s = c .before .before in
     c .partitions .ensures .0 ∙ partitions-in-range (s .args .c .bits) (accepted (s .args .c) (s .pre .0) .bits)
 
 loop-holds : tie.Need-loop-holds Inv-loop μ-loop
-loop-holds c = (search needs, search needs, so-far-none (topology (c .before .before .args .c)) (c .before .before .args .cells .now))
+unfolding countsAfter
+loop-holds c = (search needs, search needs, refl)
 
 slice-aggregate-count-row : tie.Need-slice-aggregate-count-row Inv-loop μ-loop
 slice-aggregate-count-row c = let k = c .before .before in
     let a = k .before .before .before .args in
-    sym (ap length (k .loop .inv .2) ∙ length-so-far (topology (a .c)) (a .cells .now) (k .loop .p))
+    sym (ap length (k .loop .inv .2) ∙ length-counts (topology (a .c)) (a .cells .now) (k .loop .p))
 
 count-row-requires : tie.Need-count-row-requires Inv-loop μ-loop
 count-row-requires c κs = let k = c .before .before in
     let s = k .before .before .before in
-    (s .pre .0, search needs, s .pre .1, s .pre .2 (k .loop .p) (omega (arith, rows (k .before))), k .loop .inv .2)
+    (s .pre .0, search needs, s .pre .1, k .loop .inv .2, s .pre .2 (k .loop .p) (omega (arith, rows (k .before))))
 
 add-p : tie.Need-add-p Inv-loop μ-loop
 add-p c = search needs
@@ -52,7 +53,7 @@ returns : tie.Need-returns Inv-loop μ-loop
 returns c = let k = c .before in
     let s = k .before .before .before in
     let e : k .loop .p ≡ partitions (topology (s .args .c)) = omega (arith, rows (k .before)) in
-    k .loop .inv .2 ∙ ap (copiesSoFar (topology (s .args .c)) (s .args .cells .now)) e
+    k .loop .inv .2 ∙ ap (countsAfter (topology (s .args .c)) (s .args .cells .now)) e
 
 pub copies-spec : {M : Type 1} → statement M
 copies-spec =

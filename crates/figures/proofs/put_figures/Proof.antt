@@ -10,7 +10,7 @@ use Rattle.cells.specs.ModelCells.{put}
 use Rattle.cells.proofs.Cells.{length-put}
 use Rattle.cluster.specs.Terms.{mostNodes, topology, partitions}
 use Rattle.cluster.proofs.Accepting.{few-partitions, accepted, few-nodes}
-use Rattle.copies.proofs.CopyWalk.{so-far-few}
+use Rattle.copies.proofs.Counted.{counted-few}
 use Rattle.layouts.proofs.FaultMeaning.{each-formed}
 use Rattle.figures.specs.ModelZones.{zoneSum}
 use Rattle.figures.proofs.FigureWalk.{all-figures}
@@ -32,7 +32,7 @@ put-zones-requires c κs = let k = c .before .before .before .before .before in
       λ x l. omega (
         arith,
         ap (λ (r : List ℕ). getD r x 0) (k .copies .ensures),
-        so-far-few t (s .args .assignment .now) (partitions t) x l,
+        counted-few t (s .args .assignment .now) (partitions t) x l,
         few-partitions (t .bits) (accepted (s .args .c) (s .pre .0) .bits),
       ),
       omega

@@ -38,8 +38,9 @@ told : (c : tie.After-takes Inv-loop μ-loop) → let k = c .before .before .bef
     let a = k .before .before .before .args in
     nodeFault (topology (a .t1)) (rowsIn (partitions (topology (a .t1))) (a .cells .now)) (a .size) (k .loop .b) ≡ cond (c .takes .result) 0 12
 told c = let k = c .before .before .before in
-    let a = k .before .before .before .args in
-    node-reads (a .t1) (a .cells .now) (partitions (topology (a .t1))) (a .size) (k .loop .b) (search needs) (omega arith)
+    let s = k .before .before .before in
+    let a = s .args in
+    node-reads (a .t1) (a .cells .now) (partitions (topology (a .t1))) (a .size) (k .loop .b) (long s) (few-nodes (a .t1) (s .pre .0)) (search needs)
     ∙ ap (λ (t : Bool). cond t 0 12)
     (ap (λ (l : List ℕ). takes (getD (a .t1 .nodes) (k .loop .b) noNode) (getD l (k .loop .b) 0) (a .size)) (sym (k .before .copies .ensures)) ∙ sym (c .takes .ensures))
 
