@@ -16,7 +16,7 @@ use Rattle.cluster.specs.Terms.{mostNodes, Topology, nodeAt, mem, Layout, copie
 use Rattle.cluster.proofs.Taking.{copies-few}
 use Rattle.cell_rows.proofs.CellLayouts.{length-rowsIn}
 use Rattle.copies.specs.TermsCounts.{nodeCopies, countRow, countsAfter, CountedSoFar}
-use Rattle.copies.proofs.RowNodes.{unused-unnamed}
+use Rattle.copies.proofs.RowNodes.{named, unused-unnamed}
 
 -- One row more at the end.
 copies-append : (L : Layout) (r : List ℕ) (i : ℕ) → copiesIn (L ++ (r ∷ [])) i ≡ copiesIn L i + one-if (mem i r)
@@ -35,6 +35,11 @@ module _ (t : Topology) where
   unfolding nodeCopies
   copies-unused L b h = ap (λ (u : Bool). cond u (copiesIn L (nodeAt t b .id)) 0) (le-ltb b (length (t .nodes)) h)
 
+  -- The counts of one row more.
+  row-more : (r counts : List ℕ) (b : ℕ) → b < mostNodes → getD (countRow t r counts) b 0 ≡ getD counts b 0 + one-if (mem (nodeAt t b .id) r)
+  unfolding countRow
+  row-more r counts b h = getD-tab (λ x. getD counts x 0 + one-if (mem (nodeAt t x .id) r)) mostNodes b 0 h
+
   module _ (cells : List ℕ) where
     -- In no row there are none.
     copies-none : (b : ℕ) → nodeCopies t (rowsIn 0 cells) b ≡ 0
@@ -42,11 +47,11 @@ module _ (t : Topology) where
     copies-none b = ⊎-elim (copies-used [] b) (copies-unused [] b) (lt-or-ge b (length (t .nodes)))
 
     -- The copies in one row more.
-    copies-more : (p b : ℕ) → nodeCopies t (rowsIn p cells) b + one-if (mem (nodeAt t b .id) (idsIn (rowAt cells p))) ≡ nodeCopies t (rowsIn (suc p) cells) b
+    copies-more : (p b : ℕ) → nodeCopies t (rowsIn p cells) b + one-if (named t cells p b) ≡ nodeCopies t (rowsIn (suc p) cells) b
     unfolding rowsIn tab one-if
     copies-more p b =
         ⊎-elim
-        (λ h. ap (λ (n : ℕ). n + one-if (mem (nodeAt t b .id) (idsIn (rowAt cells p)))) (copies-used (rowsIn p cells) b h)
+        (λ h. ap (λ (n : ℕ). n + one-if (named t cells p b)) (copies-used (rowsIn p cells) b h)
         ∙ (sym (copies-append (rowsIn p cells) (idsIn (rowAt cells p)) (nodeAt t b .id)) ∙ sym (copies-used (rowsIn (suc p) cells) b h)))
         (λ h. ap₂ (λ (n : ℕ) (m : Bool). n + one-if m) (copies-unused (rowsIn p cells) b h) (unused-unnamed t cells p b h)
         ∙ sym (copies-unused (rowsIn (suc p) cells) b h))
@@ -54,21 +59,22 @@ module _ (t : Topology) where
 
     -- After each row the counts are, for every node, the copies in the rows so far.
     pub counted : CountedSoFar t cells
-    unfolding countsAfter countRow
+    unfolding countsAfter
     counted zero b h = getD-replicate {A = ℕ} mostNodes b 0 0 h ∙ sym (copies-none b)
     counted (suc p) b h =
-        getD-tab (λ x. getD (countsAfter t cells p) x 0 + one-if (mem (nodeAt t x .id) (idsIn (rowAt cells p)))) mostNodes b 0 h
-        ∙ (ap (λ (n : ℕ). n + one-if (mem (nodeAt t b .id) (idsIn (rowAt cells p)))) (counted p b h) ∙ copies-more p b)
+        let e : getD (countsAfter t cells (suc p)) b 0 ≡ getD (countsAfter t cells p) b 0 + one-if (named t cells p b) =
+        row-more (idsIn (rowAt cells p)) (countsAfter t cells p) b h
+        in e ∙ (ap (λ (n : ℕ). n + one-if (named t cells p b)) (counted p b h) ∙ copies-more p b)
 
     -- Counts that have one copy more for each node of row p than the counts before it are those after it.
     pub row-counted : (p : ℕ) (counts : List ℕ) → length counts ≡ mostNodes
-        → ((b : ℕ) → b < mostNodes → getD counts b 0 ≡ getD (countsAfter t cells p) b 0 + one-if (mem (nodeAt t b .id) (idsIn (rowAt cells p))))
+        → ((b : ℕ) → b < mostNodes → getD counts b 0 ≡ getD (countsAfter t cells p) b 0 + one-if (named t cells p b))
         → counts ≡ countsAfter t cells (p + 1)
     unfolding countsAfter countRow
     row-counted p counts long more =
         sym (tab-getD counts 0)
         ∙ (ap (tab (λ b. getD counts b 0)) long
-        ∙ (tab-cong (λ b. getD counts b 0) (λ b. getD (countsAfter t cells p) b 0 + one-if (mem (nodeAt t b .id) (idsIn (rowAt cells p)))) mostNodes more
+        ∙ (tab-cong (λ b. getD counts b 0) (λ b. getD (countsAfter t cells p) b 0 + one-if (named t cells p b)) mostNodes more
         ∙ ap (countsAfter t cells) (sym (add-one p))))
 
     -- The count of a node in use.
@@ -87,4 +93,4 @@ module _ (t : Topology) where
     pub length-counts : (p : ℕ) → length (countsAfter t cells p) ≡ mostNodes
     unfolding countsAfter countRow
     length-counts zero = length-replicate {A = ℕ} mostNodes 0
-    length-counts (suc p) = length-tab (λ b. getD (countsAfter t cells p) b 0 + one-if (mem (nodeAt t b .id) (idsIn (rowAt cells p)))) mostNodes
+    length-counts (suc p) = length-tab (λ b. getD (countsAfter t cells p) b 0 + one-if (named t cells p b)) mostNodes

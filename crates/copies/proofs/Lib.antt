@@ -1,3 +1,4 @@
 pub mod CopyWalk
 pub mod Counted
+pub mod FourRows
 pub mod RowNodes

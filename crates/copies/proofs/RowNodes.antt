@@ -29,7 +29,7 @@ zero-unnamed (suc x ∷ xs) =
 
 module _ (t : Topology) (cells : List ℕ) (p : ℕ) where
   -- Whether row p names node b, also of a slot that is not in use.
-  abbrev named : ℕ → Bool
+  abbrev pub named : ℕ → Bool
   named b = mem (nodeAt t b .id) (idsIn (rowAt cells p))
 
   -- It names no slot that is not in use.
