@@ -114,6 +114,69 @@ fn soak_cells() {
     try_cells(soak_seed(32), 8000 * soak_factor());
 }
 
+/// A cluster of up to 32 large nodes, and rows of different nodes for the most partitions.
+fn drawn_rows(r: &mut Random) -> (Cluster, Layout) {
+    let number = r.between(1, 32);
+    let replication = r.between(1, number.min(8)) as usize;
+    let mut id = 0;
+    let node = |_| {
+        id += r.between(1, 3) as u32;
+        Node {
+            id,
+            zone: r.below(4) as u16,
+            capacity: u32::MAX,
+            ceiling: Node::NO_CEILING,
+        }
+    };
+    let nodes: Vec<Node> = (0..number).map(node).collect();
+    let row = |_| {
+        let mut left: Vec<u32> = nodes.iter().map(|node| node.id).collect();
+        let mut drawn = || left.remove(r.below(left.len() as u64) as usize);
+        let mut row: Vec<u32> = (0..replication).map(|_| drawn()).collect();
+        row.sort_unstable();
+        row
+    };
+    let rows = (0..256).map(row).collect();
+    let c = Cluster {
+        bits: 8,
+        replication,
+        redundancy: 1,
+        nodes,
+    };
+    (c, rows)
+}
+
+/// The counts after 1, 2, 4 and on up to 256 rows are what the rows so far add, one after another; check
+/// refuses a ceiling below one of them.
+#[test]
+fn copies_are_those_of_the_rows_so_far() {
+    let mut r = Random::new(35);
+    for _ in 0..200 {
+        let (mut c, rows) = drawn_rows(&mut r);
+        let mut counts = [0; 32];
+        let mut met = 0;
+        for bits in 0..=8 {
+            c.bits = bits;
+            for id in rows[met..c.partitions()].iter().flatten() {
+                let slot = c.nodes.iter().position(|node| node.id == *id);
+                counts[slot.expect("a node of the cluster")] += 1;
+            }
+            met = c.partitions();
+            let cells = cells_of(&rows[..met].to_vec());
+            let record = cluster_record(&c, &vec![]);
+            let (figures, _) = lent::figures(&record, &cells, 1, &mut r).expect("it is valid");
+            assert_eq!(figures[..32], counts);
+            assert_eq!(agrees(&c, &cells, 1, &mut r), 0);
+
+            let mut low = c.clone();
+            let slot = r.below(c.nodes.len() as u64) as usize;
+            low.nodes[slot].ceiling = counts[slot].saturating_sub(1) as u16;
+            let expected = if counts[slot] == 0 { 0 } else { 12 };
+            assert_eq!(agrees(&low, &cells, 1, &mut r), expected);
+        }
+    }
+}
+
 #[test]
 fn copies_times_size_does_not_overflow() {
     let c = Cluster {

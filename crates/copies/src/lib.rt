@@ -8,7 +8,7 @@ ghost use Rattle.copies.specs.TermsCounts.{countsAfter};
 use cluster::Cluster;
 
 // One row of the walk: the nodes that row p names are met from the lowest on, and each has one copy more. Before it the counts are the copies in the rows
-// before p, after it those in the rows up to p.
+// before p, after it those in the rows up to p (`counted` in proofs/Counted.antt).
 fn count_row(c: Cluster, cells: &[u32], p: usize, counts: &mut [u32])
     requires { ⌜ (faultOf c ≡ 0) × (p < bufferRows) × (layoutCells ≤ length (now cells)) × (now counts ≡ countsAfter (topology c) (now cells) p) × (formed (rowAt (now cells) p) ≡ true) ⌝ }
     ensures { λ _. ⌜ now (counts .exit) ≡ countsAfter (topology c) (now (cells .entry)) (p + 1) ⌝ }
