@@ -148,10 +148,9 @@ fn drawn_rows(r: &mut Random) -> (Cluster, Layout) {
 
 /// The counts after 1, 2, 4 and on up to 256 rows are what the rows so far add, one after another; check
 /// refuses a ceiling below one of them.
-#[test]
-fn copies_are_those_of_the_rows_so_far() {
-    let mut r = Random::new(35);
-    for _ in 0..200 {
+fn try_rows(seed: u64, cases: u64) {
+    let mut r = Random::new(seed);
+    for _ in 0..cases {
         let (mut c, rows) = drawn_rows(&mut r);
         let mut counts = [0; 32];
         let mut met = 0;
@@ -175,6 +174,17 @@ fn copies_are_those_of_the_rows_so_far() {
             assert_eq!(agrees(&low, &cells, 1, &mut r), expected);
         }
     }
+}
+
+#[test]
+fn copies_are_those_of_the_rows_so_far() {
+    try_rows(35, 200);
+}
+
+#[test]
+#[ignore = "make soak"]
+fn soak_rows() {
+    try_rows(soak_seed(36), 200 * soak_factor());
 }
 
 #[test]
