@@ -26,7 +26,7 @@ copies-append (x ∷ xs) r i = omega (arith, copies-append xs r i)
 
 module _ (t : Topology) where
   -- The copies of a node in use.
-  pub copies-used : (L : Layout) (b : ℕ) → b < length (t .nodes) → nodeCopies t L b ≡ copiesIn L (nodeAt t b .id)
+  copies-used : (L : Layout) (b : ℕ) → b < length (t .nodes) → nodeCopies t L b ≡ copiesIn L (nodeAt t b .id)
   unfolding nodeCopies
   copies-used L b h = ap (λ (u : Bool). cond u (copiesIn L (nodeAt t b .id)) 0) (lt-ltb b (length (t .nodes)) h)
 

@@ -20,7 +20,7 @@ use Rattle.incidence.specs.ModelIncidence.{bitsOf}
 use Rattle.copies.specs.ModelCopies.{rowNodes}
 
 -- No row names the id 0.
-pub zero-unnamed : (l : List ℕ) → mem 0 (idsIn l) ≡ false
+zero-unnamed : (l : List ℕ) → mem 0 (idsIn l) ≡ false
 unfolding mem idsIn
 zero-unnamed [] = refl
 zero-unnamed (zero ∷ xs) = refl
