@@ -40,6 +40,14 @@ bufferRows = 2 ^ mostBits
 abbrev pub layoutCells : ℕ
 layoutCells = bufferRows * rowCells
 
+-- 2026-07: "former rows here have sixteen cells"
+abbrev pub wideRowCells : ℕ
+wideRowCells = 16
+
+-- "4,096 in all"
+abbrev pub wideCells : ℕ
+wideCells = bufferRows * wideRowCells
+
 -- "Scratch takes 16,384 cells of 32 bits."
 abbrev pub scratchCells : ℕ
 scratchCells = 16384
@@ -171,9 +179,13 @@ distance t L F = sumTo (partitions t) (λ p. onlyIn (row L p) (row F p) + onlyIn
 unfoldable pub cellsOf : Layout → List ℕ
 cellsOf L = tab (λ c. getD (row L (c / rowCells)) (c % rowCells) 0) layoutCells
 
+-- The cells of row p, where each row has w.
+abbrev pub rowOf : ℕ → List ℕ → ℕ → List ℕ
+rowOf w cells p = take w (drop (p * w) cells)
+
 -- The eight cells of row p.
 abbrev pub rowAt : List ℕ → ℕ → List ℕ
-rowAt cells p = take rowCells (drop (p * rowCells) cells)
+rowAt cells p = rowOf rowCells cells p
 
 -- The ids of a row of cells: those before the first 0.
 unfoldable pub idsIn : List ℕ → List ℕ

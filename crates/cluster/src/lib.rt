@@ -90,6 +90,10 @@ impl Cluster {
     pub const PARTITIONS: usize = 1 << Cluster::BITS;
     // The cells of a lent layout.
     pub const CELLS: usize = Cluster::PARTITIONS * Cluster::ROW;
+    // The cells of a row in a lent buffer that holds what nodes hold between two layouts.
+    pub const WIDE_ROW: usize = 16;
+    // The cells of such a buffer.
+    pub const WIDE_CELLS: usize = Cluster::PARTITIONS * Cluster::WIDE_ROW;
     // The cells of the lent scratch.
     pub const SCRATCH: usize = 16384;
     // The cells of the lent figures: two for each node.
