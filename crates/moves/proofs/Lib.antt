@@ -1,2 +1,4 @@
 pub mod Missing
 pub mod RowStep
+pub mod Interrupted
+pub mod Sends
