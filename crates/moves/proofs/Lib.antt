@@ -4,3 +4,4 @@ pub mod Interrupted
 pub mod Sends
 pub mod WideRows
 pub mod Promises
+pub mod Examples
