@@ -1,4 +1,3 @@
 pub mod Answered
 pub mod Entered
 pub mod NodePuts
-pub mod Puts

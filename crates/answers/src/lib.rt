@@ -26,26 +26,14 @@ pub fn low(x: u64) -> u32
     (x % 4294967296) as u32
 }
 
-// Numbers go into the cells from `at` on.
-pub fn put(numbers: &[u32], at: usize, cells: &mut [u32])
-    requires { ⌜ at + length (now numbers) ≤ length (now cells) ⌝ }
-    ensures { λ _. ⌜ now (cells .exit) ≡ take at (now (cells .entry)) ++ now (numbers .entry) ++ drop (at + length (now (numbers .entry))) (now (cells .entry)) ⌝ }
-{
-    let mut i = 0;
-    while i < numbers.len() {
-        cells[at + i] = numbers[i];
-        i += 1;
-    }
-}
-
 // A number of 64 bits goes into the first two cells, numbers into those after them.
 pub fn put_after(x: u64, numbers: &[u32], cells: &mut [u32])
     requires { ⌜ 2 + length (now numbers) ≤ length (now cells) ⌝ }
     ensures { λ _. ⌜ now (cells .exit) ≡ halves x ++ now (numbers .entry) ++ drop (2 + length (now (numbers .entry))) (now (cells .entry)) ⌝ }
 {
-    put(numbers, 2, cells);
+    cells::put(numbers, 2, cells);
     let first = [high(x), low(x)];
-    put(&first, 0, cells);
+    cells::put(&first, 0, cells);
 }
 
 // The slots of a cluster go into the cells from `at` on.
@@ -62,7 +50,7 @@ pub fn put_nodes(c: Cluster, at: usize, cells: &mut [u32])
             node.capacity,
             node.ceiling as u32,
         ];
-        put(&numbers, at + NODE * b, cells);
+        cells::put(&numbers, at + NODE * b, cells);
         b += 1;
     }
 }

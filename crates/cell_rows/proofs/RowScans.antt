@@ -10,9 +10,9 @@ use lib.Dec.{ltb, leb, eqb}
 use lib.ListN.{length, take, drop, getD}
 use borrow.Author.Tests.{eq-eqb, ne-eqb, lt-ltb, le-ltb, le-leb, lt-leb}
 use Rattle.cells.proofs.Cells.{rest-cons}
-use Rattle.cluster.specs.Terms.{rowCells, bufferRows, layoutCells, rowAt, idsIn, blank, formedFrom, formed}
+use Rattle.cluster.specs.Terms.{rowCells, bufferRows, layoutCells, wideRowCells, rowAt, idsIn, blank, formedFrom, formed}
 use Rattle.cell_rows.specs.ModelRows.{HoldsRows, illFormed, hasRow, idCount, rowIds}
-use Rattle.cell_rows.proofs.CellRows.{blank-ids, blank-formed}
+use Rattle.cell_rows.proofs.CellRows.{blank-ids, blank-formed, ids-length}
 
 -- What the scan of a row answers that has passed `count` ids, `last` the last of them, and has l before it.
 unfoldable pub scan : ℕ → ℕ → List ℕ → ℕ
@@ -27,12 +27,9 @@ unfoldable pub onward : ℕ → ℕ → List ℕ → ℕ
 onward last count l = cond (eqb last noMore) (cond (blank l) count illFormed) (scan last count l)
 
 -- A row is asked by scanning it from its start.
-pub onward-start : (l : List ℕ) (a : ℕ) → idCount (take rowCells (drop a l)) ≡ onward 0 0 (take (a + rowCells - a) (drop a l))
+pub onward-start : (l : List ℕ) → idCount l ≡ onward 0 0 l
 unfolding onward scan idCount
-onward-start l a =
-    let d : rowCells ≡ a + rowCells - a = omega arith in
-    ap (λ (n : ℕ). cond (formed (take rowCells (drop a l))) n illFormed) (sym (zero-add (length (idsIn (take rowCells (drop a l))))))
-    ∙ ap (λ (n : ℕ). onward 0 0 (take n (drop a l))) d
+onward-start l = ap (λ (n : ℕ). cond (formed l) n illFormed) (sym (zero-add (length (idsIn l))))
 
 -- A scan that has only zeros before it has passed all ids.
 pub scan-blank : (last count : ℕ) (l : List ℕ) → blank l ≡ true → scan last count l ≡ count
@@ -113,6 +110,15 @@ module _ (l : List ℕ) (n i : ℕ) (inside : i < n) (long : n ≤ length l) whe
         (ne-eqb (getD l i 0) noMore (λ e. omega arith))))
 
 -- ---- what the answers tell
+
+-- A row of no more cells than the widest has is answered by less than illFormed exactly where it is rising ids followed by zeros.
+pub count-formed : (l : List ℕ) → length l ≤ wideRowCells → ltb (idCount l) illFormed ≡ formed l
+unfolding idCount
+count-formed l h = go (formed l)
+  where
+    go : (t : Bool) → ltb (cond t (length (idsIn l)) illFormed) illFormed ≡ t
+    go true = lt-ltb (length (idsIn l)) illFormed (omega (arith, ids-length l))
+    go false = le-ltb illFormed illFormed (omega arith)
 
 module _ (cells : List ℕ) (p : ℕ) where
   -- Past the rows of a buffer there is no row.

@@ -6,11 +6,11 @@ use mathlib.Core.List.{List}
 use mathlib.Core.Bool.{Bool, true, cond, _&&_}
 use lib.Dec.{ltb, leb}
 use lib.ListN.{length}
-use Rattle.cluster.specs.Terms.{rowCells, bufferRows, layoutCells, Layout, row, rising, rowAt, idsIn, blank, formed}
+use Rattle.cluster.specs.Terms.{rowCells, bufferRows, layoutCells, wideRowCells, Layout, row, rising, rowAt, idsIn, blank, formed}
 
--- The answer for a row that is not rising ids followed by zeros: one more than a row has cells.
+-- The answer for a row that is not rising ids followed by zeros: one more than the widest row has cells.
 abbrev pub illFormed : ℕ
-illFormed = rowCells + 1
+illFormed = wideRowCells + 1
 
 -- Whether cells have row p whole, and p is a row of a buffer.
 abbrev pub hasRow : List ℕ → ℕ → Bool

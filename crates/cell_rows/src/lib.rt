@@ -1,13 +1,13 @@
-// Rows of lent cells: eight cells to a partition, rising ids first, then zeros.
+// Rows of lent cells: eight cells to a partition, or sixteen in a buffer of wide rows; rising ids first, then zeros.
 ghost use mathlib.Core.Path.{_≡_};
 ghost use Prim.Native.Nat.{_+_, _-_, _^_, _≤_, _<_};
 ghost use lib.ListN.{length, take, drop};
-ghost use Rattle.cluster.specs.Terms.{rowCells, blank};
+ghost use Rattle.cluster.specs.Terms.{bufferRows, wideRowCells, wideCells, rowOf, blank, formed};
 ghost use Rattle.cell_rows.specs.ModelRows.{idCount, rowIds, rowIsBlank};
 use cluster::Cluster;
 
-// The answer for a row that is not rising ids followed by zeros: one more than a row has cells.
-pub const ILL_FORMED: u32 = Cluster::ROW as u32 + 1;
+// The answer for a row that is not rising ids followed by zeros: one more than the widest row has cells.
+pub const ILL_FORMED: u32 = Cluster::WIDE_ROW as u32 + 1;
 
 // Whether the cells from `from` up to `to` are zero.
 fn zeros(cells: &[u32], from: usize, to: usize) -> bool
@@ -31,13 +31,12 @@ fn wide(id: u32) -> u64
     id as u64
 }
 
-// How many ids the row that starts at cell `from` has. After a 0 no id is above the last: so one loop of as many turns for each row looks for rising
+// How many ids the row from cell `from` up to `to` has. After a 0 no id is above the last: so one loop of as many turns for each row looks for rising
 // ids and for zeros, and the machine code has each turn by itself.
-fn count_ids(cells: &[u32], from: usize) -> u32
-    requires { ⌜ from + rowCells ≤ length (now cells) ⌝ }
-    ensures { λ r. ⌜ r ≡ idCount (take rowCells (drop from (now (cells .entry)))) ⌝ }
+fn count_ids(cells: &[u32], from: usize, to: usize) -> u32
+    requires { ⌜ (from ≤ to) × (to ≤ from + wideRowCells) × (to ≤ length (now cells)) ⌝ }
+    ensures { λ r. ⌜ r ≡ idCount (take (to - from) (drop from (now (cells .entry)))) ⌝ }
 {
-    let to = from + Cluster::ROW;
     let mut last = 0;
     let mut count = 0;
     let mut i = from;
@@ -65,10 +64,20 @@ pub fn row_ids(cells: &[u32], partition: usize) -> u32
         return ILL_FORMED;
     }
     let from = partition * Cluster::ROW;
-    if cells.len() < from + Cluster::ROW {
+    let to = from + Cluster::ROW;
+    if cells.len() < to {
         return ILL_FORMED;
     }
-    count_ids(cells, from)
+    count_ids(cells, from, to)
+}
+
+// Whether wide row `partition` of the cells is rising ids followed by zeros.
+pub fn wide_row_is_formed(cells: &[u32], partition: usize) -> bool
+    requires { ⌜ (partition < bufferRows) × (wideCells ≤ length (now cells)) ⌝ }
+    ensures { λ r. ⌜ r ≡ formed (rowOf wideRowCells (now (cells .entry)) partition) ⌝ }
+{
+    let from = partition * Cluster::WIDE_ROW;
+    count_ids(cells, from, from + Cluster::WIDE_ROW) < ILL_FORMED
 }
 
 // Whether row `partition` of the cells is there whole, and all zeros.

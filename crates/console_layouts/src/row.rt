@@ -15,6 +15,6 @@ pub extern "C" fn dezghuri_show_row(assignment: &[u32], partition: u32, row: &mu
     }
     let mut refusal = 0;
     let shown = show::show_row(assignment, partition, &mut refusal);
-    answers::put(shown, 0, row);
+    cells::put(shown, 0, row);
     refusal
 }

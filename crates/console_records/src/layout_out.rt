@@ -42,6 +42,6 @@ pub extern "C" fn dezghuri_write_layout(
     let written = layout_record::write_layout(n, assignment, out);
     let length = written.length as u64;
     let numbers = [answers::high(length), answers::low(length)];
-    answers::put(&numbers, 0, answer);
+    cells::put(&numbers, 0, answer);
     written.refusal
 }

@@ -38,11 +38,9 @@ unfoldable pub left : List Node → ℕ → List ℕ → ℕ → ℕ → ℕ
 left ns b l to i = named (drop b ns) (idsIn (take (to - i) (drop i l)))
 
 -- Before the first step all is left.
-pub left-all : (ns : List Node) (l : List ℕ) (from k : ℕ) → named ns (idsIn (take k (drop from l))) ≡ 0 + 2 ^ 0 * left ns 0 l (from + k) from
+pub left-all : (ns : List Node) (l : List ℕ) (from to : ℕ) → named ns (idsIn (take (to - from) (drop from l))) ≡ 0 + 2 ^ 0 * left ns 0 l to from
 unfolding left
-left-all ns l from k =
-    let e : k ≡ from + k - from = omega arith in
-    ap (λ (j : ℕ). named ns (idsIn (take j (drop from l)))) e ∙ omega arith
+left-all ns l from to = omega arith
 
 -- At the end of the row nothing is left,
 pub left-end : (ns : List Node) (b : ℕ) (l : List ℕ) (to i : ℕ) → to ≤ i → left ns b l to i ≡ 0

@@ -1,9 +1,9 @@
 // From rows of ids in lent cells to sets of nodes, as masks over the indices of a cluster's nodes in use.
 ghost use mathlib.Core.Path.{_≡_};
-ghost use Prim.Native.Nat.{_+_, _≤_};
+ghost use Prim.Native.Nat.{_-_, _≤_, _<_};
 ghost use mathlib.Core.List.{List};
 ghost use lib.ListN.{length, take, drop};
-ghost use Rattle.cluster.specs.Terms.{mostNodes, rowCells, topology, idsIn};
+ghost use Rattle.cluster.specs.Terms.{mostNodes, bufferRows, wideRowCells, wideCells, topology, rowOf, idsIn};
 ghost use Rattle.cluster.specs.declared.Node.{Node};
 ghost use Rattle.masks.specs.ModelMasks.{idCells, named, rowMask, masksRead, rowsFormed};
 use cluster::Cluster;
@@ -23,14 +23,13 @@ pub fn ids_of(c: Cluster) -> [u32; Cluster::NODES]
     ids
 }
 
-// The nodes, of the n whose ids are given, that the ids of the row that starts at cell `from` name: one walk over both, each id past the nodes that
+// The nodes, of the n whose ids are given, that the ids of the row from cell `from` up to `to` name: one walk over both, each id past the nodes that
 // are not above it.
-fn walk_row(ids: &[u32], n: usize, cells: &[u32], from: usize) -> u32
-    requires { ⌜ (n ≤ mostNodes) × (n ≤ length (now ids)) × (from + rowCells ≤ length (now cells)) ⌝ }
+fn walk_row(ids: &[u32], n: usize, cells: &[u32], from: usize, to: usize) -> u32
+    requires { ⌜ (n ≤ mostNodes) × (n ≤ length (now ids)) × (from ≤ to) × (to ≤ length (now cells)) ⌝ }
     ensures { λ r. ⌜ ((ns : List Node) → n ≡ length ns → now (ids .entry) ≡ idCells ns
-        → r ≡ named ns (idsIn (take rowCells (drop from (now (cells .entry)))))) ⌝ }
+        → r ≡ named ns (idsIn (take (to - from) (drop from (now (cells .entry)))))) ⌝ }
 {
-    let to = from + Cluster::ROW;
     let mut mask = 0;
     let mut b = 0;
     let mut i = from;
@@ -58,7 +57,7 @@ fn walk_row(ids: &[u32], n: usize, cells: &[u32], from: usize) -> u32
 }
 
 // The nodes, of the n whose ids are given, that row `partition` of the cells names; none where the row is not there whole.
-fn mask_of(ids: &[u32], n: usize, cells: &[u32], partition: usize) -> u32
+pub fn mask_of(ids: &[u32], n: usize, cells: &[u32], partition: usize) -> u32
     requires { ⌜ (n ≤ mostNodes) × (n ≤ length (now ids)) ⌝ }
     ensures { λ r. ⌜ ((ns : List Node) → n ≡ length ns → now (ids .entry) ≡ idCells ns → r ≡ rowMask ns (now (cells .entry)) partition) ⌝ }
 {
@@ -66,10 +65,21 @@ fn mask_of(ids: &[u32], n: usize, cells: &[u32], partition: usize) -> u32
         return 0;
     }
     let from = partition * Cluster::ROW;
-    if cells.len() < from + Cluster::ROW {
+    let to = from + Cluster::ROW;
+    if cells.len() < to {
         return 0;
     }
-    walk_row(ids, n, cells, from)
+    walk_row(ids, n, cells, from, to)
+}
+
+// The nodes, of the n whose ids are given, that wide row `partition` of the cells names.
+pub fn wide_mask_of(ids: &[u32], n: usize, cells: &[u32], partition: usize) -> u32
+    requires { ⌜ (n ≤ mostNodes) × (n ≤ length (now ids)) × (partition < bufferRows) × (wideCells ≤ length (now cells)) ⌝ }
+    ensures { λ r. ⌜ ((ns : List Node) → n ≡ length ns → now (ids .entry) ≡ idCells ns
+        → r ≡ named ns (idsIn (rowOf wideRowCells (now (cells .entry)) partition))) ⌝ }
+{
+    let from = partition * Cluster::WIDE_ROW;
+    walk_row(ids, n, cells, from, from + Cluster::WIDE_ROW)
 }
 
 // The nodes that row `partition` of the cells names; none where the row is not there whole. Ids that no node has are left out.

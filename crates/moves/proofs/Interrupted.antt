@@ -3,7 +3,7 @@
 use Prim.Native.Nat.{ℕ, zero, suc, _+_, _≤_, _<_}
 use mathlib.Core.Path.{_≡_, refl, sym, ap, ap₂, _∙_, subst}
 use mathlib.Core.Logic.{_⊎_, inl, inr, ⊎-elim}
-use mathlib.Core.List.{List, [], _∷_, _++_, map}
+use mathlib.Core.List.{List, [], _∷_, _++_, map, append-nil, append-assoc}
 use mathlib.Core.Bool.{Bool, true, false, cond}
 use native.Mathlib.Omega.{arith}
 use lib.ListN.{length, take, drop}
@@ -26,6 +26,21 @@ made-other m H p n = ap (λ (b : Bool). cond b (changed m (H p)) (H p)) (ne-eqb 
 made-own : (m : Move) (H : ℕ → List ℕ) (p : ℕ) → p ≡ m .partition → made m H p ≡ changed m (H p)
 unfolding made
 made-own m H p e = ap (λ (b : Bool). cond b (changed m (H p)) (H p)) (eq-eqb p (m .partition) e)
+
+-- One partition more at the end.
+moves-behind : (H L : ℕ → List ℕ) (p n : ℕ) → movesFrom H L p (suc n) ≡ movesFrom H L p n ++ rowMoves (p + n) (H (p + n)) (L (p + n))
+unfolding movesFrom
+moves-behind H L p zero =
+    let z : p ≡ p + 0 = omega arith in
+    append-nil (rowMoves p (H p) (L p)) ∙ ap (λ (q : ℕ). rowMoves q (H q) (L q)) z
+moves-behind H L p (suc n) =
+    let z : suc p + n ≡ p + suc n = omega arith in
+    ap (λ (x : List Move). rowMoves p (H p) (L p) ++ x) (moves-behind H L (suc p) n)
+    ∙ (sym (append-assoc (rowMoves p (H p) (L p)) (movesFrom H L (suc p) n) (rowMoves (suc p + n) (H (suc p + n)) (L (suc p + n))))
+    ∙ ap (λ (q : ℕ). (rowMoves p (H p) (L p) ++ movesFrom H L (suc p) n) ++ rowMoves q (H q) (L q)) z)
+
+pub moves-next : (H L : ℕ → List ℕ) (n : ℕ) → movesFrom H L 0 (suc n) ≡ movesFrom H L 0 n ++ rowMoves n (H n) (L n)
+moves-next H L n = let z : 0 + n ≡ n = omega arith in moves-behind H L 0 n ∙ ap (λ (q : ℕ). movesFrom H L 0 n ++ rowMoves q (H q) (L q)) z
 
 -- Only the n rows from p on matter.
 pub moves-cong : (H K L : ℕ → List ℕ) (p n : ℕ) → ((q : ℕ) → p ≤ q → q < p + n → H q ≡ K q) → movesFrom H L p n ≡ movesFrom K L p n

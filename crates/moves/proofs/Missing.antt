@@ -4,14 +4,14 @@ use Prim.Native.Nat.{ℕ, suc, _+_, _≤_}
 use mathlib.Core.Path.{_≡_, refl, sym, ap, ap₂, _∙_}
 use mathlib.Core.Logic.{⊎-elim}
 use mathlib.Core.List.{List, [], _∷_}
-use mathlib.Core.Bool.{Bool, true, false, false≢true, not, cond, _||_}
+use mathlib.Core.Bool.{Bool, true, false, false≢true, not, cond, _&&_, _||_}
 use native.Mathlib.Omega.{arith}
 use lib.Dec.{eqb}
 use lib.ListN.{length}
 use Rattle.sums.specs.TermsSums.{one-if}
-use Rattle.sums.proofs.Tests.{true-or-false}
+use Rattle.sums.proofs.Tests.{both, true-or-false}
 use Rattle.cluster.specs.Terms.{Topology, idsOf, mem, risingFrom, onlyIn}
-use Rattle.cluster.proofs.Lists.{mem-head, mem-skip, mem-tail, mem-none, mem-cases, rising-head, rising-tail, rising-cons, rising-down}
+use Rattle.cluster.proofs.Lists.{same-test, mem-head, mem-skip, mem-tail, mem-none, mem-cases, rising-head, rising-tail, rising-cons, rising-down}
 use Rattle.moves.specs.TermsMoves.{surviving, missing, AllIn}
 
 -- ---- the missing ids
@@ -27,7 +27,7 @@ unfolding missing
 missing-out x xs l e = rw e
 
 -- What is missing stands in the first row, and not in the second.
-missing-mem : (r l : List ℕ) (i : ℕ) → mem i (missing r l) ≡ true → (mem i r ≡ true) × (mem i l ≡ false)
+pub missing-mem : (r l : List ℕ) (i : ℕ) → mem i (missing r l) ≡ true → (mem i r ≡ true) × (mem i l ≡ false)
 unfolding missing
 missing-mem [] l i m = absurd (mem-none i m)
 missing-mem (x ∷ xs) l i m =
@@ -84,6 +84,37 @@ missing-few (x ∷ xs) r = go (missing-few xs r) (mem x r)
     go : length (missing xs r) ≤ length xs → (b : Bool) → length (cond b (missing xs r) (x ∷ missing xs r)) ≤ suc (length xs)
     go h true = omega arith
     go h false = omega arith
+
+-- An id of the first row that the second lacks is missing,
+missing-has : (r l : List ℕ) (i : ℕ) → mem i r ≡ true → mem i l ≡ false → mem i (missing r l) ≡ true
+missing-has [] l i m f = absurd (mem-none i m)
+missing-has (x ∷ xs) l i m f =
+    ⊎-elim
+    (λ t. ap (mem i) (missing-in x xs l t)
+    ∙ ⊎-elim (λ q. absurd (false≢true (sym f ∙ (ap (λ (n : ℕ). mem n l) q ∙ t)))) (λ h. missing-has xs l i h f) (mem-cases i x xs m))
+    (λ e. ap (mem i) (missing-out x xs l e)
+    ∙ ⊎-elim (mem-head i x (missing xs l)) (λ h. mem-tail i x (missing xs l) (missing-has xs l i h f)) (mem-cases i x xs m))
+    (true-or-false (mem x l))
+
+-- so these are the missing ones.
+pub mem-missing : (i : ℕ) (r l : List ℕ) → mem i (missing r l) ≡ (mem i r && not (mem i l))
+mem-missing i r l =
+    same-test (mem i (missing r l)) (mem i r && not (mem i l)) (λ m. let w = missing-mem r l i m in ap₂ (λ (a b : Bool). a && not b) (w .0) (w .1))
+    (λ h. let w = both (mem i r) (not (mem i l)) h in missing-has r l i (w .0) (not-not (mem i l) (w .1)))
+  where
+    not-not : (b : Bool) → not b ≡ true → b ≡ false
+    not-not true h = sym h
+    not-not false h = refl
+
+-- They rise where the first row does.
+pub rising-missing : (k : ℕ) (r l : List ℕ) → risingFrom k r ≡ true → risingFrom k (missing r l) ≡ true
+unfolding missing
+rising-missing k [] l e = e
+rising-missing k (x ∷ xs) l e = go (rising-missing x xs l (rising-tail k x xs e)) (mem x l)
+  where
+    go : risingFrom x (missing xs l) ≡ true → (b : Bool) → risingFrom k (cond b (missing xs l) (x ∷ missing xs l)) ≡ true
+    go h true = rising-down k x (missing xs l) (omega (arith, rising-head k x xs e)) h
+    go h false = rising-cons k x (missing xs l) (rising-head k x xs e) h
 
 -- ---- the surviving ids
 

@@ -6,7 +6,7 @@ use Prim.Native.Nat.{ℕ, _+_}
 use mathlib.Core.Path.{ap, _∙_}
 use mathlib.Core.List.{List, _∷_, _++_}
 use lib.ListN.{length, drop}
-use Rattle.answers.proofs.Puts.{copy-front}
+use Rattle.cells.proofs.Puts.{copy-front}
 use Rattle.answers.proofs.put_after.Statement.{statement}
 use Rattle.answers.proofs.put_after.Tie as tie
 

@@ -1,10 +1,12 @@
 -- `cell_rows::row_ids` meets its contract.
 -- Assumes nothing.
 use borrow.Author.Needs.{needs}
-use Prim.Native.Nat.{ℕ}
-use mathlib.Core.Path.{sym, ap, ap₂}
+use native.Mathlib.Omega.{arith}
+use Prim.Native.Nat.{ℕ, _+_, _-_, _*_}
+use mathlib.Core.Path.{_≡_, sym, ap, ap₂, _∙_}
 use mathlib.Core.Bool.{Bool, cond}
-use Rattle.cluster.specs.Terms.{rowAt}
+use lib.ListN.{take, drop}
+use Rattle.cluster.specs.Terms.{rowCells, rowAt}
 use Rattle.cell_rows.specs.ModelRows.{illFormed, idCount, rowIds}
 use Rattle.cell_rows.proofs.RowScans.{row-out, row-short, row-whole}
 use Rattle.cell_rows.proofs.row_ids.Statement.{statement}
@@ -19,8 +21,8 @@ returns c =
 mul-from : tie.Need-mul-from
 mul-from c = search needs
 
-add-if2 : tie.Need-add-if2
-add-if2 c = search needs
+add-to : tie.Need-add-to
+add-to c = search needs
 
 returns-2 : tie.Need-returns-2
 unfolding rowIds
@@ -35,8 +37,10 @@ returns-3 : tie.Need-returns-3
 unfolding rowIds
 returns-3 c =
     let a = c .before .before .before .before .args in
+    let e : a .partition * rowCells + rowCells - a .partition * rowCells ≡ rowCells = omega arith in
     sym
-    (ap₂ (λ (t : Bool) (n : ℕ). cond t n illFormed) (row-whole (a .cells .now) (a .partition) (search needs) (search needs)) (sym (c .count-ids .ensures)))
+    (ap₂ (λ (t : Bool) (n : ℕ). cond t n illFormed) (row-whole (a .cells .now) (a .partition) (search needs) (search needs))
+    (sym (c .count-ids .ensures ∙ ap (λ (n : ℕ). idCount (take n (drop (a .partition * rowCells) (a .cells .now)))) e)))
 
 pub row-ids-spec : {M : Type 1} → statement M
-row-ids-spec = tie.close (tie.spec returns mul-from add-if2 returns-2 count-ids-requires returns-3)
+row-ids-spec = tie.close (tie.spec returns mul-from add-to returns-2 count-ids-requires returns-3)

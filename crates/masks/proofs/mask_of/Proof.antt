@@ -1,10 +1,12 @@
 -- `masks::mask_of` meets its contract.
 -- Assumes nothing.
 use borrow.Author.Needs.{needs}
-use Prim.Native.Nat.{ℕ}
-use mathlib.Core.Path.{sym, ap, ap₂}
+use native.Mathlib.Omega.{arith}
+use Prim.Native.Nat.{ℕ, _+_, _-_, _*_}
+use mathlib.Core.Path.{_≡_, sym, ap, ap₂, _∙_}
 use mathlib.Core.Bool.{Bool, cond}
-use Rattle.cluster.specs.Terms.{rowAt, idsIn}
+use lib.ListN.{take, drop}
+use Rattle.cluster.specs.Terms.{rowCells, rowAt, idsIn}
 use Rattle.cell_rows.proofs.RowScans.{row-out, row-short, row-whole}
 use Rattle.masks.specs.ModelMasks.{named, rowMask}
 use Rattle.masks.proofs.mask_of.Statement.{statement}
@@ -21,8 +23,8 @@ returns c =
 mul-from : tie.Need-mul-from
 mul-from c = search needs
 
-add-if2 : tie.Need-add-if2
-add-if2 c = search needs
+add-to : tie.Need-add-to
+add-to c = search needs
 
 returns-2 : tie.Need-returns-2
 unfolding rowMask
@@ -39,8 +41,10 @@ returns-3 : tie.Need-returns-3
 unfolding rowMask
 returns-3 c =
     let a = c .before .before .before .before .before .args in
+    let d : a .partition * rowCells + rowCells - a .partition * rowCells ≡ rowCells = omega arith in
     λ ns m e. sym
-    (ap₂ (λ (t : Bool) (n : ℕ). cond t n 0) (row-whole (a .cells .now) (a .partition) (search needs) (search needs)) (sym (c .walk-row .ensures ns m e)))
+    (ap₂ (λ (t : Bool) (n : ℕ). cond t n 0) (row-whole (a .cells .now) (a .partition) (search needs) (search needs))
+    (sym (c .walk-row .ensures ns m e ∙ ap (λ (n : ℕ). named ns (idsIn (take n (drop (a .partition * rowCells) (a .cells .now))))) d)))
 
 pub mask-of-spec : {M : Type 1} → statement M
-mask-of-spec = tie.close (tie.spec returns mul-from add-if2 returns-2 walk-row-requires returns-3)
+mask-of-spec = tie.close (tie.spec returns mul-from add-to returns-2 walk-row-requires returns-3)

@@ -8,7 +8,7 @@ use mathlib.Core.Path.{_≡_, refl, sym, ap, _∙_}
 use mathlib.Core.List.{List}
 use mathlib.Core.Logic.{_⊎_, inl, inr, ⊎-elim}
 use lib.ListN.{length, take, drop, getD}
-use Rattle.cluster.specs.Terms.{rowCells, idsIn}
+use Rattle.cluster.specs.Terms.{idsIn}
 use Rattle.cluster.specs.declared.Node.{Node}
 use Rattle.sets.specs.ModelBits.{withOf}
 use Rattle.masks.specs.ModelMasks.{idCells, named}
@@ -20,7 +20,7 @@ use Rattle.masks.proofs.walk_row.Tie as tie
 abbrev Inv-loop2 : tie.InvT-loop2
 Inv-loop2 ids n cells from to mask₀ b₀ i id mask b =
     (b ≤ n) × (mask < 2 ^ b)
-    × ((ns : List Node) → n ≡ length ns → ids ≡ idCells ns → named ns (idsIn (take rowCells (drop from cells))) ≡ mask + 2 ^ b * left ns b cells to i)
+    × ((ns : List Node) → n ≡ length ns → ids ≡ idCells ns → named ns (idsIn (take (to - from) (drop from cells))) ≡ mask + 2 ^ b * left ns b cells to i)
 
 abbrev μ-loop2 : tie.MeasureT-loop2
 μ-loop2 ids n cells from to mask₀ b₀ i id mask b = n - b
@@ -28,13 +28,10 @@ abbrev μ-loop2 : tie.MeasureT-loop2
 abbrev Inv-loop : tie.InvT-loop
 Inv-loop ids n cells from to mask₀ b₀ i₀ mask b i =
     (b ≤ n) × (from ≤ i) × (i ≤ to) × (mask < 2 ^ b)
-    × ((ns : List Node) → n ≡ length ns → ids ≡ idCells ns → named ns (idsIn (take rowCells (drop from cells))) ≡ mask + 2 ^ b * left ns b cells to i)
+    × ((ns : List Node) → n ≡ length ns → ids ≡ idCells ns → named ns (idsIn (take (to - from) (drop from cells))) ≡ mask + 2 ^ b * left ns b cells to i)
 
 abbrev μ-loop : tie.MeasureT-loop
 μ-loop ids n cells from to mask₀ b₀ i₀ mask b i = to - i
-
-add-to : tie.Need-add-to Inv-loop2 μ-loop2 Inv-loop μ-loop
-add-to c = search needs
 
 loop-holds : tie.Need-loop-holds Inv-loop2 μ-loop2 Inv-loop μ-loop
 loop-holds c = (
@@ -42,7 +39,7 @@ loop-holds c = (
   search needs,
   search needs,
   search needs,
-  λ ns m e. left-all ns (c .before .before .args .cells .now) (c .before .before .args .from) rowCells,
+  λ ns m e. left-all ns _ _ _,
 )
 
 mul-id : tie.Need-mul-id Inv-loop2 μ-loop2 Inv-loop μ-loop
@@ -56,7 +53,7 @@ returns c =
     let k = c .before .before .before in
     let a = k .before .before .before .args in
     λ ns m e. walked _ _ (k .loop .b) _ (k .loop .inv .4 ns m e)
-    (left-zero ns (k .loop .b) (a .cells .now) (a .from + rowCells) (k .loop .i) (search needs) (search needs) (c .if1 .taken))
+    (left-zero ns (k .loop .b) (a .cells .now) (a .to) (k .loop .i) (search needs) (search needs) (c .if1 .taken))
 
 loop2-holds : tie.Need-loop2-holds Inv-loop2 μ-loop2 Inv-loop μ-loop
 loop2-holds c = (search needs, search needs, c .before .before .before .loop .inv .4)
@@ -98,7 +95,7 @@ loop2-again c =
       λ ns m e. node-done _ (q .loop2 .mask) (q .loop2 .b) id v _ (c .if4 .mask) (omega arith) (q .loop2 .inv .1)
           (q .loop2 .inv .2 ns m e
           ∙ ap (λ (n : ℕ). q .loop2 .mask + 2 ^ (q .loop2 .b) * n)
-          (left-node ns (q .loop2 .b) (a .cells .now) (a .from + rowCells) (k .loop .i) (omega arith) (omega arith) v (omega arith)
+          (left-node ns (q .loop2 .b) (a .cells .now) (a .to) (k .loop .i) (omega arith) (omega arith) v (omega arith)
           (sym (id-cell ns (a .ids .now) (q .loop2 .b) (omega arith) e (omega arith))) (q .before .if1 .left) (omega arith)))
           took .1,
     )
@@ -120,7 +117,7 @@ loop-again c =
       search needs,
       λ ns m e. q .loop2 .inv .2 ns m e
           ∙ ap (λ (n : ℕ). q .loop2 .mask + 2 ^ (q .loop2 .b) * n)
-          (left-skip ns (q .loop2 .b) (a .cells .now) (a .from + rowCells) (k .loop .i) (search needs) (search needs)
+          (left-skip ns (q .loop2 .b) (a .cells .now) (a .to) (k .loop .i) (search needs) (search needs)
           _ (omega arith) (sym (id-cell ns (a .ids .now) (q .loop2 .b) (omega arith) e (omega arith))) (q .before .if1 .left) (omega arith)),
     )
 
@@ -137,7 +134,6 @@ walk-row-spec =
     μ-loop2
     Inv-loop
     μ-loop
-    add-to
     loop-holds
     mul-id
     shared-slice-read-id

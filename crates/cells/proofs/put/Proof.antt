@@ -1,4 +1,4 @@
--- `answers::put` meets its contract. The loop's invariant: the first numbers are copied, the other cells are as lent.
+-- `cells::put` meets its contract. The loop's invariant: the first numbers are copied, the other cells are as lent.
 -- Assumes nothing.
 use borrow.Author.Needs.{needs}
 use native.Mathlib.Omega.{arith}
@@ -6,9 +6,9 @@ use Prim.Native.Nat.{_+_, _≤_, _-_}
 use mathlib.Core.Path.{_≡_, ap, _∙_}
 use mathlib.Core.List.{_++_}
 use lib.ListN.{length, take, drop}
-use Rattle.answers.proofs.Puts.{copied, copy-none, copy-next, copy-all}
-use Rattle.answers.proofs.put.Statement.{statement}
-use Rattle.answers.proofs.put.Tie as tie
+use Rattle.cells.proofs.Puts.{copied, copy-none, copy-next, copy-all}
+use Rattle.cells.proofs.put.Statement.{statement}
+use Rattle.cells.proofs.put.Tie as tie
 
 abbrev Inv-loop : tie.InvT-loop
 Inv-loop numbers at cells₀ i₀ cells i =

@@ -1,4 +1,4 @@
--- Numbers put into lent cells: one by one by `put`, after two halves by `put_after`.
+-- Numbers put into lent cells, one by one, and two more in front of them.
 -- Assumes nothing.
 use Prim.Native.Nat.{ℕ, suc, _+_, _≤_, _<_}
 use mathlib.Core.Path.{_≡_, sym, ap, ap₂, _∙_}
@@ -6,7 +6,7 @@ use mathlib.Core.List.{List, [], _∷_, _++_, append-assoc, append-nil}
 use native.Mathlib.Numerals.{add-one}
 use native.Mathlib.Omega.{arith}
 use lib.ListN.{length, take, drop, getD, set, length-append, take-append-drop}
-use lib.Seq.{length-take-le, take-suc, take-all, drop-at, drop-cons, set-at}
+use lib.Seq.{length-take-le, take-suc, take-at, take-all, drop-at, drop-append-add, drop-drop, drop-cons, set-at}
 
 module _ (numbers lent : List ℕ) (at : ℕ) (room : at + length numbers ≤ length lent) where
   -- What is there once i numbers are.
@@ -40,3 +40,15 @@ module _ (numbers lent : List ℕ) (at : ℕ) (room : at + length numbers ≤ le
 pub copy-front : (x y : ℕ) (numbers rest lent : List ℕ) → 2 ≤ length lent → x ∷ y ∷ drop 2 (take 2 lent ++ numbers ++ rest) ≡ x ∷ y ∷ numbers ++ rest
 copy-front x y numbers rest lent h =
     ap (λ (l : List ℕ). x ∷ y ∷ l) (ap (drop 2) (append-assoc (take 2 lent) numbers rest) ∙ drop-at (take 2 lent) (numbers ++ rest) 2 (length-take-le 2 lent h))
+
+-- A part put right behind another one, of k cells, is one part with it.
+pub parts-join : (lent first second cells : List ℕ) (at k m : ℕ) → length first ≡ k → at ≤ length lent → cells ≡ take at lent ++ first ++ drop (at + k) lent
+    → take (at + k) cells ++ second ++ drop (at + k + m) cells ≡ take at lent ++ (first ++ second) ++ drop (at + k + m) lent
+parts-join lent first second cells at k m long room e =
+    let front = take at lent ++ first in
+    let whole : length front ≡ at + k = omega (arith, length-append (take at lent) first, length-take-le at lent room, long) in
+    let behind : drop (at + k + m) (front ++ drop (at + k) lent) ≡ drop (at + k + m) lent =
+    ap (λ (n : ℕ). drop (n + m) (front ++ drop (at + k) lent)) (sym whole) ∙ (drop-append-add front (drop (at + k) lent) m ∙ drop-drop m (at + k) lent) in
+    ap (λ (l : List ℕ). take (at + k) l ++ second ++ drop (at + k + m) l) e
+    ∙ (ap₂ (λ (f r : List ℕ). f ++ second ++ r) (take-at front (drop (at + k) lent) (at + k) whole) behind
+    ∙ ap (λ (f : List ℕ). f ++ drop (at + k + m) lent) (append-assoc (take at lent) first second))

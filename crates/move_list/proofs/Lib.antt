@@ -1,0 +1,4 @@
+pub mod MovesOrder
+pub mod MoveRows
+pub mod AllRows
+pub mod Owed

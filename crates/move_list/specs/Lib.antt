@@ -1,0 +1,2 @@
+pub mod TermsMoveList
+pub mod ModelMoveRows

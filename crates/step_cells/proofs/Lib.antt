@@ -1,0 +1,2 @@
+pub mod StepWalk
+pub mod RowCells
