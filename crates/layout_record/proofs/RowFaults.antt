@@ -12,7 +12,7 @@ use lib.ListN.{length}
 use borrow.Author.Tests.{le-leb, lt-leb, lt-ltb, le-ltb, eq-eqb, ne-eqb, eqb-true}
 use Rattle.sums.proofs.Sum.{lt-or-ge}
 use Rattle.cluster.specs.Terms.{mostCopies, bufferRows, layoutCells, Layout, mem, rising, rowAt, idsIn, blank, formed}
-use Rattle.cell_rows.specs.ModelRows.{rowIds, rowIsBlank}
+use Rattle.cell_rows.specs.ModelRows.{illFormed, rowIds, rowIsBlank}
 use Rattle.sums.proofs.Tests.{both, true-or-false}
 use Rattle.cell_rows.proofs.RowScans.{formed-row-ids, ill-row-ids, row-of-buffer}
 use Rattle.fields.specs.RecordField.{fieldAt, refusalOf, placeOf}
@@ -73,7 +73,7 @@ module _ (cells : List ℕ) (partitions replication p : ℕ) (whole : layoutCell
       ⊎-elim
       (λ t. ap (λ (k : ℕ). eqb k replication) (formed-row-ids cells p (row-of-buffer cells p whole inside) t) ∙ sym (simp (lt-ltb p partitions h, t)))
       (λ f. ap (λ (k : ℕ). eqb k replication) (ill-row-ids cells p f)
-      ∙ (ne-eqb 9 replication (λ e. omega arith) ∙ sym (simp (lt-ltb p partitions h, f))))
+      ∙ (ne-eqb illFormed replication (λ e. omega arith) ∙ sym (simp (lt-ltb p partitions h, f))))
       (true-or-false (formed (rowAt cells p)))
 
   -- From P on: zeros.
