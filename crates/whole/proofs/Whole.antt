@@ -1,23 +1,27 @@
--- The operations fit together, of the definitions that the contracts of `plan`, `check`, `write_layout` and `read_layout` cite: what planning
--- answers passes check, can be written, reads back as it was, and planned again it stays.
+-- The operations fit together, of the definitions that the contracts of `plan`, `check`, `write_layout`, `read_layout` and `list` cite: what planning
+-- answers passes check, can be written, reads back as it was, asks for moves that can be interrupted, and planned again it stays.
 -- Assumes nothing.
 use Prim.Native.Nat.{ℕ, _+_, _*_, _^_, _≤_, _<_}
 use mathlib.Core.Path.{_≡_, refl, sym, ap, ap₂, _∙_, subst}
 use mathlib.Core.Bool.{true}
-use mathlib.Core.List.{List, _++_}
+use mathlib.Core.List.{List, [], _++_}
+use native.Mathlib.Nat.{mul-le-mul}
 use native.Mathlib.Omega.{arith}
 use lib.ListN.{length, take, drop, length-append}
 use lib.Seq.{take-at}
-use Rattle.cluster.specs.Terms.{mostBits, mostCopies, layoutCells, scratchCells, Topology, topology, partitions, nodeAt, Layout, ValidAt, IsFormer, sent, cellsOf, rowsIn}
+use Rattle.cluster.specs.Terms.{mostBits, mostCopies, bufferRows, layoutCells, wideRowCells, scratchCells, Topology, topology, partitions, nodeAt, Layout, row, copiesIn, ValidAt, IsFormer, sent, cellsOf, rowOf, rowsIn, formed}
 use Rattle.cluster.specs.TermsReading.{mostSize, mostSent, mostVerdict, mostImprovements, Accepted, Fits32}
 use Rattle.cluster.specs.declared.Cluster.{Cluster}
-use Rattle.cluster.proofs.Accepting.{accepted}
+use Rattle.cluster.proofs.Accepting.{few-partitions, accepted}
 use Rattle.cell_rows.specs.ModelRows.{FitsCells, HoldsRows}
 use borrow.Author.Tests.{le-leb}
-use Rattle.sums.proofs.Tests.{one-if-le}
+use Rattle.sums.specs.TermsSums.{tab}
+use Rattle.sums.proofs.Tests.{one-if-le, every-all}
+use Rattle.cells.proofs.Cells.{tab-getD}
 use Rattle.cell_rows.proofs.CellLayouts.{length-cellsOf, rowsIn-written, holds-cellsOf, holds-append}
 use Rattle.masks.proofs.Laws.{holds-formed}
 use Rattle.layouts.specs.TermsCheck.{fault, checkOf}
+use Rattle.layouts.specs.declared.check.Checked.{Checked}
 use Rattle.layouts.proofs.CheckMeaning.{valid-fits, valid-passed}
 use Rattle.sizing.specs.ModelSizing.{sizeOf}
 use Rattle.planning.specs.Demand.{Answer, Demand3, Rules}
@@ -34,7 +38,12 @@ use Rattle.layout_record.specs.RecordLayoutAnswer.{readLayoutOf, assignmentRead
 use Rattle.layout_record.specs.RecordLayoutClaims.{ReadsLayout, WritesLayout}
 use Rattle.layout_record.proofs.RecordLaws.{length-record}
 use Rattle.layout_record.proofs.Exact.{writes-layout, reads-record}
-use Rattle.whole.specs.TermsWhole.{planNumbers, Stays}
+use Rattle.moves.specs.TermsMoves.{movesOf, FitsSixteen, sends}
+use Rattle.moves.proofs.WideRows.{length-wideCells, cells-formed, wide-read}
+use Rattle.moves.proofs.Promises.{sends-sent, eight-fit}
+use Rattle.move_list.specs.TermsMoveList.{formerIn, newIn}
+use Rattle.move_list.proofs.MovesOrder.{pass-all}
+use Rattle.whole.specs.TermsWhole.{planNumbers, Stays, widened, PlanMoves}
 use Rattle.whole.proofs.Alike.{sent-self, sent-none}
 use Rattle.whole.proofs.Plans.{none-refused, usable-sized, not-refused, plan-answered, plan-laid, one-size, size-below, sent-few, valid-words, plan-rules, few-improvements}
 
@@ -204,6 +213,58 @@ module _ (c : Cluster) (former : List ℕ) (allowance : ℕ) (assignment scratch
           pub returned-checks : checkOf c (assignmentRead bytes lent) (readLayoutOf bytes lent .numbers .size) ≡ fault 0 0
           returned-checks =
               ap₂ (checkOf c) held (ap (λ (x : ReadLayout). x .numbers .size) (plan-returns .0)) ∙ laid-checks (drop layoutCells lent)
+
+    -- ---- moves
+
+    at-one : ValidAt t L 1
+    at-one = record {
+      positive = omega arith;
+      partition-rows = valid .partition-rows;
+      rows = valid .rows;
+      capacities = λ b l.
+          let n = copiesIn L (nodeAt t b .id) in
+          let larger : n * 1 ≤ n * plan .size = mul-le-mul (omega arith) (valid .positive) in
+          omega (arith, valid .capacities b l, larger);
+      ceilings = valid .ceilings;
+    }
+
+    -- The rows of the former layout, each in sixteen cells, and the layout of the plan: the moves from the one to the other.
+    module _ (rest : List ℕ) where
+      abbrev wide : List ℕ
+      wide = widened c former ++ rest
+
+      few-rows : partitions t ≤ bufferRows
+      few-rows = few-partitions (t .bits) (acc .bits)
+
+      few-ids : (p : ℕ) → p < partitions t → length (row F p) ≤ wideRowCells
+      few-ids p h = omega (arith, fo .few p h)
+
+      former-rows : formerIn c wide ≡ F
+      former-rows =
+          wide-read (row F) rest (partitions t) few-rows few-ids (fo .ids)
+          ∙ (ap (tab (row F)) (sym (fo .partition-rows)) ∙ tab-getD F [])
+
+      new-rows : newIn c cells ≡ L
+      new-rows = ap₂ rowsIn (sym (valid .partition-rows)) laid ∙ rowsIn-written L (drop layoutCells assignment) fits
+
+      -- The list is not refused, sends what planning said, and can be made afresh after every interruption.
+      pub plan-moves : PlanMoves c wide cells (r .sent)
+      plan-moves = record {
+        accepted =
+            pass-all c wide cells (omega (arith, length-append (widened c former) rest, length-wideCells (row F)))
+            (ap (λ (x : Checked). x .refusal)
+            (valid-passed c cells 1
+            (record { whole = omega (arith, ap length laid, whole (drop layoutCells assignment)); accepted-cluster = call .faultless; layout = L; valid = at-one; written = taken })))
+            (every-all (partitions t) (λ p. formed (rowOf wideRowCells wide p)) (λ p h. cells-formed (row F) rest p (omega (arith, few-rows)) (few-ids p h) (fo .ids p h)));
+        sending =
+            ap₂ (λ (x y : Layout). sends (movesOf t x y)) former-rows new-rows
+            ∙ (sends-sent t F L few-rows (fo .partition-rows) (fo .ids) (valid .partition-rows) (valid .rows)
+            ∙ (sym (rules .measured allowance) ∙ sym (ap (λ (x : Planned). x .sent) answer)));
+        fits =
+            subst (λ (x : Layout). FitsSixteen t x (newIn c cells)) (sym former-rows)
+            (subst (λ (x : Layout). FitsSixteen t F x) (sym new-rows)
+            (eight-fit t F L few-rows (fo .partition-rows) (fo .ids) (valid .partition-rows) (valid .rows) (fo .few) (acc .replication .1)));
+      }
 
     -- ---- again
 
