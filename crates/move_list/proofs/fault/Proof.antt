@@ -28,7 +28,7 @@ returns-2 : tie.Need-returns-2
 returns-2 c =
     let k = c .before in
     let a = k .before .before .before .before .args in
-    let e = k .check .ensures in
+    let e : k .check .result ≡ checkOf (a .c) (a .assignment .now) 1 = k .check .ensures in
     e ∙ sym (order-check (a .c) (a .former .now) (a .assignment .now) (search needs) (λ z. c .if2 .taken (ap (λ (r : Checked). r .refusal) e ∙ z)))
 
 partitions-requires : tie.Need-partitions-requires

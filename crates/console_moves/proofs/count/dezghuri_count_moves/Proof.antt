@@ -44,8 +44,9 @@ returns-2 c =
     let h = e .if1 .left in
     let lent = a .answer .now in
     let read = r .read .ensures in
+    let counted : f .count-read .result ≡ countedOf (r .read .result) (a .former .now) (a .assignment .now) = f .count-read .ensures .0 in
     let found : f .count-read .result ≡ countedOf (reading (a .bytes .now)) (a .former .now) (a .assignment .now) =
-    f .count-read .ensures .0 ∙ ap (λ (x : ReadCluster). countedOf x (a .former .now) (a .assignment .now)) read in (
+    counted ∙ ap (λ (x : ReadCluster). countedOf x (a .former .now) (a .assignment .now)) read in (
       long _ movesCells lent h (ap (λ (x : Listed). x .refusal) found),
       long _ movesCells lent h (c .before .before .put-after .ensures ∙ (λ i. movesNumbers (read i) (found i) ++ drop movesCells lent)),
       λ z. subst (λ (x : ReadCluster). MovesOwed (x .cluster) (a .former .now) (a .assignment .now)) read (f .count-read .ensures .1 z),

@@ -47,8 +47,9 @@ returns-2 c =
     let h = e .if1 .left in
     let lent = a .answer .now in
     let read = r .read .ensures in
+    let list : f .list-read .result ≡ listedOf (r .read .result) (a .former .now) (a .assignment .now) (a .moves .now) = f .list-read .ensures .0 in
     let found : f .list-read .result ≡ listedOf (reading (a .bytes .now)) (a .former .now) (a .assignment .now) (a .moves .now) =
-    f .list-read .ensures .0 ∙ ap (λ (x : ReadCluster). listedOf x (a .former .now) (a .assignment .now) (a .moves .now)) read in (
+    list ∙ ap (λ (x : ReadCluster). listedOf x (a .former .now) (a .assignment .now) (a .moves .now)) read in (
       long _ movesCells lent h (ap (λ (x : Listed). x .refusal) found),
       long _ movesCells lent h (f .list-read .ensures .1 ∙ ap (λ (x : ReadCluster). movesLeft x (a .former .now) (a .assignment .now) (a .moves .now)) read),
       long _ movesCells lent h (c .before .before .put-after .ensures ∙ (λ i. movesNumbers (read i) (found i) ++ drop movesCells lent)),
