@@ -5,6 +5,7 @@ mod compared;
 mod folder;
 mod lost;
 mod manual;
+mod moved;
 mod objects;
 mod page;
 mod printed;
@@ -483,6 +484,7 @@ fn help_and_version_are_printed() {
         "show home.txt last --help",
         "record -h",
         "diff --help",
+        "moves -h",
         "what-if -h",
     ] {
         let help = folder.call(line);
