@@ -91,13 +91,13 @@ thirty_two 2 >$look/thirty-two.txt
 cp samples/home.txt $look/ceilings-before.txt
 sed 's/^zones 2/zones 4/; s/^copies 3/copies 4/' samples/home.txt >$look/refused.txt
 
-shown home 0 9000 3000 2600
-shown nineteen 0 11000 3200 2800
-shown thirty-two 0 24000 9000 6000
+shown home 0 14500 5500 4400
+shown nineteen 0 17500 6200 5000
+shown thirty-two 0 34000 16000 12000
 shown one 0 8000 2000 1600
-shown k0 0 1600 1000 1000
-shown lost 0 9500 2600 2200
-shown ceilings 0 9000 3000 2600
+shown k0 0 2100 1300 1300
+shown lost 0 16000 5600 4500
+shown ceilings 0 14500 5500 4400
 shown refused 1 1600 1000 1000
 rm -rf $look/profile $look/browser.log
 printf 'look: pictures are in %s/\n' $look

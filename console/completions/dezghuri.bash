@@ -4,11 +4,11 @@ _dezghuri() {
     local word=${COMP_WORDS[COMP_CWORD]} before=${COMP_WORDS[COMP_CWORD - 1]} options=
     COMPREPLY=()
     if [ "$COMP_CWORD" -eq 1 ]; then
-        mapfile -t COMPREPLY < <(compgen -W 'plan check show diff what-if stage undo apply report record help --version' -- "$word")
+        mapfile -t COMPREPLY < <(compgen -W 'plan check show diff moves what-if stage undo apply report record help --version' -- "$word")
         return
     fi
     case $before in
-        --allowance | --box | --add | --remove | --resize | --ceiling) return ;;
+        --allowance | --box | --done | --add | --remove | --resize | --ceiling) return ;;
     esac
     # After the file come the words of a change, and no more files.
     if [ "${COMP_WORDS[1]}" = stage ] && [ "$COMP_CWORD" -ge 3 ] && [ "${word:0:1}" != - ]; then
@@ -19,6 +19,7 @@ _dezghuri() {
         plan) options='--staged --former --out --allowance --replace --record --json --help' ;;
         check | diff) options='--staged --json --help' ;;
         show) options='--box --all --staged --json --help' ;;
+        moves) options='--by-box --done --staged --json --help' ;;
         what-if) options='--former --add --remove --resize --ceiling --json --help' ;;
         stage) options='--ceiling --json --help' ;;
         undo | apply) options='--json --help' ;;

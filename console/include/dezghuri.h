@@ -35,9 +35,9 @@ extern "C" {
 
 /* The version of this header and its library; the number grows from each version to the next. */
 #define DEZGHURI_VERSION_MAJOR 0
-#define DEZGHURI_VERSION_MINOR 6
+#define DEZGHURI_VERSION_MINOR 7
 #define DEZGHURI_VERSION_PATCH 0
-#define DEZGHURI_VERSION "0.6.0"
+#define DEZGHURI_VERSION "0.7.0"
 #define DEZGHURI_VERSION_NUMBER \
     (DEZGHURI_VERSION_MAJOR * 1000000 + DEZGHURI_VERSION_MINOR * 1000 + DEZGHURI_VERSION_PATCH)
 
@@ -52,6 +52,10 @@ extern "C" {
 /* Least lengths of lent slices, in elements. */
 #define DEZGHURI_ROW_CELLS 8            /* one row: rising node ids, then zeros */
 #define DEZGHURI_LAYOUT_CELLS 2048      /* a former layout or an assignment: 256 rows */
+#define DEZGHURI_WIDE_ROW_CELLS 16      /* one row of what is held: rising node ids, then zeros */
+#define DEZGHURI_WIDE_CELLS 4096        /* what is held: 256 rows of sixteen cells */
+#define DEZGHURI_STEP_CELLS 4           /* a step: kind, partition, node, source */
+#define DEZGHURI_MOVES_CELLS 24576      /* always enough: 24 steps for each of 256 partitions */
 #define DEZGHURI_SCRATCH_CELLS 16384
 #define DEZGHURI_FIGURES_CELLS 64
 #define DEZGHURI_READ_CLUSTER_ANSWER 134
@@ -61,6 +65,7 @@ extern "C" {
 #define DEZGHURI_FIGURES_ANSWER 5
 #define DEZGHURI_WRITE_LAYOUT_ANSWER 2
 #define DEZGHURI_CHANGE_ANSWER 137
+#define DEZGHURI_MOVES_ANSWER 4
 #define DEZGHURI_REVERSE_BYTES 15       /* the longest field of a change */
 
 /* Longest records, in bytes. */
@@ -70,6 +75,10 @@ extern "C" {
 /* Verdicts. */
 #define DEZGHURI_STOPPED 0  /* the allowance was used up, and a nearer layout exists */
 #define DEZGHURI_FINISHED 1 /* no valid layout of the size lies nearer, and none as near comes before this one */
+
+/* Kinds of steps. */
+#define DEZGHURI_SEND 0 /* the node gets a copy of the partition */
+#define DEZGHURI_DROP 1 /* the node drops its copy */
 
 /* Refusals. */
 #define DEZGHURI_OK 0
@@ -195,6 +204,40 @@ uint32_t dezghuri_change(const uint8_t *record, size_t record_len,
                          size_t at,
                          uint8_t *reverse, size_t reverse_len,
                          uint32_t *answer, size_t answer_len);
+
+/* Counts the steps from what is held to a new layout, without listing them.
+ *
+ * The cluster is that of the record; its former rows are read and play no part.
+ * former, 4,096 cells: what is held, sixteen cells to a partition, of which the first 1 << bits rows are
+ * looked at. It may name nodes that are gone.
+ * assignment, 2,048 cells: the new layout.
+ * answer, 4 cells: 0, 1 the byte of a refused reading (high, low); 2 the partition with 10 and 11, the node id
+ * with 12; 3 the number of steps, at most 6,144.
+ * Refusals: 1 to 7 of the reading; then 8, assignment or former too short; those of dezghuri_check at size 1:
+ * rows in order 10 or 11, nodes in order 12; then 5, a former row that is not rising ids and zeros. */
+uint32_t dezghuri_count_moves(const uint8_t *record, size_t record_len,
+                              const uint32_t *former, size_t former_len,
+                              const uint32_t *assignment, size_t assignment_len,
+                              uint32_t *answer, size_t answer_len);
+
+/* Lists the steps from what is held to a new layout.
+ *
+ * former, assignment, answer: as dezghuri_count_moves; a refused list answers 0 steps.
+ * moves: takes the steps, four cells each: kind, partition, node, source; kept when refused, and past the
+ * steps. The partitions come one after another from 0 on: of each first the sends, to the nodes of the new row
+ * that do not hold it, by rising id; then the drops, at the nodes of the cluster that hold it and are not in
+ * the new row, by rising id. The source is 0 for a drop; for a send the lowest id in the former row that is in
+ * the cluster, or 0 where there is none: the copy has to come from elsewhere.
+ * Power may go after any number of steps. Each partition then has all its former copies on nodes of the cluster,
+ * or all its new ones; and where none has more than sixteen ids of both together, a list made afresh from what
+ * the nodes of the cluster then hold has the steps that were left, their sources excepted, and ends in the new
+ * layout. No partition has more where the former rows have at most eight ids.
+ * Refusals: as dezghuri_count_moves; then 8, moves shorter than four cells for each step. */
+uint32_t dezghuri_moves(const uint8_t *record, size_t record_len,
+                        const uint32_t *former, size_t former_len,
+                        const uint32_t *assignment, size_t assignment_len,
+                        uint32_t *moves, size_t moves_len,
+                        uint32_t *answer, size_t answer_len);
 
 #ifdef __cplusplus
 }

@@ -208,7 +208,7 @@ pub(crate) fn narrow<T: TryFrom<u32>>(number: u32) -> T {
 #[cfg(test)]
 mod tests {
     use super::*;
-    use crate::{Refusal, ENOUGH};
+    use crate::{Held, Refusal, ENOUGH};
 
     fn sample() -> Cluster {
         let node = |id, zone, capacity, ceiling| Node {
@@ -300,6 +300,8 @@ mod tests {
             let planned = cluster.plan(ENOUGH).unwrap_err();
             assert_eq!(cluster.check(&Layout::default(), 1), Err(planned));
             assert_eq!(cluster.figures(&Layout::default(), 1), Err(planned));
+            let moves = cluster.moves(&Held::default(), &Layout::default());
+            assert_eq!(moves, Err(planned));
             (planned.refusal, planned.place.expect("it has a place"))
         };
         let second = |id| Place::NodeAt { index: 1, id };

@@ -7,6 +7,18 @@
 pub const ROW_CELLS: usize = 8;
 /// Least length of a former layout or an assignment: 256 rows.
 pub const LAYOUT_CELLS: usize = 2048;
+/// Cells of one row of what is held.
+pub const WIDE_ROW_CELLS: usize = 16;
+/// Least length of what is held: 256 rows of sixteen cells.
+pub const WIDE_CELLS: usize = 4096;
+/// Cells of one step: kind, partition, node and source.
+pub const STEP_CELLS: usize = 4;
+/// A length that is enough for every list of [`moves`]: 24 steps for each of 256 partitions.
+pub const MOVES_CELLS: usize = 24576;
+/// The kind of a step that sends a copy to the node.
+pub const SEND: u32 = 0;
+/// The kind of a step that drops the copy at the node.
+pub const DROP: u32 = 1;
 /// Least length of planning's scratch.
 pub const SCRATCH_CELLS: usize = 16384;
 /// Least length of the figures.
@@ -25,6 +37,8 @@ pub const FIGURES_ANSWER: usize = 5;
 pub const WRITE_LAYOUT_ANSWER: usize = 2;
 /// Least length of [`change`]'s answer.
 pub const CHANGE_ANSWER: usize = 137;
+/// Least length of the answer of [`moves`] and [`count_moves`].
+pub const MOVES_ANSWER: usize = 4;
 /// Least length of [`change`]'s reverse: that of the longest field of a change.
 pub const REVERSE_BYTES: usize = 15;
 /// Length of the longest cluster record.
@@ -117,6 +131,30 @@ mod c {
             at: usize,
             reverse: *mut u8,
             reverse_len: usize,
+            answer: *mut u32,
+            answer_len: usize,
+        ) -> u32;
+
+        pub fn dezghuri_count_moves(
+            record: *const u8,
+            record_len: usize,
+            former: *const u32,
+            former_len: usize,
+            assignment: *const u32,
+            assignment_len: usize,
+            answer: *mut u32,
+            answer_len: usize,
+        ) -> u32;
+
+        pub fn dezghuri_moves(
+            record: *const u8,
+            record_len: usize,
+            former: *const u32,
+            former_len: usize,
+            assignment: *const u32,
+            assignment_len: usize,
+            moves: *mut u32,
+            moves_len: usize,
             answer: *mut u32,
             answer_len: usize,
         ) -> u32;
@@ -296,6 +334,50 @@ pub fn change(
             at,
             reverse.as_mut_ptr(),
             reverse.len(),
+            answer.as_mut_ptr(),
+            answer.len(),
+        )
+    }
+}
+
+/// Counts the steps from what is held, sixteen cells to a partition, to the layout in `assignment`.
+pub fn count_moves(record: &[u8], former: &[u32], assignment: &[u32], answer: &mut [u32]) -> u32 {
+    // SAFETY: each pointer and length are those of one live slice, and the slice lent by `&mut`
+    // overlaps no other.
+    unsafe {
+        c::dezghuri_count_moves(
+            record.as_ptr(),
+            record.len(),
+            former.as_ptr(),
+            former.len(),
+            assignment.as_ptr(),
+            assignment.len(),
+            answer.as_mut_ptr(),
+            answer.len(),
+        )
+    }
+}
+
+/// Lists the steps from what is held to the layout in `assignment`, four cells each, in `moves`.
+pub fn moves(
+    record: &[u8],
+    former: &[u32],
+    assignment: &[u32],
+    moves: &mut [u32],
+    answer: &mut [u32],
+) -> u32 {
+    // SAFETY: each pointer and length are those of one live slice, and no slice lent by `&mut`
+    // overlaps another.
+    unsafe {
+        c::dezghuri_moves(
+            record.as_ptr(),
+            record.len(),
+            former.as_ptr(),
+            former.len(),
+            assignment.as_ptr(),
+            assignment.len(),
+            moves.as_mut_ptr(),
+            moves.len(),
             answer.as_mut_ptr(),
             answer.len(),
         )

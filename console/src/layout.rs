@@ -17,12 +17,7 @@ impl Layout {
     /// The ids of a partition's row.
     pub fn row(&self, partition: u8) -> &[u32] {
         let at = usize::from(partition) * ffi::ROW_CELLS;
-        let row = &self.cells[at..at + ffi::ROW_CELLS];
-        let ids = row
-            .iter()
-            .rposition(|id| *id != 0)
-            .map_or(0, |last| last + 1);
-        &row[..ids]
+        without_zeros(&self.cells[at..at + ffi::ROW_CELLS])
     }
 
     /// Sets a partition's row. Whether the ids are acceptable is judged by whoever uses the layout.
@@ -65,6 +60,12 @@ impl Layout {
     pub(crate) fn cells_mut(&mut self) -> &mut [u32] {
         &mut *self.cells
     }
+}
+
+/// The cells of a row without the zeros at its end; one that stands before an id is not hidden.
+pub(crate) fn without_zeros(row: &[u32]) -> &[u32] {
+    let last = row.iter().rposition(|id| *id != 0);
+    &row[..last.map_or(0, |last| last + 1)]
 }
 
 impl Default for Layout {

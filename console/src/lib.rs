@@ -12,7 +12,10 @@
 //! Before planning, changes of the nodes are made on the cluster in hand: [`Cluster::change`] makes one
 //! [`Change`] and answers the one that reverses it, so that they can be undone in backward order.
 //!
-//! Plans, checks, figures, changes and records are the work of the C functions of
+//! After planning, [`Cluster::moves`] lists the transfers one after another, from what the nodes hold
+//! ([`Held`]) to the new layout: power may go after any of these steps, and a list made afresh goes on.
+//!
+//! Plans, checks, figures, changes, moves and records are the work of the C functions of
 //! `include/dezghuri.h`, whose contracts are proved; this library lends them their buffers and names
 //! their answers. [`ffi`] has them one for one.
 //!
@@ -56,6 +59,7 @@ mod diff;
 pub mod ffi;
 mod layout;
 mod losses;
+mod moves;
 mod plan;
 mod refusal;
 mod rewrite;
@@ -69,5 +73,6 @@ pub use description::{Description, Faults, Label, Note};
 pub use diff::{Diff, NodeDiff, Transfers};
 pub use layout::Layout;
 pub use losses::Losses;
+pub use moves::{Held, Step, StepKind};
 pub use plan::{Plan, Verdict, ENOUGH};
 pub use refusal::{NoRefusal, Place, Refusal, Refused};

@@ -149,6 +149,8 @@ pub enum Place {
     },
     /// The partition of a faulty row of a cluster's former layout.
     FormerRow(u8),
+    /// The partition of a faulty row of what is held.
+    HeldRow(u8),
     /// The partition of a faulty row.
     Partition(u32),
     /// The id of a node with too many copies.
@@ -164,6 +166,7 @@ impl fmt::Display for Place {
             Place::Redundancy => f.write_str("the zone redundancy"),
             Place::NodeAt { index, id } => write!(f, "nodes[{index}], id {id}"),
             Place::FormerRow(partition) => write!(f, "the former row of partition {partition}"),
+            Place::HeldRow(partition) => write!(f, "the held row of partition {partition}"),
             Place::Partition(partition) => write!(f, "partition {partition}"),
             Place::Node(id) => write!(f, "node {id}"),
         }
@@ -301,5 +304,6 @@ mod tests {
             Place::FormerRow(9).to_string(),
             "the former row of partition 9"
         );
+        assert_eq!(Place::HeldRow(9).to_string(), "the held row of partition 9");
     }
 }

@@ -1,4 +1,4 @@
-/* Calls each function of dezghuri.h from C and checks its answers on example A of the paper.
+/* Calls each function of dezghuri.h from C and checks its answers on example A of the paper, and of moves on E.
  * Prints what is wrong, and ends with status 1 if anything is. */
 #include "dezghuri.h"
 
@@ -39,6 +39,18 @@ static const uint8_t CHANGES[33] = {
     22, 0, 8, 0, 0, 0, 3, 0, 0, 0, 90,
 };
 
+/* Example E: k 1, R 1, Z 1; nodes 1/1/10 and 2/1/4 with the ceiling 256. Both partitions lie at node 2. */
+static const uint8_t MOVING[42] = {
+    1, 0, 1, 1, 2, 0, 1, 1, 3, 0, 1, 1,
+    4, 0, 12, 0, 0, 0, 1, 0, 1, 0, 0, 0, 10, 1, 0,
+    4, 0, 12, 0, 0, 0, 2, 0, 1, 0, 0, 0, 4, 1, 0,
+};
+
+/* Its steps to the rows 1 and 1: each partition is sent to node 1 from node 2, and then dropped there. */
+static const uint32_t STEPS[16] = {
+    DEZGHURI_SEND, 0, 1, 2, DEZGHURI_DROP, 0, 2, 0, DEZGHURI_SEND, 1, 1, 2, DEZGHURI_DROP, 1, 2, 0,
+};
+
 /* What the buffers are filled with before a call; each has one cell more than it needs. */
 #define PATTERN 0xA5A5A5A5u
 enum {
@@ -48,6 +60,9 @@ enum {
     ANSWER = DEZGHURI_READ_CLUSTER_ANSWER,
     REVERSE = DEZGHURI_REVERSE_BYTES,
     MADE = DEZGHURI_CHANGE_ANSWER,
+    WIDE = DEZGHURI_WIDE_CELLS,
+    WIDE_ROW = DEZGHURI_WIDE_ROW_CELLS,
+    MOVES = DEZGHURI_MOVES_ANSWER,
 };
 static uint32_t cells[CELLS + 1];
 static uint32_t scratch[SCRATCH + 1];
@@ -55,6 +70,8 @@ static uint32_t figures[FIGURES + 1];
 static uint32_t answer[ANSWER + 1];
 static uint8_t reverse[REVERSE + 1];
 static uint32_t made[MADE + 1];
+static uint32_t wide[WIDE + 1];
+static uint32_t moves[17];
 
 static void fill(uint32_t *buffer, size_t length) {
     for (size_t i = 0; i < length; i++) buffer[i] = PATTERN;
@@ -108,6 +125,22 @@ static uint32_t change(const uint8_t *record, size_t length, const uint8_t *chan
     memset(reverse, 0x5A, REVERSE + 1);
     fill(made, MADE + 1);
     return dezghuri_change(record, length, changes, changes_len, at, reverse, REVERSE, made, MADE);
+}
+
+/* The steps from what is held in `wide` to the rows in `cells`, in so many cells; counted, too, where the list is
+ * not refused for want of these. */
+static uint32_t list(const uint8_t *record, size_t length, size_t held, size_t rows, size_t room) {
+    static uint32_t counted[MOVES + 1];
+    fill(answer, ANSWER + 1);
+    fill(counted, MOVES + 1);
+    fill(moves, 17);
+    const uint32_t refusal = dezghuri_moves(record, length, wide, held, cells, rows, moves, room, answer, MOVES);
+    const uint32_t count = dezghuri_count_moves(record, length, wide, held, cells, rows, counted, MOVES);
+    const int is_short = refusal == DEZGHURI_SHORT && held >= WIDE && rows >= CELLS;
+    EXPECT(is_short || (count == refusal && holds(counted, answer, MOVES)));
+    EXPECT(answer[MOVES] == PATTERN && counted[MOVES] == PATTERN);
+    EXPECT(all(moves, 4 * answer[3], 17, PATTERN));
+    return refusal;
 }
 
 /* The record of the cluster in `made`, which has no former rows; its length. */
@@ -307,6 +340,59 @@ static void refused_changes(void) {
     EXPECT(kept() && all(made, 0, MADE + 1, PATTERN));
 }
 
+/* Fills `wide` and `cells` with what is held, partition 0 at these nodes and 1 at node 2, and with the rows 1 and 1;
+ * what is not looked at keeps the pattern. */
+static void hold(uint32_t first, uint32_t second) {
+    fill(wide, WIDE + 1);
+    fill(cells, CELLS + 1);
+    memset(wide, 0, 2 * WIDE_ROW * sizeof *wide);
+    memset(cells, 0, CELLS * sizeof *cells);
+    wide[0] = first, wide[1] = second, wide[WIDE_ROW] = 2;
+    cells[0] = 1, cells[DEZGHURI_ROW_CELLS] = 1;
+}
+
+static void moving(void) {
+    static uint32_t wide_before[WIDE + 1], cells_before[CELLS + 1];
+    static const uint32_t numbers[MOVES] = {0, 0, 0, 4}, left[MOVES] = {0, 0, 0, 3};
+    hold(2, 9); /* node 9 is gone */
+    memcpy(wide_before, wide, sizeof wide);
+    memcpy(cells_before, cells, sizeof cells);
+    EXPECT(list(MOVING, 42, WIDE + 1, CELLS + 1, 17) == DEZGHURI_OK);
+    EXPECT(holds(answer, numbers, MOVES) && holds(moves, STEPS, 16));
+    EXPECT(list(MOVING, 42, WIDE, CELLS, 16) == DEZGHURI_OK && holds(moves, STEPS, 16));
+    EXPECT(list(MOVING, 42, WIDE, CELLS, 15) == DEZGHURI_SHORT && all(answer, 0, MOVES, 0));
+    EXPECT(holds(wide, wide_before, WIDE + 1) && holds(cells, cells_before, CELLS + 1));
+
+    hold(1, 2); /* the power went after the first step */
+    EXPECT(list(MOVING, 42, WIDE, CELLS, 12) == DEZGHURI_OK);
+    EXPECT(holds(answer, left, MOVES) && holds(moves, STEPS + 4, 12));
+    hold(1, 0);
+    wide[WIDE_ROW] = 1;
+    EXPECT(list(MOVING, 42, WIDE, CELLS, 0) == DEZGHURI_OK && all(answer, 0, MOVES, 0));
+}
+
+/* Each call has what is refused later, too. */
+static void refused_moves(void) {
+    uint8_t other[42];
+    memcpy(other, MOVING, 42);
+    other[24] = 1; /* node 1 takes one of the two copies */
+    hold(2, 2);
+    cells[DEZGHURI_ROW_CELLS] = 3;
+    EXPECT(list(other, 41, 0, 0, 0) == DEZGHURI_CUT && answer[1] == 27 && answer[2] == 0);
+    EXPECT(list(other, 42, WIDE - 1, CELLS, 0) == DEZGHURI_SHORT && all(answer, 0, MOVES, 0));
+    EXPECT(list(other, 42, WIDE, CELLS - 1, 0) == DEZGHURI_SHORT && all(answer, 0, MOVES, 0));
+    EXPECT(list(other, 42, WIDE, CELLS, 0) == DEZGHURI_ROW && answer[2] == 1 && answer[3] == 0);
+    cells[DEZGHURI_ROW_CELLS] = 1;
+    EXPECT(list(other, 42, WIDE, CELLS, 0) == DEZGHURI_CAPACITY && answer[2] == 1 && answer[3] == 0);
+    EXPECT(list(MOVING, 42, WIDE, CELLS, 0) == DEZGHURI_ORDER && all(answer, 0, MOVES, 0));
+
+    fill(answer, ANSWER + 1);
+    fill(moves, 17);
+    EXPECT(dezghuri_moves(MOVING, 42, wide, WIDE, cells, CELLS, moves, 17, answer, MOVES - 1) == DEZGHURI_SHORT);
+    EXPECT(dezghuri_count_moves(MOVING, 42, wide, WIDE, cells, CELLS, answer, MOVES - 1) == DEZGHURI_SHORT);
+    EXPECT(all(moves, 0, 17, PATTERN) && all(answer, 0, ANSWER + 1, PATTERN));
+}
+
 int main(void) {
     reading_a_cluster();
     planning();
@@ -317,5 +403,7 @@ int main(void) {
     ceilings();
     changing_and_undoing();
     refused_changes();
+    moving();
+    refused_moves();
     return faults != 0;
 }

@@ -5,6 +5,7 @@ mod compared;
 mod folder;
 mod lost;
 mod manual;
+mod moved;
 mod objects;
 mod page;
 mod printed;
@@ -483,6 +484,7 @@ fn help_and_version_are_printed() {
         "show home.txt last --help",
         "record -h",
         "diff --help",
+        "moves -h",
         "what-if -h",
     ] {
         let help = folder.call(line);
@@ -492,6 +494,6 @@ fn help_and_version_are_printed() {
     for line in ["--version", "-V", "version"] {
         let version = folder.call(line);
         assert_eq!((version.status, version.err.as_str()), (0, ""), "{line}");
-        assert_eq!(version.out, "dezghuri 0.6.0\n", "{line}");
+        assert_eq!(version.out, "dezghuri 0.7.0\n", "{line}");
     }
 }

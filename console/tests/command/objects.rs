@@ -151,6 +151,7 @@ fn every_name_is_in_the_document() {
         include_str!("show-box.json"),
         include_str!("show-all.json"),
         include_str!("diff.json"),
+        include_str!("moves.json"),
         include_str!("what-if.json"),
         include_str!("staged/stage.json"),
         include_str!("staged/undo.json"),

@@ -233,6 +233,69 @@ fn map_agrees_with_table(page: &Element) {
     }
 }
 
+/// The numbers of a cell, each apart from the others.
+fn numbers(text: &str) -> Vec<u64> {
+    let parts = text.split(|c: char| !c.is_ascii_digit());
+    parts.filter_map(|part| part.parse().ok()).collect()
+}
+
+/// The steps are those of the table of the partitions: what comes, from the first box that has it still, and then
+/// what goes; numbered without a gap.
+fn steps_agree_with_table(page: &Element) {
+    let mut next = 1;
+    let mut table = table(page);
+    let lines = page.with_id("steps").named("tr").into_iter();
+    for line in lines.filter(|line| !line.named("td").is_empty()) {
+        let cells = line.named("td");
+        let cell = |place: usize| numbers(&cells[place].text());
+        let [before, after] = table.remove(&cell(0)[0]).expect("a partition moves once");
+        let of = |row: &BTreeMap<u32, String>, tag: &str| -> Vec<u64> {
+            let ids = row.iter().filter(|(_, is)| *is == tag);
+            ids.map(|(id, _)| u64::from(*id)).collect()
+        };
+        let (sends, drops) = (of(&after, "b"), of(&before, "s"));
+        assert_eq!([cell(1), cell(3)], [sends.clone(), drops.clone()]);
+        let here = before.iter().find(|(_, tag)| *tag != "del");
+        let source = here.map(|(id, _)| u64::from(*id));
+        let source = source.filter(|_| !sends.is_empty());
+        assert_eq!(cell(2), Vec::from_iter(source));
+        let is_lost = !sends.is_empty() && here.is_none();
+        assert_eq!(cells[2].text() == "no source", is_lost);
+        let (first, last) = (next, next + sends.len() + drops.len() - 1);
+        let told = numbers(&line.named("th")[0].text());
+        assert_eq!([told[0], told[told.len() - 1]], [first as u64, last as u64]);
+        next = last + 1;
+    }
+    for [before, after] in table.values() {
+        assert!(before.keys().eq(after.keys()) || before.values().any(|tag| tag == "del"));
+        assert!(!after.values().any(|tag| tag == "b"));
+    }
+}
+
+/// What each box receives and drops is what the table of the boxes says, and so many copies are sent to it.
+fn senders_agree_with_boxes(page: &Element) {
+    let mut all = [0, 0];
+    for line in page.with_id("moves").named("tr").into_iter().skip(1) {
+        let id = line.named("th")[0].text();
+        let cells = line.named("td");
+        let moved = [1, 4].map(|place: usize| number(&cells[place].text()));
+        if id == "all" {
+            assert_eq!(moved, all);
+            continue;
+        }
+        let boxes = page.with_id(&format!("box-{id}"));
+        let boxes = boxes.named("td");
+        let told = [2, 1].map(|place| number(&boxes[boxes.len() - place].text()));
+        assert_eq!(moved, told, "box {id}");
+        let from = cells[3].text();
+        let copies = from.split('(').skip(1);
+        let copies = copies.filter_map(|part| part.split(')').next());
+        assert_eq!(copies.map(number).sum::<u64>(), moved[0], "box {id}");
+        all = [all[0] + moved[0], all[1] + moved[1]];
+    }
+    assert!(all[0] > 0, "something is sent");
+}
+
 /// The disks of the small cluster.
 fn small_capacities() -> BTreeMap<u32, u64> {
     BTreeMap::from([(1, 110), (3, 60), (4, 60), (u32::MAX, 0)])
@@ -262,6 +325,8 @@ fn bars_and_map_agree_with_the_tables() {
     let page = page_of(&small("report-agree"), "small.txt next --former last");
     bars_add_up(&page, &small_capacities(), 110);
     map_agrees_with_table(&page);
+    steps_agree_with_table(&page);
+    senders_agree_with_boxes(&page);
 
     let folder = planned_home("report-home");
     assert_eq!(
@@ -273,6 +338,10 @@ fn bars_and_map_agree_with_the_tables() {
     let capacities = [(1, tb(4)), (2, tb(2)), (3, tb(4)), (4, tb(2)), (6, tb(4))];
     bars_add_up(&page, &BTreeMap::from(capacities), tb(4));
     map_agrees_with_table(&page);
+    steps_agree_with_table(&page);
+    senders_agree_with_boxes(&page);
+    let folded = page.with_id("steps").named("summary");
+    assert_eq!(folded[0].text(), "192 partitions, 242 steps");
     let told = "3 copies of everything, in at least 2 zones. Each partition may grow to 19,531 MB: \
                 4,999 GB in all. 198 copies (up to 3,867 GB) have to be sent, 44 dropped. No layout \
                 of this size needs fewer.";
@@ -298,8 +367,8 @@ fn scattered(first: u32, seed: u32) -> Vec<u8> {
     layout_record(8, 1, &rows)
 }
 
-/// The most boxes with the longest ids, names and zones, all but one new, each with a ceiling that it may
-/// not reach; eight copies each.
+/// The most boxes with the longest ids, names and zones, each with a ceiling that it may not reach; eight copies
+/// each. All but one are new, or all were there before and nearly all copies move.
 #[test]
 fn the_largest_page_is_not_long() {
     let folder = Folder::new("report-largest");
@@ -313,15 +382,31 @@ fn the_largest_page_is_not_long() {
     });
     let text = format!("copies 8\nzones 1\n{}", boxes.collect::<String>());
     folder.write("home.txt", text);
-    folder.write("last", scattered(4_294_967_200, 1));
     folder.write("next", scattered(4_294_967_231, 2));
-    let page = page_of(&folder, "home.txt next --former last");
-    map_agrees_with_table(&page);
-    let bytes = folder.read("page.html");
-    assert!(bytes.len() < 400_000, "{}", bytes.len());
-    stands_alone(std::str::from_utf8(&bytes).expect("text"));
+    for first in [4_294_967_200, 4_294_967_231] {
+        folder.write("last", scattered(first, 1));
+        let page = page_of(&folder, "home.txt next --former last");
+        map_agrees_with_table(&page);
+        steps_agree_with_table(&page);
+        senders_agree_with_boxes(&page);
+        let bytes = folder.read("page.html");
+        assert!(bytes.len() < 500_000, "{}", bytes.len());
+        stands_alone(std::str::from_utf8(&bytes).expect("text"));
+    }
     let again = folder.call("report home.txt next --former last --out page.html");
     assert_eq!(again.status, 0, "it is known as a page: {}", again.err);
+}
+
+/// Where nothing moves, and where it is not known what was there before, there are no steps to tell.
+#[test]
+fn a_page_without_moves_has_no_steps() {
+    let folder = small("report-no-steps");
+    for call in ["small.txt next", "small.txt next --former next"] {
+        let page = page_of(&folder, call);
+        let has = |id: &str| page.all().iter().any(|element| element.get("id") == id);
+        assert!(has("partitions"), "{call}");
+        assert!(!has("moves") && !has("steps"), "{call}");
+    }
 }
 
 #[test]

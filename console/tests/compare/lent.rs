@@ -259,3 +259,47 @@ pub fn change(record: &[u8], changes: &[u8], at: usize, r: &mut Random) -> Chang
         cluster: cluster_of(&answer[5..ffi::CHANGE_ANSWER]),
     }
 }
+
+/// The number of steps from what is held to an assignment; refused, the refusal, byte and place.
+pub fn count_moves(
+    record: &[u8],
+    former: &[u32],
+    assignment: &[u32],
+    r: &mut Random,
+) -> Result<u32, (u32, u64, u32)> {
+    let lent = lend(ffi::MOVES_ANSWER, r);
+    let mut answer = lent.clone();
+    let refusal = ffi::count_moves(record, former, assignment, &mut answer);
+    kept(&answer, &lent, ffi::MOVES_ANSWER);
+    steps_answered(refusal, &answer)
+}
+
+/// The steps that a list makes in so many cells; refused, the refusal, byte and place.
+pub fn moves(
+    record: &[u8],
+    former: &[u32],
+    assignment: &[u32],
+    room: usize,
+    r: &mut Random,
+) -> Result<Vec<[u32; 4]>, (u32, u64, u32)> {
+    let lent = (pattern(room, r), lend(ffi::MOVES_ANSWER, r));
+    let (mut moves, mut answer) = lent.clone();
+    let refusal = ffi::moves(record, former, assignment, &mut moves, &mut answer);
+    kept(&answer, &lent.1, ffi::MOVES_ANSWER);
+    let steps = steps_answered(refusal, &answer);
+    let written = 4 * steps.unwrap_or(0) as usize;
+    kept(&moves, &lent.0, written);
+    steps?;
+    let step = |cells: &[u32]| [cells[0], cells[1], cells[2], cells[3]];
+    Ok(moves[..written].chunks(4).map(step).collect())
+}
+
+/// The number of steps of an answer.
+fn steps_answered(refusal: u32, answer: &[u32]) -> Result<u32, (u32, u64, u32)> {
+    if refusal != 0 {
+        assert_eq!(answer[3], 0, "steps of a refusal");
+        return Err((refusal, byte(answer), answer[2]));
+    }
+    assert_eq!(answer[..3], [0; 3], "byte and place without a refusal");
+    Ok(answer[3])
+}

@@ -1,6 +1,6 @@
 //! The C functions compared with unverified programs, each written from the papers alone: a listing
-//! of all layouts, the report's method, a parser, changes of the nodes, and what the papers say of lent
-//! cells.
+//! of all layouts, the report's method, a parser, changes of the nodes, the list of moves, and what the
+//! papers say of lent cells.
 //!
 //! Every run tries the same cases. `make soak` tries many more: the tests that are ignored here.
 
@@ -12,6 +12,7 @@ mod counts;
 mod cycles;
 mod demands;
 mod lent;
+mod moves;
 mod paper;
 mod paths;
 mod records;

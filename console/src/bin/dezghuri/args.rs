@@ -38,6 +38,7 @@ pub enum Command {
         old: PathBuf,
         new: PathBuf,
     },
+    Moves(Moves),
     WhatIf {
         file: PathBuf,
         former: Option<PathBuf>,
@@ -69,6 +70,18 @@ pub struct Plan {
     pub out: Option<PathBuf>,
     pub allowance: u16,
     pub replace: bool,
+}
+
+/// The steps from one layout to another.
+#[derive(Debug, PartialEq, Eq)]
+pub struct Moves {
+    pub source: Source,
+    pub old: PathBuf,
+    pub new: PathBuf,
+    /// Whether there is a list for each box.
+    pub by_box: bool,
+    /// How many steps are done; without a number the whole list is asked for.
+    pub done: Option<usize>,
 }
 
 /// A page that shows a layout.
@@ -132,7 +145,7 @@ struct Grammar {
 }
 
 /// The commands that take words, each with what they may be.
-const GRAMMARS: [(&str, Grammar); 10] = [
+const GRAMMARS: [(&str, Grammar); 11] = [
     (
         "plan",
         Grammar {
@@ -151,6 +164,14 @@ const GRAMMARS: [(&str, Grammar); 10] = [
         },
     ),
     ("diff", OF_A_LAYOUT),
+    (
+        "moves",
+        Grammar {
+            options: &["--done"],
+            repeated: &[],
+            flags: &["--by-box", STAGED, JSON],
+        },
+    ),
     (
         "what-if",
         Grammar {
@@ -216,7 +237,7 @@ pub fn command_name(word: &OsString) -> Option<&'static str> {
 
 /// What is told where no command is named.
 const NOTHING_TO_DO: &str =
-    "say what to do: plan, check, show, diff, what-if, stage, undo, apply, report, record or help";
+    "say what to do: plan, check, show, diff, moves, what-if, stage, undo, apply, report, record or help";
 
 /// The call that the words make, or what is wrong with them.
 pub fn parse(words: impl IntoIterator<Item = OsString>) -> Result<Call, String> {
@@ -239,6 +260,7 @@ pub fn parse(words: impl IntoIterator<Item = OsString>) -> Result<Call, String> 
         "check" => check(words),
         "show" => show(words),
         "diff" => diff(words),
+        "moves" => moves(words),
         "what-if" => what_if(words),
         "report" => report(words),
         "stage" => staging::stage(words),
@@ -332,6 +354,23 @@ fn diff(words: Words) -> Result<Command, String> {
         old: old.into(),
         new: new.into(),
     })
+}
+
+fn moves(mut words: Words) -> Result<Command, String> {
+    let wanted =
+        |word: &OsString| format!("--done takes how many steps are done, and not {word:?}");
+    let done = words.option("--done");
+    let done = done.map(|word| number(&word).ok_or_else(|| wanted(&word)));
+    let done = done.transpose()?;
+    let (by_box, staged) = (words.flag("--by-box"), words.flag(STAGED));
+    let [file, old, new] = words.places("a FILE, an OLD and a NEW layout")?;
+    Ok(Command::Moves(Moves {
+        source: source(file, staged),
+        old: old.into(),
+        new: new.into(),
+        by_box,
+        done,
+    }))
 }
 
 fn what_if(mut words: Words) -> Result<Command, String> {
@@ -581,6 +620,7 @@ mod tests {
             "show --speed 7 -h",
             "record home.txt --out --help",
             "diff -h",
+            "moves home.txt --done -h",
             "what-if --help",
             "report home.txt -h",
         ] {
@@ -621,6 +661,24 @@ mod tests {
     }
 
     #[test]
+    fn steps_are_listed_whole_by_box_or_from_a_step_on() {
+        let listed = |by_box, done, staged| {
+            Ok(Command::Moves(Moves {
+                source: source("home.txt".into(), staged),
+                old: "last".into(),
+                new: "next".into(),
+                by_box,
+                done,
+            }))
+        };
+        let moves = |words: &str| called(&format!("moves home.txt last next {words}"));
+        assert_eq!(moves(""), listed(false, None, false));
+        assert_eq!(moves("--done 37"), listed(false, Some(37), false));
+        let all = moves("--by-box --done=0 --staged");
+        assert_eq!(all, listed(true, Some(0), true));
+    }
+
+    #[test]
     fn changes_come_in_their_order() {
         let words = [
             "what-if", "home.txt", "--resize", "3=1.5T", "--add", "attic 4T",
@@ -651,6 +709,7 @@ mod tests {
             "check --json home.txt last",
             "show home.txt last 7 --json",
             "diff home.txt last next --json",
+            "moves home.txt last next --json",
             "what-if home.txt --remove 2 --json",
             "stage home.txt add 7 attic 4T --json",
             "undo --json home.txt",
@@ -687,7 +746,7 @@ mod tests {
         let faults = [
             (
                 "",
-                "say what to do: plan, check, show, diff, what-if, stage, undo, apply, report, \
+                "say what to do: plan, check, show, diff, moves, what-if, stage, undo, apply, report, \
                  record or help",
             ),
             ("plam home.txt", "there is no command \"plam\""),
@@ -762,6 +821,25 @@ mod tests {
             (
                 "what-if home.txt --remove 1 --former a --former b",
                 "--former is given twice",
+            ),
+        ];
+        told(&faults);
+    }
+
+    #[test]
+    fn faulty_words_for_steps_are_told() {
+        let faults = [
+            (
+                "moves home.txt last",
+                "a FILE, an OLD and a NEW layout is wanted, not 2 words",
+            ),
+            (
+                "moves home.txt last next --done -1",
+                "--done takes how many steps are done, and not \"-1\"",
+            ),
+            (
+                "moves home.txt last next --done some",
+                "--done takes how many steps are done, and not \"some\"",
             ),
         ];
         told(&faults);

@@ -3,6 +3,7 @@
 mod apply;
 mod check;
 mod diff;
+mod moves;
 mod plan;
 mod record;
 mod show;
@@ -79,6 +80,7 @@ pub fn run(command: &Command, warnings: &mut Vec<String>) -> Result<Answer, Fail
             what,
         } => show::run(source, layout, *what, warnings),
         Command::Diff { source, old, new } => diff::run(source, old, new, warnings),
+        Command::Moves(call) => moves::run(call, warnings),
         Command::WhatIf {
             file,
             former,

@@ -22,6 +22,11 @@ Plans where the copies of a cluster of storage boxes lie.
   dezghuri diff FILE OLD NEW
       shows what comes and goes from the layout OLD to the layout NEW, by box
       and by zone
+  dezghuri moves FILE OLD NEW [--by-box] [--done N]
+      lists the transfers from the layout OLD to the layout NEW one after
+      another, or makes a list for each box; with --done what is left after the
+      first N steps. It may be stopped after any step: each partition then has
+      all its old copies that are left, or all its new ones
   dezghuri what-if FILE [--former LAST] CHANGE ..
       shows what changes of the boxes would bring, each alone and all together:
       size, gain and copies to send; nothing is written. A CHANGE is
@@ -61,11 +66,11 @@ which a sixteenth stays free. A zone is a name of one word, or a number from 0
 to 65535. A ceiling is a number from 0 to 256, for a large disk on a thin line;
 a box without one may hold every partition. A # begins a remark.
 
-With --staged, plan, check, show, diff and report take the boxes of FILE with
-all staged changes made. What is staged is kept in FILE.staged.
+With --staged, plan, check, show, diff, moves and report take the boxes of FILE
+with all staged changes made. What is staged is kept in FILE.staged.
 
-With --json, plan, check, show, diff, what-if, stage, undo and apply print one
-JSON object.
+With --json, plan, check, show, diff, moves, what-if, stage, undo and apply
+print one JSON object.
 
 Nothing is written before the report is printed. A layout that is there already
 is replaced only where it is the --former of this plan, or with --replace; it is

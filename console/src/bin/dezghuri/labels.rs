@@ -25,6 +25,14 @@ pub fn in_words(described: &Description, id: u32) -> String {
     }
 }
 
+/// A box among many: its id, with its name in brackets where it has one.
+pub fn named(described: &Description, id: u32) -> String {
+    match of(described, id).name {
+        name if name.is_empty() => format!("box {id}"),
+        name => format!("box {id} ({name})"),
+    }
+}
+
 /// The box as an object: its id, what it is called, and whether the file has it.
 pub fn json(described: &Description, id: u32) -> Json {
     let label = described.label(id);
@@ -116,5 +124,7 @@ mod tests {
         assert_eq!(in_words(&described, 1), "1 (study, home)");
         assert_eq!(in_words(&described, 2), "2 (home)");
         assert_eq!(in_words(&described, 3), "3 (not there any more)");
+        let named = [1, 2, 3].map(|id| named(&described, id));
+        assert_eq!(named, ["box 1 (study)", "box 2", "box 3"]);
     }
 }

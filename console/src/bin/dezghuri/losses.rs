@@ -32,14 +32,16 @@ pub fn in_words(cluster: &Cluster) -> Vec<String> {
     lines
 }
 
-fn has(partitions: &[u8]) -> &'static str {
+/// The verb for so many partitions.
+pub fn has(partitions: &[u8]) -> &'static str {
     match partitions.len() {
         1 => "has",
         _ => "have",
     }
 }
 
-fn first_few(partitions: &[u8]) -> String {
+/// The first few partitions, and how many there are besides.
+pub fn first_few(partitions: &[u8]) -> String {
     let named: Vec<String> = partitions.iter().take(NAMED).map(u8::to_string).collect();
     let named = named.join(", ");
     match partitions.len().saturating_sub(NAMED) {

@@ -4,6 +4,7 @@ mod bars;
 mod facts;
 mod html;
 mod map;
+mod moves;
 mod tables;
 mod words;
 
@@ -21,7 +22,7 @@ use std::path::Path;
 pub use html::is_page;
 
 /// No page is longer: boxes, partitions and the length of the names that are shown have their limits.
-pub const LONGEST_PAGE: u64 = 400_000;
+pub const LONGEST_PAGE: u64 = 500_000;
 
 /// The page of a layout, or of a cluster that has none: that page says why, and the status is 1.
 pub fn run(call: &args::Report, warnings: &mut Vec<String>) -> Result<Answer, Failure> {

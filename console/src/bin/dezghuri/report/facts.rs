@@ -3,7 +3,7 @@
 use crate::labels;
 use crate::units::{count, Unit};
 use crate::why;
-use dezghuri::{Cluster, Description, Layout, Plan, Refused, ENOUGH};
+use dezghuri::{Cluster, Description, Held, Layout, Plan, Refused, Step, ENOUGH};
 use std::collections::BTreeSet;
 
 /// So many boxes that are gone are drawn; a cluster has no more, but a damaged record may name more.
@@ -40,6 +40,8 @@ pub struct Laid {
     /// The rows of the partitions before and after.
     pub before: Layout,
     pub after: Layout,
+    /// The steps from the ones to the others; none without a former layout.
+    pub steps: Vec<Step>,
 }
 
 /// A row of cells for each box: those of the cluster by id, and those that are gone.
@@ -90,6 +92,12 @@ impl<'a> Facts<'a> {
 
     pub fn has_former(&self) -> bool {
         self.names.former.is_some()
+    }
+
+    /// Whether copies have to be sent or dropped.
+    pub fn has_steps(&self) -> bool {
+        let laid = self.laid.as_ref();
+        laid.is_ok_and(|laid| !laid.steps.is_empty())
     }
 
     pub fn has_ceilings(&self) -> bool {
@@ -149,6 +157,7 @@ impl Laid {
             former_size: former.map(|former| former.size.into()),
             before: before.clone(),
             after: plan.layout.clone(),
+            steps: cluster.moves(&Held::from(before), &plan.layout)?,
         })
     }
 

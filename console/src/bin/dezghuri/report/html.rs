@@ -1,7 +1,7 @@
 //! The page as a whole, and the writing of text into it.
 
 use super::facts::{Facts, Laid};
-use super::{bars, map, tables, words};
+use super::{bars, map, moves, tables, words};
 
 /// How each page begins; by this and its end a page is known, whatever its version.
 const BEGINNING: &str = "<!DOCTYPE html>\n<html lang=\"en\">\n<head>\n<meta charset=\"utf-8\"/>\n\
@@ -11,6 +11,8 @@ const END: &str = "</main>\n</body>\n</html>\n";
 const STYLE: &str = include_str!("style.css");
 /// What a page needs besides where some box has a ceiling.
 const CEILINGS: &str = include_str!("ceilings.css");
+/// What a page needs besides where copies move.
+const MOVES: &str = include_str!("moves.css");
 const PATTERNS: &str = include_str!("patterns.svg");
 
 /// Longer names are cut, so that one of them cannot take the page.
@@ -29,6 +31,7 @@ pub fn is_page(bytes: &[u8]) -> bool {
 pub fn page(facts: &Facts) -> String {
     let title = name(last_part(&facts.names.file));
     let ceilings = if facts.has_ceilings() { CEILINGS } else { "" };
+    let moves = if facts.has_steps() { MOVES } else { "" };
     let figures = match &facts.laid {
         Ok(laid) => of_layout(facts, laid),
         Err(_) => [
@@ -40,7 +43,7 @@ pub fn page(facts: &Facts) -> String {
     [
         BEGINNING,
         "<meta name=\"viewport\" content=\"width=device-width, initial-scale=1\"/>\n",
-        &format!("<title>Layout of {title}</title>\n<style>\n{STYLE}{ceilings}</style>\n</head>\n<body>\n"),
+        &format!("<title>Layout of {title}</title>\n<style>\n{STYLE}{ceilings}{moves}</style>\n</head>\n<body>\n"),
         PATTERNS,
         &format!("<main>\n<h1>Layout of {title}</h1>\n"),
         &first_words(facts),
@@ -82,9 +85,11 @@ fn of_layout(facts: &Facts, laid: &Laid) -> String {
     [
         bars::of_layout(facts, laid),
         map::of_layout(facts, laid),
+        moves::by_box(facts, laid),
         why,
         section("tables", "", &tables::boxes_and_zones(facts, laid)),
         tables::partitions(facts, laid),
+        moves::by_partition(laid),
     ]
     .concat()
 }
