@@ -3,14 +3,13 @@
 use Prim.Native.Nat.{ℕ, zero, suc, _+_, _≤_, _<_}
 use mathlib.Core.Path.{_≡_, refl, sym, ap, ap₂, _∙_}
 use mathlib.Core.Bool.{true}
-use mathlib.Core.List.{List, [], _++_, append-nil, append-assoc}
-use native.Mathlib.Nat.{add-zero, zero-add}
+use mathlib.Core.List.{List, _++_}
 use native.Mathlib.Omega.{arith}
 use lib.ListN.{length, length-append}
 use Rattle.sums.specs.TermsSums.{sumTo}
 use Rattle.sums.proofs.Tests.{every-at}
 use Rattle.sets.specs.ModelBits.{maskOf}
-use Rattle.cluster.specs.Terms.{bufferRows, wideRowCells, Topology, topology, partitions, Layout, row, mem, rising, ValidRow, rowAt, rowOf, idsIn, formed}
+use Rattle.cluster.specs.Terms.{wideRowCells, Topology, topology, partitions, Layout, row, mem, rising, ValidRow, rowAt, rowOf, idsIn, formed}
 use Rattle.cluster.specs.TermsReading.{Accepted}
 use Rattle.cluster.specs.declared.Cluster.{Cluster}
 use Rattle.cluster.specs.declared.Node.{Node}

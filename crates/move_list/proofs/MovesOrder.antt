@@ -1,12 +1,12 @@
 -- The order in which list and count find their faults, and what it means that they find none.
 -- Assumes nothing.
 use Prim.Native.Nat.{ℕ, _*_, _≤_, _<_}
-use mathlib.Core.Path.{_≡_, sym, ap, ap₂, _∙_, subst}
+use mathlib.Core.Path.{_≡_, sym, ap, _∙_, subst}
 use mathlib.Core.Bool.{Bool, true, cond}
 use mathlib.Core.List.{List, _++_}
 use mathlib.Core.Logic.{⊎-elim}
 use native.Mathlib.Omega.{arith}
-use lib.Dec.{ltb, eqb}
+use lib.Dec.{eqb}
 use lib.ListN.{length, drop}
 use borrow.Author.Tests.{lt-ltb, le-ltb, eq-eqb, ne-eqb}
 use Rattle.sums.specs.TermsSums.{everyTo}
@@ -19,7 +19,7 @@ use Rattle.cluster.proofs.Accepting.{accepted}
 use Rattle.cell_rows.specs.ModelRows.{HoldsRows}
 use Rattle.layouts.specs.declared.check.Checked.{Checked}
 use Rattle.layouts.specs.TermsCheck.{fault, checkOf}
-use Rattle.layouts.proofs.CheckMeaning.{passed-valid, valid-passed, check-layout, check-holds}
+use Rattle.layouts.proofs.CheckMeaning.{passed-valid, check-layout, check-holds}
 use Rattle.moves.specs.TermsMoves.{stepWidth, stepCells}
 use Rattle.move_list.specs.declared.Listed.{Listed}
 use Rattle.move_list.specs.TermsMoveList.{formerFault, movesFault, formerIn, newIn, movesIn, listed, countMoves, listMoves, cellsListed}

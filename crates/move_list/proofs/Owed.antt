@@ -5,21 +5,21 @@ use mathlib.Core.Path.{_≡_, sym, ap, ap₂, _∙_, subst}
 use mathlib.Core.Bool.{true}
 use mathlib.Core.List.{List, _++_, map}
 use native.Mathlib.Omega.{arith}
-use lib.ListN.{length, take, drop, length-append, length-map, length-take}
+use lib.ListN.{length, drop, length-append, length-map, length-take}
 use Rattle.sums.proofs.Tests.{every-all}
-use Rattle.cluster.specs.Terms.{mostCopies, rowCells, bufferRows, wideRowCells, wideCells, Topology, topology, partitions, Layout, row, rising, rowOf, idsIn, formed}
+use Rattle.cluster.specs.Terms.{rowCells, bufferRows, wideRowCells, Topology, topology, partitions, Layout, row, rising, rowOf, formed}
 use Rattle.cluster.specs.declared.Cluster.{Cluster}
 use Rattle.cluster.proofs.Accepting.{few-partitions}
 use Rattle.cell_rows.proofs.CellRows.{ids-length}
 use Rattle.layouts.specs.TermsCheck.{fault}
 use Rattle.layouts.specs.declared.check.Checked.{Checked}
-use Rattle.moves.specs.TermsMoves.{wideCellsOf, Move, send, discard, surviving, survivors, missing, rowMoves, movesFrom, movesOf, stepWidth, stepCells, held, FitsSixteen, heldAgain, Resumes}
+use Rattle.moves.specs.TermsMoves.{Move, send, discard, surviving, survivors, missing, rowMoves, movesFrom, movesOf, stepWidth, stepCells, held, FitsSixteen, heldAgain, Resumes}
 use Rattle.moves.proofs.Missing.{missing-few, surviving-few}
 use Rattle.moves.proofs.WideRows.{length-wideRows}
 use Rattle.moves.proofs.Promises.{kept-whole, ends-new, sources-hold, sends-sent, resumes, held-formed, held-read, length-wideCells}
 use Rattle.move_list.specs.declared.Listed.{Listed}
-use Rattle.move_list.specs.TermsMoveList.{movesFault, formerIn, newIn, movesIn, listed, countMoves, listMoves, cellsListed, heldCells, movesLeft, MadeAfresh, MovesOwed}
-use Rattle.move_list.proofs.MovesOrder.{formerFormed, all-pass, pass-all, new-accepted, new-valid, count-made, list-made, cells-made}
+use Rattle.move_list.specs.TermsMoveList.{movesFault, formerIn, newIn, movesIn, listed, countMoves, listMoves, heldCells, movesLeft, MadeAfresh, MovesOwed}
+use Rattle.move_list.proofs.MovesOrder.{all-pass, pass-all, new-accepted, new-valid, count-made, list-made, cells-made}
 use Rattle.move_list.proofs.AllRows.{former-row, former-rises}
 
 -- Rows with at most k moves each.
@@ -107,6 +107,7 @@ module _ (c : Cluster) (former assignment : List ℕ) (e : movesFault c former a
           ∙ ap (λ (l : List Move). stepCells t (formerIn c again) l ++ drop (stepWidth * length (movesLeft c former assignment k)) cells) same-moves;
       ends = λ p h.
           ap₂ (λ (H : Layout) (n : ℕ). held t H L n p) same-rows (ap length (sym (made-again .same))) ∙ made-again .ends p h;
+      onward = λ j p h. ap (λ (H : Layout). held t H L j p) same-rows ∙ made-again .onward j p h;
       fits = subst (λ (H : Layout). FitsSixteen t H L) (sym same-rows) (made-again .again);
     }
 

@@ -1,7 +1,7 @@
 -- What the list of moves and its count answer (2026-07): the refusals in their order, the number of steps, the lent cells; and what the list owes its
 -- callers where power goes.
 -- Assumes nothing.
-use Prim.Native.Nat.{ℕ, _+_, _-_, _*_, _≤_, _<_}
+use Prim.Native.Nat.{ℕ, _+_, _*_, _≤_, _<_}
 use mathlib.Core.Path.{_≡_}
 use mathlib.Core.Bool.{cond}
 use mathlib.Core.List.{List, _++_}
@@ -70,7 +70,8 @@ abbrev pub movesLeft : Cluster → List ℕ → List ℕ → ℕ → List Move
 movesLeft c former assignment k = drop k (movesIn c former assignment)
 
 -- The two calls made afresh after k steps, with `again` as the former layout: neither is refused, the list in no buffer that has room for the steps that
--- were left; these are its steps, their sources excepted; and it ends in the new layout. The sixteen suffice again.
+-- were left; these are its steps, their sources excepted; it ends in the new layout, and after j of its steps what is held is what the first list would
+-- have come to. The sixteen suffice again.
 pub record MadeAfresh (c : Cluster) (former assignment : List ℕ) (k : ℕ) (again : List ℕ) : Type 0 where
   pub counted : countMoves c again assignment ≡ listed 0 0 (length (movesLeft c former assignment k))
   pub accepted : (room : ℕ) → stepWidth * length (movesLeft c former assignment k) ≤ room
@@ -80,6 +81,8 @@ pub record MadeAfresh (c : Cluster) (former assignment : List ℕ) (k : ℕ) (ag
       ≡ stepCells (topology c) (formerIn c again) (movesLeft c former assignment k) ++ drop (stepWidth * length (movesLeft c former assignment k)) cells
   pub ends : (p : ℕ) → p < partitions (topology c)
       → held (topology c) (formerIn c again) (newIn c assignment) (length (movesLeft c former assignment k)) p ≡ row (newIn c assignment) p
+  pub onward : (j p : ℕ) → p < partitions (topology c)
+      → held (topology c) (formerIn c again) (newIn c assignment) j p ≡ held (topology c) (formerIn c former) (newIn c assignment) (k + j) p
   pub fits : FitsSixteen (topology c) (formerIn c again) (newIn c assignment)
 
 -- What holds of every list that is not refused.

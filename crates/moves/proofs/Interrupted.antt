@@ -6,6 +6,7 @@ use mathlib.Core.Logic.{_⊎_, inl, inr, ⊎-elim}
 use mathlib.Core.List.{List, [], _∷_, _++_, map, append-nil, append-assoc}
 use mathlib.Core.Bool.{Bool, true, false, cond}
 use native.Mathlib.Omega.{arith}
+use lib.Dec.{eqb}
 use lib.ListN.{length, take, drop}
 use borrow.Author.Tests.{eq-eqb, ne-eqb}
 use Rattle.sums.proofs.Sum.{eq-or-ne}
@@ -111,6 +112,25 @@ module _ (H L : ℕ → List ℕ) (rh : (p : ℕ) → rising (H p) ≡ true) (rl
           let t = sym (ap (λ (x : List Move). x ++ movesFrom H L (suc p) n) q) ∙ e in
           let s = subst (λ (x : Move). RowStep p (H p) (L p) x k) (first-move t) (row-step p (H p) (L p) (rh p) (rl p) a k q) in
           subst (λ (x : List Move). Step H L p (suc n) m x) (rest-is t) (here m k p n s)
+
+-- ---- moves one after the other
+
+-- What is held of a partition after a move depends on what was held of it alone,
+made-cong : (m : Move) (H K : ℕ → List ℕ) (p : ℕ) → H p ≡ K p → made m H p ≡ made m K p
+unfolding made
+made-cong m H K p e = ap (λ (r : List ℕ). cond (eqb p (m .partition)) (changed m r) r) e
+
+-- and so after several.
+pub after-cong : (ms : List Move) (H K : ℕ → List ℕ) (p : ℕ) → H p ≡ K p → after ms H p ≡ after ms K p
+unfolding after
+after-cong [] H K p e = e
+after-cong (m ∷ ms) H K p e = after-cong ms (made m H) (made m K) p (made-cong m H K p e)
+
+-- Moves, and then others.
+pub after-append : (k l : List Move) (H : ℕ → List ℕ) → after (k ++ l) H ≡ after l (after k H)
+unfolding after
+after-append [] l H = refl
+after-append (m ∷ k) l H = after-append k l (made m H)
 
 -- ---- any number of moves
 

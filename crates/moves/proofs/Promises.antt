@@ -8,17 +8,17 @@ use mathlib.Core.List.{List, [], _∷_, _++_}
 use mathlib.Core.Bool.{Bool, true, false, false≢true, cond}
 use native.Mathlib.Omega.{arith}
 use lib.Dec.{eqb}
-use lib.ListN.{length, drop, getD, List·getD-eq-default}
-use lib.Seq.{drop-length}
+use lib.ListN.{length, take, drop, getD, List·getD-eq-default}
+use lib.Seq.{take-add, drop-length}
 use borrow.Author.Tests.{eqb-true}
 use Rattle.sums.specs.TermsSums.{tab}
 use Rattle.sums.proofs.Sum.{lt-or-ge, sum-cong}
 use Rattle.cells.proofs.Cells.{getD-tab}
 use Rattle.cluster.specs.Terms.{mostCopies, bufferRows, wideRowCells, Topology, partitions, idsOf, mem, rising, Layout, row, ValidRow, onlyIn, sent, rowOf, formed}
 use Rattle.cluster.proofs.Lists.{mem-head, rising-none}
-use Rattle.moves.specs.TermsMoves.{wideRowsIn, wideCellsOf, Move, surviving, survivors, missing, movesOf, sourceOf, held, AllIn, KeptWhole, FitsSixteen, heldAgain, Resumes, SourcesHold, sends}
+use Rattle.moves.specs.TermsMoves.{wideRowsIn, wideCellsOf, Move, surviving, survivors, missing, movesOf, sourceOf, after, held, AllIn, KeptWhole, FitsSixteen, heldAgain, Resumes, SourcesHold, sends}
 use Rattle.moves.proofs.Missing.{missing-cong, missing-few, surviving-known, all-survive, mem-surviving, rising-surviving, surviving-few}
-use Rattle.moves.proofs.Interrupted.{Cut, moves-cong, one-step, cut, none-left}
+use Rattle.moves.proofs.Interrupted.{after-cong, after-append, Cut, moves-cong, one-step, cut, none-left}
 use Rattle.moves.proofs.Sends.{sends-from}
 use Rattle.moves.proofs.WideRows.{length-wideRows, cells-formed, wide-read, wide-again}
 pub use Rattle.moves.proofs.Missing.{length-missing}
@@ -169,14 +169,30 @@ module _ (t : Topology) (F L : Layout) (few : partitions t ≤ bufferRows)
     unfolding heldAgain
     rows-again k = length-wideRows (partitions t) (wideCellsOf (held t F L k))
 
+    -- Its first j steps come to what the first k + j of the first list do.
+    goes-on : (k j p : ℕ) → movesOf t (heldAgain t F L k) L ≡ drop k (movesOf t F L) → p < partitions t
+        → held t (heldAgain t F L k) L j p ≡ held t F L (k + j) p
+    unfolding held
+    goes-on k j p e h =
+        let ms = movesOf t F L in
+        ap (λ (l : List Move). after (take j l) (survivors t (heldAgain t F L k)) p) e
+        ∙ (after-cong (take j (drop k ms)) (survivors t (heldAgain t F L k)) (held t F L k) p (survives-again k p h)
+        ∙ (ap (λ (K : ℕ → List ℕ). K p) (sym (after-append (take k ms) (take j (drop k ms)) (survivors t F)))
+        ∙ ap (λ (l : List Move). after l (survivors t F) p) (sym (take-add k j ms))))
+
+    -- And they are the steps that were left.
+    same-again : (k : ℕ) → movesOf t (heldAgain t F L k) L ≡ drop k (movesOf t F L)
+    unfolding movesOf
+    same-again k =
+        moves-cong (survivors t (heldAgain t F L k)) (held t F L k) (row L) 0 (partitions t) (λ q l u. survives-again k q (omega arith)) ∙ made-until k .same
+
     -- A list made afresh after any number of steps has the steps that were left, ends in the new layout, and the sixteen suffice again.
     pub resumes : (k : ℕ) → Resumes t F L k
-    unfolding movesOf
     resumes k = record {
-      same = moves-cong (survivors t (heldAgain t F L k)) (held t F L k) (row L) 0 (partitions t) (λ q l u. survives-again k q (omega arith))
-          ∙ made-until k .same;
+      same = same-again k;
       ends = all-made t (heldAgain t F L k) L
           (survivors-rise t (heldAgain t F L k) (rows-again k) (λ p h. ap (λ (r : List ℕ). rising r) (held-again k p h) ∙ held-rises k p h)) new-rise;
+      onward = λ j p h. goes-on k j p (same-again k) h;
       again = λ p h.
           let e = survives-again k p h in
           omega (arith, room p h, made-until k .between .room p, ap (λ (r : List ℕ). length r + length (missing (row L p) r)) e);

@@ -121,10 +121,12 @@ unfoldable pub heldAgain : Topology → Layout → Layout → ℕ → Layout
 heldAgain t F L k = wideRowsIn (partitions t) (wideCellsOf (held t F L k))
 
 -- "a list made afresh from what is held .. has the same steps that were left, their sources excepted, and ends in the new layout": after every
--- number k of steps; and the sixteen suffice again.
+-- number k of steps. After j of its steps what is held is what the first list would have come to, and the sixteen suffice again: so power may go
+-- again and again.
 pub record Resumes (t : Topology) (F L : Layout) (k : ℕ) : Type 0 where
   pub same : movesOf t (heldAgain t F L k) L ≡ drop k (movesOf t F L)
   pub ends : (p : ℕ) → p < partitions t → held t (heldAgain t F L k) L (length (movesOf t (heldAgain t F L k) L)) p ≡ row L p
+  pub onward : (j p : ℕ) → p < partitions t → held t (heldAgain t F L k) L j p ≡ held t F L (k + j) p
   pub again : FitsSixteen t (heldAgain t F L k) L
 
 -- A send's source has the copy when the step is made: where m is the step after the first k, its source, unless it is 0, stands among what is held

@@ -1,15 +1,14 @@
 -- The steps from sets of nodes are the moves of the terms: what is missing, what survives, and the cells.
 -- Assumes nothing.
-use Prim.Native.Nat.{ℕ, _+_, _-_, _*_, _^_, _≤_, _<_}
+use Prim.Native.Nat.{ℕ, _+_, _-_, _≤_, _<_}
 use mathlib.Core.Path.{_≡_, refl, sym, ap, ap₂, _∙_}
-use mathlib.Core.Bool.{Bool, true, false, not, _&&_, cond}
+use mathlib.Core.Bool.{Bool, true, false, not, _&&_}
 use mathlib.Core.List.{List, [], _∷_, _++_, map}
 use native.Mathlib.Omega.{arith}
-use lib.Dec.{eqb}
 use lib.ListN.{length, getD, length-append, length-map}
 use Rattle.sums.specs.TermsSums.{one-if}
 use Rattle.sums.proofs.Tests.{one-if-le}
-use Rattle.sets.specs.ModelBits.{bit, maskOf, differenceOf, countOf}
+use Rattle.sets.specs.ModelBits.{bit, maskOf, differenceOf}
 use Rattle.sets.proofs.Laws.{bit-maskOf, bit-difference, mask-lt}
 use Rattle.cluster.specs.Terms.{mostNodes, noNode, Topology, idsOf, mem, rising, Layout, row}
 use Rattle.cluster.specs.declared.Node.{Node}

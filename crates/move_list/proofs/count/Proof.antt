@@ -1,7 +1,6 @@
 -- `move_list::count` meets its contract.
 -- Assumes nothing.
 use borrow.Author.Needs.{needs}
-use Prim.Native.Nat.{ℕ}
 use mathlib.Core.Path.{_≡_, sym, ap, _∙_}
 use Rattle.layouts.specs.declared.check.Checked.{Checked}
 use Rattle.move_list.specs.TermsMoveList.{movesFault, listed}

@@ -2,14 +2,12 @@
 -- Assumes nothing.
 use borrow.Author.Needs.{needs}
 use native.Mathlib.Omega.{arith}
-use Prim.Native.Nat.{ℕ, _*_, _≤_}
+use Prim.Native.Nat.{_*_, _≤_}
 use mathlib.Core.Path.{_≡_, sym, ap, _∙_}
-use mathlib.Core.List.{List, _++_}
-use lib.ListN.{length, drop}
-use Rattle.cluster.specs.Terms.{topology}
-use Rattle.moves.specs.TermsMoves.{stepWidth, stepCells}
+use lib.ListN.{length}
+use Rattle.moves.specs.TermsMoves.{stepWidth}
 use Rattle.move_list.specs.declared.Listed.{Listed}
-use Rattle.move_list.specs.TermsMoveList.{movesFault, formerIn, movesIn, listed, countMoves, listMoves}
+use Rattle.move_list.specs.TermsMoveList.{movesFault, movesIn, listed, listMoves}
 use Rattle.move_list.proofs.MovesOrder.{count-made, counted-sound, list-refused, list-short, list-made, cells-kept, cells-made}
 use Rattle.move_list.proofs.list.Statement.{statement}
 use Rattle.move_list.proofs.list.Tie as tie

@@ -3,10 +3,10 @@
 use borrow.Author.Needs.{needs}
 use native.Mathlib.Omega.{arith}
 use Prim.Native.Nat.{ℕ, _≤_, _<_, _+_, _*_, _^_}
-use mathlib.Core.Path.{_≡_, refl, sym, ap, ap₂, _∙_}
-use mathlib.Core.List.{List, [], _∷_, _++_}
-use lib.ListN.{length, take, drop, getD}
-use Rattle.sets.specs.ModelBits.{maskBits, countOf, leastOf, withoutOf}
+use mathlib.Core.Path.{_≡_, refl, sym, ap, _∙_}
+use mathlib.Core.List.{List}
+use lib.ListN.{length, getD}
+use Rattle.sets.specs.ModelBits.{maskBits, countOf, leastOf}
 use Rattle.sets.proofs.Laws.{without-lt, least-taken, count-empty}
 use Rattle.sets.proofs.Scan.{fewer}
 use Rattle.cluster.specs.Terms.{mostNodes, noNode}
