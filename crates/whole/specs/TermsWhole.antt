@@ -8,7 +8,7 @@ use lib.ListN.{take, drop}
 use Rattle.sums.specs.TermsSums.{one-if}
 use Rattle.cluster.specs.Terms.{layoutCells}
 use Rattle.cluster.specs.declared.Cluster.{Cluster}
-use Rattle.planner.specs.declared.Planned.{Planned}
+use Rattle.settling.specs.declared.Planned.{Planned}
 use Rattle.layout_head.specs.declared.Numbers.{Numbers}
 
 -- "1, 2, then 6 size, 7 sent, 8 verdict (1: 1 finished, 0 stopped), 9 improvements": bits and replication are the cluster's, the others are
