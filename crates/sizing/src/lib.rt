@@ -10,7 +10,6 @@ ghost use Rattle.sizing.specs.ModelSizing.{mateCells, capsIn, sizeOf, si
 ghost use Rattle.cluster.specs.TermsReading.{Fits32};
 use cluster::Cluster;
 use incidence::zones;
-use shares::line;
 use tallies::nodes;
 use tallies::totals;
 
@@ -125,7 +124,7 @@ fn begin(c: Cluster, size: u32, rows: &mut [u32])
     let caps = caps(c, size);
     let copies = shares::given(&zones, &caps, n, most, c.replication);
     let starts = line::starts(&zones, &copies, n, most);
-    line::deal(rows, &starts, &copies, n, most);
+    deals::deal(rows, &starts, &copies, n, most);
 }
 
 // Deals the layout that planning begins with at a size: each of the first P cells becomes the set of the nodes of its partition's row.

@@ -1,4 +1,4 @@
--- `shares::line::light` meets its contract. The loop's invariant: the sum so far.
+-- `line::light` meets its contract. The loop's invariant: the sum so far.
 -- Assumes nothing.
 use borrow.Author.Needs.{needs}
 use native.Mathlib.Omega.{arith}
@@ -11,8 +11,8 @@ use Rattle.dealing.specs.ModelDeal.{light}
 use Rattle.sums.specs.TermsSums.{sumTo}
 use Rattle.incidence.specs.ModelIncidence.{cell}
 use Rattle.sums.proofs.Sum.{sum-next}
-use Rattle.shares.proofs.line.light.Statement.{statement}
-use Rattle.shares.proofs.line.light.Tie as tie
+use Rattle.line.proofs.light.Statement.{statement}
+use Rattle.line.proofs.light.Tie as tie
 
 abbrev Inv-loop : tie.InvT-loop
 Inv-loop sums n partitions sum₀ z₀ sum z = (z ≤ n) × (sum ≤ mostInZone * z) × (sum ≡ sumTo z (light partitions (cell sums)))

@@ -1,4 +1,4 @@
--- `shares::line::clear` meets its contract. The loop's invariant: the rows passed are empty.
+-- `deals::clear` meets its contract. The loop's invariant: the rows passed are empty.
 -- Assumes nothing.
 use borrow.Author.Needs.{needs}
 use native.Mathlib.Omega.{arith}
@@ -7,8 +7,8 @@ use mathlib.Core.Path.{_≡_, refl}
 use lib.ListN.{length}
 use Rattle.cells.specs.ModelCells.{put}
 use Rattle.cells.proofs.Cells.{put-none, put-next}
-use Rattle.shares.proofs.line.clear.Statement.{statement}
-use Rattle.shares.proofs.line.clear.Tie as tie
+use Rattle.deals.proofs.clear.Statement.{statement}
+use Rattle.deals.proofs.clear.Tie as tie
 
 abbrev Inv-loop : tie.InvT-loop
 Inv-loop rows₀ n p₀ rows p = (p ≤ n) × (length rows ≡ length rows₀) × (rows ≡ put 0 (λ _. 0) p rows₀)

@@ -1,4 +1,4 @@
--- `shares::line::deal` meets its contract. The loop's invariant: the copies of the first b nodes are dealt.
+-- `deals::deal` meets its contract. The loop's invariant: the copies of the first b nodes are dealt.
 -- Assumes nothing.
 use borrow.Author.Needs.{needs}
 use native.Mathlib.Omega.{arith}
@@ -10,9 +10,9 @@ use Rattle.cluster.specs.Terms.{mostNodes, bufferRows}
 use Rattle.cells.specs.ModelCells.{put}
 use Rattle.incidence.specs.ModelIncidence.{cell}
 use Rattle.dealing.specs.ModelDeal.{among}
-use Rattle.shares.proofs.Dealing.{dealt-none, dealt-all, node-dealt}
-use Rattle.shares.proofs.line.deal.Statement.{statement}
-use Rattle.shares.proofs.line.deal.Tie as tie
+use Rattle.deals.proofs.Dealing.{dealt-none, dealt-all, node-dealt}
+use Rattle.deals.proofs.deal.Statement.{statement}
+use Rattle.deals.proofs.deal.Tie as tie
 
 abbrev Inv-loop : tie.InvT-loop
 Inv-loop rows₀ starts copies n partitions b₀ rows b = (b ≤ n) × (partitions ≤ bufferRows) × (length rows ≡ length rows₀) × (rows ≡ put 0 (λ p. maskOf (λ c. among partitions (cell starts c) (cell copies c) p) b) partitions rows₀)

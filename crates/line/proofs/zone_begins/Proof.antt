@@ -1,17 +1,17 @@
--- `shares::line::zone_begins` meets its contract.
+-- `line::zone_begins` meets its contract.
 -- Assumes nothing.
 use borrow.Author.Needs.{needs}
 use Prim.Native.Nat.{_+_, _-_}
 use mathlib.Core.Path.{_≡_, sym, ap₂, _∙_}
 use native.Mathlib.Omega.{arith}
 use Rattle.incidence.specs.ModelIncidence.{cell}
-use Rattle.shares.proofs.Lining.{begins-heavy}
+use Rattle.line.proofs.Lining.{begins-heavy}
 use Rattle.tallies.proofs.Adding.{sum-bound, sum-whole}
 use Rattle.tallies.specs.ModelTallies.{mostInZone}
 use Rattle.dealing.proofs.Line.{light-zone, lights-heavies}
 use Rattle.sums.specs.TermsSums.{sumTo}
-use Rattle.shares.proofs.line.zone_begins.Statement.{statement}
-use Rattle.shares.proofs.line.zone_begins.Tie as tie
+use Rattle.line.proofs.zone_begins.Statement.{statement}
+use Rattle.line.proofs.zone_begins.Tie as tie
 
 light-requires : tie.Need-light-requires
 light-requires c κs = search needs

@@ -4,10 +4,12 @@ use Prim.Native.Nat.{ℕ, _+_, _-_, _%_, _≤_, _<_, min}
 use mathlib.Core.Path.{_≡_, sym, ap, ap₂, _∙_}
 use mathlib.Core.List.{List}
 use mathlib.Core.Logic.{⊎-elim}
-use native.Mathlib.Nat.{zero-add}
+use native.Mathlib.Nat.{zero-add, add-mod-right, mod-eq-of-lt}
 use native.Mathlib.Omega.{arith}
 use lib.ListN.{length, getD, set}
 use lib.Seq.{ext-getD}
+use borrow.Author.Tests.{lt-ltb, le-ltb}
+use Rattle.sums.specs.TermsSums.{one-if}
 use Rattle.sums.proofs.Sum.{lt-or-ge}
 use Rattle.sets.specs.ModelBits.{maskBits, maskOf, withOf, unionOf}
 use Rattle.sets.proofs.Laws.{bit-zero, bit-ext, with-lt, bit-with, union-lt, bit-union}
@@ -16,7 +18,27 @@ use Rattle.cells.proofs.Cells.{length-put, put-none, put-more, put-over, getD-p
 use Rattle.cluster.specs.Terms.{mostNodes}
 use Rattle.dealing.specs.ModelDeal.{among}
 use Rattle.sets.proofs.Masks.{mask-here, mask-not-here}
-use Rattle.shares.proofs.Lining.{after-round, after-on, among-some, among-none}
+
+-- ---- places in the line
+
+-- How far p is after s, where it stands before s and where it does not.
+after-round : (P s p : ℕ) → p < s → s < P → p + P - s ≡ (p + P - s % P) % P
+after-round P s p l h = let e : s % P ≡ s = mod-eq-of-lt h in sym (ap (λ (x : ℕ). (p + P - x) % P) e ∙ mod-eq-of-lt (omega arith))
+
+after-on : (P s p : ℕ) → s ≤ p → p < P → p - s ≡ (p + P - s % P) % P
+after-on P s p l h =
+    let e : s % P ≡ s = mod-eq-of-lt (omega arith) in
+    let d : p + P - s ≡ (p - s) + P = omega arith in
+    sym (ap (λ (x : ℕ). (p + P - x) % P) e ∙ (ap (λ (x : ℕ). x % P) d ∙ (add-mod-right (p - s) P ∙ mod-eq-of-lt (omega arith))))
+
+-- A copy goes to p where p is fewer places after the first than there are copies.
+among-some : (P s k p d : ℕ) → d ≡ (p + P - s % P) % P → d < k → among P s k p ≡ 1
+unfolding among one-if
+among-some P s k p d e l = ap one-if (lt-ltb ((p + P - s % P) % P) k (omega arith))
+
+among-none : (P s k p d : ℕ) → d ≡ (p + P - s % P) % P → k ≤ d → among P s k p ≡ 0
+unfolding among one-if
+among-none P s k p d e l = ap one-if (le-ltb ((p + P - s % P) % P) k (omega arith))
 
 -- ---- all rows
 

@@ -1,4 +1,4 @@
--- `shares::line::join` meets its contract. The loop's invariant: the node is in the rows passed.
+-- `deals::join` meets its contract. The loop's invariant: the node is in the rows passed.
 -- Assumes nothing.
 use borrow.Author.Needs.{needs}
 use native.Mathlib.Omega.{arith}
@@ -7,9 +7,9 @@ use mathlib.Core.Path.{_≡_, ap, _∙_}
 use lib.ListN.{length, getD}
 use Rattle.cells.specs.ModelCells.{put}
 use Rattle.sets.specs.ModelBits.{withOf}
-use Rattle.shares.proofs.Dealing.{joined, join-none, join-next}
-use Rattle.shares.proofs.line.join.Statement.{statement}
-use Rattle.shares.proofs.line.join.Tie as tie
+use Rattle.deals.proofs.Dealing.{joined, join-none, join-next}
+use Rattle.deals.proofs.join.Statement.{statement}
+use Rattle.deals.proofs.join.Tie as tie
 
 abbrev Inv-loop : tie.InvT-loop
 Inv-loop rows₀ b from to own p₀ rows p = (from ≤ p) × (p ≤ max from to) × (length rows ≡ length rows₀) × (rows ≡ joined rows₀ b from p)

@@ -1,22 +1,21 @@
 -- The line of all copies, as it is computed from the copies of the zones.
 -- Assumes nothing.
-use Prim.Native.Nat.{ℕ, _+_, _-_, _*_, _%_, _≤_, _<_}
-use mathlib.Core.Path.{_≡_, sym, ap, ap₂, _∙_}
+use Prim.Native.Nat.{ℕ, _+_, _-_, _*_, _≤_, _<_}
+use mathlib.Core.Path.{_≡_, ap₂, _∙_}
 use mathlib.Core.List.{List}
 use mathlib.Core.Logic.{⊎-elim}
-use native.Mathlib.Nat.{mul-le-mul-right, add-mod-right, mod-eq-of-lt}
+use native.Mathlib.Nat.{mul-le-mul-right}
 use native.Mathlib.Omega.{arith}
-use borrow.Author.Tests.{lt-ltb, le-ltb}
 use Rattle.dealing.proofs.Line.{light-zone, heavy-zone, lights-heavies}
 use Rattle.cluster.specs.Terms.{mostNodes, bufferRows}
-use Rattle.sums.specs.TermsSums.{sumTo, one-if}
+use Rattle.sums.specs.TermsSums.{sumTo}
 use Rattle.sums.proofs.Sum.{lt-or-ge}
-use Rattle.dealing.specs.ModelDeal.{among, totals, inZone, light, zoneStart, start}
+use Rattle.dealing.specs.ModelDeal.{totals, inZone, light, zoneStart, start}
 use Rattle.incidence.specs.ModelIncidence.{cell, column}
 use Rattle.tallies.specs.ModelTallies.{mostInZone, AtMost}
 use Rattle.tallies.proofs.Adding.{sum-bound, zone-bound}
 use Rattle.shares.proofs.Agree.{zone-start-agree}
 use Rattle.shares.proofs.Agree.{cells-agree}
 
 module _ (P : ℕ) (t : ℕ → ℕ) where
   -- A heavy zone begins after all light zones and what the zones before it have besides light ones.
@@ -44,22 +43,3 @@ pub totals-most : (zone copies : ℕ → ℕ) (n : ℕ) (sums : List ℕ) → n 
     → sums ≡ column (totals zone copies n) mostNodes → AtMost mostInZone mostNodes sums
 totals-most zone copies n sums few h e z l =
     omega (arith, cells-agree (totals zone copies n) mostNodes sums (omega arith) e z l, zone-bound zone copies n z bufferRows h)
-
--- How far p is after s, where it stands before s and where it does not.
-pub after-round : (P s p : ℕ) → p < s → s < P → p + P - s ≡ (p + P - s % P) % P
-after-round P s p l h = let e : s % P ≡ s = mod-eq-of-lt h in sym (ap (λ (x : ℕ). (p + P - x) % P) e ∙ mod-eq-of-lt (omega arith))
-
-pub after-on : (P s p : ℕ) → s ≤ p → p < P → p - s ≡ (p + P - s % P) % P
-after-on P s p l h =
-    let e : s % P ≡ s = mod-eq-of-lt (omega arith) in
-    let d : p + P - s ≡ (p - s) + P = omega arith in
-    sym (ap (λ (x : ℕ). (p + P - x) % P) e ∙ (ap (λ (x : ℕ). x % P) d ∙ (add-mod-right (p - s) P ∙ mod-eq-of-lt (omega arith))))
-
--- A copy goes to p where p is fewer places after the first than there are copies.
-pub among-some : (P s k p d : ℕ) → d ≡ (p + P - s % P) % P → d < k → among P s k p ≡ 1
-unfolding among one-if
-among-some P s k p d e l = ap one-if (lt-ltb ((p + P - s % P) % P) k (omega arith))
-
-pub among-none : (P s k p d : ℕ) → d ≡ (p + P - s % P) % P → k ≤ d → among P s k p ≡ 0
-unfolding among one-if
-among-none P s k p d e l = ap one-if (le-ltb ((p + P - s % P) % P) k (omega arith))

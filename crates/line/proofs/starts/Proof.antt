@@ -1,4 +1,4 @@
--- `shares::line::starts` meets its contract. The loop's invariant: the first b places are written.
+-- `line::starts` meets its contract. The loop's invariant: the first b places are written.
 -- Assumes nothing.
 use borrow.Author.Needs.{needs}
 use native.Mathlib.Omega.{arith}
@@ -10,9 +10,9 @@ use Rattle.dealing.specs.ModelDeal.{start}
 use Rattle.incidence.specs.ModelIncidence.{cell, column}
 use Rattle.incidence.proofs.Columns.{column-none, column-next, column-end}
 use Rattle.tallies.proofs.Adding.{zone-bound}
-use Rattle.shares.proofs.Lining.{begins-bound, totals-most, start-cells}
-use Rattle.shares.proofs.line.starts.Statement.{statement}
-use Rattle.shares.proofs.line.starts.Tie as tie
+use Rattle.line.proofs.Lining.{begins-bound, totals-most, start-cells}
+use Rattle.line.proofs.starts.Statement.{statement}
+use Rattle.line.proofs.starts.Tie as tie
 
 abbrev Inv-loop : tie.InvT-loop
 Inv-loop zones copies n partitions sums starts₀ b₀ starts b = (b ≤ n) × (n ≤ mostNodes) × (starts ≡ column (λ i. start partitions n (cell zones) (cell copies) i % partitions) b)
