@@ -13,7 +13,7 @@ use Rattle.fields.proofs.Numbers.{length-bytes}
 use Rattle.fields.proofs.RecordField.{length-field}
 use Rattle.layout_head.specs.declared.Numbers.{Numbers}
 use Rattle.layout_head.specs.RecordHead.{headFields}
-use Rattle.layout_record.specs.RecordLayout.{HasLayout, layoutRowField, layoutRowFields, layoutRecord, recordLength}
+use Rattle.layout_rows.specs.RecordLayout.{HasLayout, layoutRowField, layoutRowFields, layoutRecord, recordLength}
 use Rattle.fields.proofs.IdBytes.{length-id-bytes}
 use Rattle.layout_head.proofs.NumberFields.{length-head}
 use native.Mathlib.Numerals.{add-one}

@@ -5,12 +5,12 @@ ghost use Prim.Native.Nat.{_+_, _*_, _^_, _≤_, _<_};
 ghost use lib.ListN.{length, take, drop};
 ghost use Rattle.cluster.specs.Terms.{mostCopies, bufferRows, layoutCells, rowAt, rowsIn};
 ghost use Rattle.fields.specs.RecordField.{written, over, idBytes};
-ghost use Rattle.layout_record.specs.RecordLayout.{layoutRowField, layoutRowFields, layoutRecord};
-ghost use Rattle.layout_record.specs.RecordLayoutFaults.{rowsFit, writeFault};
-use super::range;
+ghost use Rattle.layout_rows.specs.RecordLayout.{layoutRowField, layoutRowFields, layoutRecord};
+ghost use Rattle.layout_rows.specs.RecordLayoutFaults.{rowsFit, writeFault};
 use cluster::Cluster;
 use layout_head::Numbers;
 use layout_head::table;
+use layout_rows::range;
 
 // Puts the ids in the cells from `from` on, four bytes each.
 fn put_ids(out: &mut [u8], at: usize, cells: &[u32], from: usize, count: usize)

@@ -29,7 +29,7 @@ use Rattle.layout_head.specs.declared.Numbers.{Numbers}
 use Rattle.layout_record.specs.declared.ReadLayout.{ReadLayout}
 use Rattle.layout_record.specs.declared.Written.{Written}
 use Rattle.layout_head.specs.RecordHead.{allHold, inRange}
-use Rattle.layout_record.specs.RecordLayout.{HasLayout, layoutRecord, recordLength}
+use Rattle.layout_rows.specs.RecordLayout.{HasLayout, layoutRecord, recordLength}
 use Rattle.layout_record.specs.RecordLayoutAnswer.{readLayoutOf, assignmentRead, writeAnswer, outAfter}
 use Rattle.layout_record.specs.RecordLayoutClaims.{ReadsLayout, WritesLayout}
 use Rattle.layout_record.proofs.RecordLaws.{length-record}

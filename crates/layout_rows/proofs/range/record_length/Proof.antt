@@ -1,14 +1,14 @@
--- `layout_record::range::record_length` meets its contract.
+-- `layout_rows::range::record_length` meets its contract.
 -- Assumes nothing.
 use borrow.Author.Needs.{needs}
 use native.Mathlib.Omega.{arith}
 use Prim.Native.Nat.{ℕ, _+_, _-_, _*_, _≤_}
 use mathlib.Core.Path.{_∙_, ap}
-use Rattle.layout_record.specs.RecordLayout.{recordLength}
+use Rattle.layout_rows.specs.RecordLayout.{recordLength}
 use Rattle.cluster.proofs.Accepting.{partitions-in-range}
-use Rattle.layout_record.proofs.RowFaults.{few-bytes}
-use Rattle.layout_record.proofs.range.record_length.Statement.{statement}
-use Rattle.layout_record.proofs.range.record_length.Tie as tie
+use Rattle.layout_rows.proofs.RowFaults.{few-bytes}
+use Rattle.layout_rows.proofs.range.record_length.Statement.{statement}
+use Rattle.layout_rows.proofs.range.record_length.Tie as tie
 
 -- The rows take at most 9,472 bytes.
 bytes : (c : tie.After-partitions) → c .partitions .result * (5 + 4 * c .before .args .replication) ≤ 9472

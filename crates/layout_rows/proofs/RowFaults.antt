@@ -18,8 +18,8 @@ use Rattle.cell_rows.proofs.RowScans.{formed-row-ids, ill-row-ids, row-of-buffe
 use Rattle.fields.specs.RecordField.{fieldAt, refusalOf, placeOf}
 use Rattle.layout_head.specs.declared.Numbers.{Numbers}
 use Rattle.layout_head.specs.RecordHead.{inRange}
-use Rattle.layout_record.specs.RecordLayout.{recordLength}
-use Rattle.layout_record.specs.RecordLayoutFaults.{layoutAccepted, layoutRefused, layoutRowFault, endIn, rowFits, rowsFit, writeFault}
+use Rattle.layout_rows.specs.RecordLayout.{recordLength}
+use Rattle.layout_rows.specs.RecordLayoutFaults.{layoutAccepted, layoutRefused, layoutRowFault, endIn, rowFits, rowsFit, writeFault}
 
 -- ---- the faults of a row that is read
 

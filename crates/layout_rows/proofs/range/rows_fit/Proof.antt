@@ -1,4 +1,4 @@
--- `layout_record::range::rows_fit` meets its contract. The loop's invariant: each row passed fits.
+-- `layout_rows::range::rows_fit` meets its contract. The loop's invariant: each row passed fits.
 -- Assumes nothing.
 use borrow.Author.Needs.{needs}
 use native.Mathlib.Omega.{arith}
@@ -7,11 +7,11 @@ use mathlib.Core.Path.{_≡_, refl, sym, ap, _∙_}
 use mathlib.Core.Bool.{true}
 use borrow.Author.Tests.{not-true, not-false}
 use Rattle.sums.specs.TermsSums.{everyTo}
-use Rattle.layout_record.specs.RecordLayoutFaults.{rowFits, rowsFit}
+use Rattle.layout_rows.specs.RecordLayoutFaults.{rowFits, rowsFit}
 use Rattle.sums.proofs.Tests.{every-more, every-fails}
 use Rattle.cluster.specs.Terms.{bufferRows}
-use Rattle.layout_record.proofs.range.rows_fit.Statement.{statement}
-use Rattle.layout_record.proofs.range.rows_fit.Tie as tie
+use Rattle.layout_rows.proofs.range.rows_fit.Statement.{statement}
+use Rattle.layout_rows.proofs.range.rows_fit.Tie as tie
 
 abbrev Inv-loop : tie.InvT-loop
 Inv-loop cells partitions replication p₀ p = (p ≤ 256) × (everyTo p (rowFits cells partitions replication) ≡ true)

@@ -1,13 +1,13 @@
--- `layout_record::range::row_fits` meets its contract.
+-- `layout_rows::range::row_fits` meets its contract.
 -- Assumes nothing.
 use borrow.Author.Needs.{needs}
 use native.Mathlib.Omega.{arith}
 use Prim.Native.Nat.{ℕ, _-_}
 use mathlib.Core.Path.{ap, _∙_}
 use lib.Dec.{eqb}
-use Rattle.layout_record.proofs.RowFaults.{fits-ids, fits-blank}
-use Rattle.layout_record.proofs.range.row_fits.Statement.{statement}
-use Rattle.layout_record.proofs.range.row_fits.Tie as tie
+use Rattle.layout_rows.proofs.RowFaults.{fits-ids, fits-blank}
+use Rattle.layout_rows.proofs.range.row_fits.Statement.{statement}
+use Rattle.layout_rows.proofs.range.row_fits.Tie as tie
 
 row-ids-requires : tie.Need-row-ids-requires
 row-ids-requires c κs = search needs

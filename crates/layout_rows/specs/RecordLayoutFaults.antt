@@ -13,7 +13,7 @@ use Rattle.fields.specs.declared.Field.the-variants.{Body, Refused}
 use Rattle.layout_head.specs.declared.Numbers.{Numbers}
 use Rattle.layout_head.specs.RecordHead.{headTable, inRange}
 use Rattle.layout_head.specs.RecordHeadFaults.{nextField, HeadRead, HeadEnds, HeadRefused, headFrom, noNumbers}
-use Rattle.layout_record.specs.RecordLayout.{recordLength}
+use Rattle.layout_rows.specs.RecordLayout.{recordLength}
 
 -- ---- reading
 

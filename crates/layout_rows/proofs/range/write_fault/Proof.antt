@@ -1,4 +1,4 @@
--- `layout_record::range::write_fault` meets its contract: the tests stand in the order of the faults.
+-- `layout_rows::range::write_fault` meets its contract: the tests stand in the order of the faults.
 -- Assumes nothing.
 use borrow.Author.Needs.{needs}
 use native.Mathlib.Omega.{arith}
@@ -9,11 +9,11 @@ use borrow.Author.Tests.{not-true, not-false}
 use Rattle.cluster.proofs.Accepting.{partitions-in-range}
 use Rattle.cluster.specs.Terms.{mostCopies}
 use Rattle.layout_head.specs.RecordHead.{inRange}
-use Rattle.layout_record.specs.RecordLayoutFaults.{rowsFit}
-use Rattle.layout_record.proofs.RowFaults.{write-cells, write-numbers, write-rows, write-room, write-none}
+use Rattle.layout_rows.specs.RecordLayoutFaults.{rowsFit}
+use Rattle.layout_rows.proofs.RowFaults.{write-cells, write-numbers, write-rows, write-room, write-none}
 use Rattle.layout_head.proofs.NumberFields.{few-bits, few-copies}
-use Rattle.layout_record.proofs.range.write_fault.Statement.{statement}
-use Rattle.layout_record.proofs.range.write_fault.Tie as tie
+use Rattle.layout_rows.proofs.range.write_fault.Statement.{statement}
+use Rattle.layout_rows.proofs.range.write_fault.Tie as tie
 
 -- What the tests leave: the numbers are in range, the rows fit.
 fit : (c : tie.Else2) → inRange (c .before .before .before .before .args .numbers) ≡ true

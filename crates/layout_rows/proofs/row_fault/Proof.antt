@@ -1,13 +1,13 @@
--- `layout_record::rows::row_fault` meets its contract: the tests stand in the order of the faults.
+-- `layout_rows::row_fault` meets its contract: the tests stand in the order of the faults.
 -- Assumes nothing.
 use borrow.Author.Needs.{needs}
 use native.Mathlib.Omega.{arith}
 use Prim.Native.Nat.{_+_, _-_}
 use mathlib.Core.Path.{sym, _∙_}
 use Rattle.fields.specs.RecordField.{numberAt, idsAt}
-use Rattle.layout_record.proofs.RowFaults.{fault-partition, fault-zero, fault-next, fault-falls, fault-none}
-use Rattle.layout_record.proofs.rows.row_fault.Statement.{statement}
-use Rattle.layout_record.proofs.rows.row_fault.Tie as tie
+use Rattle.layout_rows.proofs.RowFaults.{fault-partition, fault-zero, fault-next, fault-falls, fault-none}
+use Rattle.layout_rows.proofs.row_fault.Statement.{statement}
+use Rattle.layout_rows.proofs.row_fault.Tie as tie
 
 pair-at-requires : tie.Need-pair-at-requires
 pair-at-requires c κs = search needs

@@ -3,8 +3,8 @@ ghost use mathlib.Core.Path.{_≡_};
 ghost use Prim.Native.Nat.{_≤_, _<_};
 ghost use lib.ListN.{length};
 ghost use Rattle.cluster.specs.Terms.{mostBits, mostCopies, bufferRows, layoutCells};
-ghost use Rattle.layout_record.specs.RecordLayout.{recordLength};
-ghost use Rattle.layout_record.specs.RecordLayoutFaults.{rowFits, rowsFit, writeFault};
+ghost use Rattle.layout_rows.specs.RecordLayout.{recordLength};
+ghost use Rattle.layout_rows.specs.RecordLayoutFaults.{rowFits, rowsFit, writeFault};
 use cluster::Cluster;
 use cluster::refusal;
 use layout_head::Numbers;
@@ -14,7 +14,7 @@ use layout_head::table;
 pub const ROW: usize = 5;
 
 // The length of a record.
-pub(crate) fn record_length(bits: u32, replication: u32) -> usize
+pub fn record_length(bits: u32, replication: u32) -> usize
     requires { ⌜ (bits ≤ mostBits) × (replication ≤ mostCopies) ⌝ }
     ensures { λ r. ⌜ r ≡ recordLength bits replication ⌝ }
 {
