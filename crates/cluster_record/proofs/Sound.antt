@@ -19,11 +19,11 @@ use Rattle.fields.proofs.Numbers.{bytes-there, part-append}
 use Rattle.fields.proofs.RecordField.{whole, refused-some}
 use Rattle.cluster_record.specs.RecordCluster.{bitsField, replicationField, redundancyField, nodeField, nodeFields, formerField, formerFields, clusterRecord, FitsRecord, IsClusterRecord}
 use Rattle.cluster_fields.specs.RecordClusterFaults.{Item, BitsOf, ReplicationOf, RedundancyOf, OneNode, FormerRow, itemIn, withItem, upTo, formerWith, faultIn}
-use Rattle.cluster_record.specs.RecordClusterReading.{Reading, ClusterRead, nothingRead, allowedAfter, readingWith, clusterRefused, ended, readCluster}
+use Rattle.cluster_reading.specs.RecordClusterReading.{Reading, ClusterRead, nothingRead, allowedAfter, readingWith, clusterRefused, ended, readCluster}
 use Rattle.cluster_fields.proofs.Items.{item-node, item-five, sound-row}
 use Rattle.cluster_fields.proofs.Rows.{every-snoc, row-upTo, length-upTo}
-use Rattle.cluster_record.proofs.Walks.{walk-holds}
-use Rattle.cluster_record.proofs.Readings.{Kind, number-next, node-next, row-next, kind, one-byte, node-length, row-bytes, Well, well-nothing, well-step}
+use Rattle.cluster_reading.proofs.Walks.{walk-holds}
+use Rattle.cluster_reading.proofs.Readings.{Kind, number-next, node-next, row-next, kind, one-byte, node-length, row-bytes, Well, well-nothing, well-step}
 use Rattle.cluster_record.proofs.RecordBytes.{nodes-snoc, rows-upTo, rows-next, bytes-next}
 
 -- ---- the numbers fit

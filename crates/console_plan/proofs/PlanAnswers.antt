@@ -7,7 +7,7 @@ use native.Mathlib.Omega.{arith}
 use lib.ListN.{length, drop, replicate, length-replicate}
 use Rattle.cluster.specs.Terms.{layoutCells, scratchCells, Topology, topology, partitions, Layout, IsFormer, rowsIn}
 use Rattle.cluster.proofs.Slots.{topology-slots}
-use Rattle.cluster_record.specs.RecordClusterReading.{readCluster}
+use Rattle.cluster_reading.specs.RecordClusterReading.{readCluster}
 use Rattle.cluster_record.specs.RecordClusterAnswer.{clusterAnswer, readClusterOf}
 use Rattle.cluster_record.specs.declared.ReadCluster.{ReadCluster}
 use Rattle.cluster_record.proofs.Answers.{long-answer, accepted-former}

@@ -1,4 +1,4 @@
--- `cluster_record::allowed_after` meets its contract.
+-- `cluster_reading::allowed_after` meets its contract.
 -- Assumes nothing.
 use borrow.Author.Tests.{lt-ltb, le-ltb}
 use mathlib.Core.Path.{_≡_, refl, ap, _∙_}
@@ -9,13 +9,13 @@ use Rattle.sums.specs.ModelSums.{is}
 use Rattle.sets.specs.ModelBits.{bit, maskOf, memberOf, withOf}
 use Rattle.fields.specs.ModelTags.{tagsFrom, tagsOf}
 use Rattle.fields.proofs.Tags.{tags-alone}
-use Rattle.cluster_record.specs.RecordClusterReading.{allowedAfter}
+use Rattle.cluster_reading.specs.RecordClusterReading.{allowedAfter}
 use Prim.Native.Nat.{ℕ, _+_}
 use borrow.Author.Needs.{needs}
-use Rattle.cluster_record.proofs.allowed_after.Statement.{statement}
-use Rattle.cluster_record.proofs.allowed_after.Tie as tie
-use Rattle.cluster_record.proofs.allowed_after.Reads as reads
-use Rattle.cluster_record.proofs.allowed_after.Lts as lts
+use Rattle.cluster_reading.proofs.allowed_after.Statement.{statement}
+use Rattle.cluster_reading.proofs.allowed_after.Tie as tie
+use Rattle.cluster_reading.proofs.allowed_after.Reads as reads
+use Rattle.cluster_reading.proofs.allowed_after.Lts as lts
 use Rattle.sets.proofs.with.Reads as with-reads
 
 -- The mask of the tags 4 and 5.

@@ -14,7 +14,7 @@ use Rattle.fields.specs.declared.Field.{Field}
 use Rattle.fields.specs.declared.Field.the-variants.{Body, Refused}
 use Rattle.fields.proofs.RecordField.{whole}
 use Rattle.cluster_fields.specs.RecordClusterFaults.{itemIn, faultIn}
-use Rattle.cluster_record.specs.RecordClusterReading.{Reading, ClusterRead, clusterRefused, allowedAfter, readingWith, ended, afterField, walk}
+use Rattle.cluster_reading.specs.RecordClusterReading.{Reading, ClusterRead, clusterRefused, allowedAfter, readingWith, ended, afterField, walk}
 
 module _ (s : List ℕ) (at k : ℕ) (r : Reading) where
   -- At the end of the bytes the walk has ended.

@@ -17,7 +17,7 @@ use Rattle.cluster.proofs.Lists.{mem-head, mem-tail, mem-cases, rising-none}
 use Rattle.fields.specs.RecordField.{ruleOf, numberAt, nodeWidth, rowWidth, Whole, nodeAtByte, idsAt}
 use Rattle.fields.proofs.RecordField.{one-tag}
 use Rattle.cluster_fields.specs.RecordClusterFaults.{Item, BitsOf, ReplicationOf, RedundancyOf, OneNode, FormerRow, itemIn, withItem, upTo, formerWith, faultIn}
-use Rattle.cluster_record.specs.RecordClusterReading.{Reading, nothingRead, allowedAfter, readingWith}
+use Rattle.cluster_reading.specs.RecordClusterReading.{Reading, nothingRead, allowedAfter, readingWith}
 use Rattle.sums.proofs.Tests.{neither}
 use Rattle.cluster_fields.proofs.Items.{item-bits, item-replication, item-redundancy, item-node, item-five, ids-snoc, rising-snoc, in-range, sound-node, sound-row}
 use Rattle.fields.proofs.IdBytes.{length-ids}
