@@ -11,7 +11,7 @@ STOPPED = Callee('Stopping', 'refused-by', OWN, 'rows::refused_by', [(FIELD, 'f'
 FAULT = Callee('Fault', 'fault', 'layout_rows', 'row_fault', [(RECORD, 's'), (USIZE, 'start'), (USIZE, 'parts'), (USIZE, 'next'), (USIZE, 'count')], U32,
                'r ≡ layoutRowFault parts next (numberAt bytes start 2) (idsAt bytes (start + 2) count)', 'start + 2 + 4 * count ≤ n')
 REFUSED = Callee('Refusing', 'refused', OWN, 'refused', [(U32, 'refusal'), (USIZE, 'byte')], ANSWER, 'r ≡ layoutAnswer (layoutRefused refusal byte)')
-PUT = Callee('Put', 'put-ids', 'fields', 'ids::put_ids', [(RECORD, 's'), (USIZE, 'row'), (USIZE, 'at'), (USIZE, 'count')], UNIT,
+PUT = Callee('Put', 'put-ids', 'id_bytes', 'put_ids', [(RECORD, 's'), (USIZE, 'row'), (USIZE, 'at'), (USIZE, 'count')], UNIT,
              'zs ≡ put (row * rowCells) (λ j. numberAt bytes (at + 4 * j) 4) count ys', '(row * rowCells + count ≤ length ys) × (at + 4 * count ≤ n)', lends=True)
 ENDED = Callee('Ended', 'ended', OWN, 'rows::ended', [(RECORD, 's'), (USIZE, 'at'), (NUMBERS, 'z')], ANSWER, '(L : Layout) → r ≡ layoutAnswer (endIn bytes at z L)')
 

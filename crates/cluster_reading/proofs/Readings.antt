@@ -20,7 +20,7 @@ use Rattle.cluster_fields.specs.RecordClusterFaults.{Item, BitsOf, ReplicationO
 use Rattle.cluster_reading.specs.RecordClusterReading.{Reading, nothingRead, allowedAfter, readingWith}
 use Rattle.sums.proofs.Tests.{neither}
 use Rattle.cluster_fields.proofs.Items.{item-bits, item-replication, item-redundancy, item-node, item-five, ids-snoc, rising-snoc, in-range, sound-node, sound-row}
-use Rattle.fields.proofs.IdBytes.{length-ids}
+use Rattle.id_bytes.proofs.IdBytes.{length-ids}
 use Rattle.cluster.proofs.Accepting.{few-partitions}
 use Rattle.cluster_fields.proofs.Rows.{every-snoc, row-upTo, length-next}
 

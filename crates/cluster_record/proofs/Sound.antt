@@ -13,9 +13,9 @@ use Rattle.cluster.specs.declared.Node.{Node}
 use Rattle.cluster.specs.Terms.{mostCopies, Topology, partitions, Layout, noNode, rising, IsFormer}
 use Rattle.fields.specs.RecordField.{bytesOf, Bytes, part, numberAt, nodeWidth, FitsNode, field, fieldAt, Whole, nodeAtByte, idBytes, idsAt}
 use Rattle.fields.specs.declared.Field.the-variants.{Body}
-use Rattle.fields.proofs.IdBytes.{ids-back, ids-words, length-ids}
+use Rattle.id_bytes.proofs.IdBytes.{ids-back, ids-words, length-ids}
 use Rattle.node_bytes.proofs.Nodes.{node-bytes, fits-none, fits-node}
-use Rattle.fields.proofs.Numbers.{bytes-there, part-append}
+use Rattle.numbers.proofs.Numbers.{bytes-there, part-append}
 use Rattle.fields.proofs.RecordField.{whole, refused-some}
 use Rattle.cluster_record.specs.RecordCluster.{bitsField, replicationField, redundancyField, nodeField, nodeFields, formerField, formerFields, clusterRecord, FitsRecord, IsClusterRecord}
 use Rattle.cluster_fields.specs.RecordClusterFaults.{Item, BitsOf, ReplicationOf, RedundancyOf, OneNode, FormerRow, itemIn, withItem, upTo, formerWith, faultIn}

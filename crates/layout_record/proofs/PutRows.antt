@@ -13,9 +13,9 @@ use Rattle.cluster.specs.Terms.{rowCells, bufferRows, Layout, rowAt, idsIn, for
 use Rattle.cell_rows.proofs.CellRows.{formed-cells}
 use Rattle.cell_rows.proofs.CellLayouts.{length-rowsIn, row-rowsIn}
 use Rattle.fields.specs.RecordField.{bytesOf, written, over, idBytes}
-use Rattle.fields.proofs.Numbers.{length-bytes}
-use Rattle.fields.proofs.Written.{written-over, length-written}
-use Rattle.fields.proofs.IdBytes.{length-id-bytes}
+use Rattle.numbers.proofs.Numbers.{length-bytes}
+use Rattle.numbers.proofs.Written.{written-over, length-written}
+use Rattle.id_bytes.proofs.IdBytes.{length-id-bytes}
 use Rattle.layout_head.specs.declared.Numbers.{Numbers}
 use Rattle.layout_head.specs.RecordHead.{headFields}
 use Rattle.layout_rows.specs.RecordLayout.{layoutRowField, layoutRowFields, layoutRecord, recordLength}

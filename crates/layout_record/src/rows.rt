@@ -10,7 +10,6 @@ ghost use Rattle.layout_record.specs.RecordLayoutAnswer.{layoutAnswer};
 use super::ReadLayout;
 use super::refused;
 use fields::Field;
-use fields::ids;
 use fields::reader::Reader;
 use layout_head::Numbers;
 use layout_head::reading;
@@ -59,7 +58,7 @@ fn read_rows(bytes: &[u8], from: usize, numbers: Numbers, cells: &mut [u32]) -> 
         if fault != 0 {
             return refused(fault, r.at);
         }
-        ids::put_ids(cells, r.src, next, start + 2, count);
+        id_bytes::put_ids(cells, r.src, next, start + 2, count);
         r.at = start + len;
         next += 1;
     }

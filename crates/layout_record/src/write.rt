@@ -19,7 +19,7 @@ fn put_ids(out: &mut [u8], at: usize, cells: &[u32], from: usize, count: usize)
 {
     let mut j = 0;
     while j < count {
-        fields::put_word(out, at + 4 * j, cells[from + j]);
+        numbers::put_word(out, at + 4 * j, cells[from + j]);
         j += 1;
     }
 }
@@ -30,7 +30,7 @@ fn put_row(out: &mut [u8], at: usize, cells: &[u32], p: usize, count: usize)
     ensures { λ _. ⌜ now (out .exit) ≡ written (now (out .entry)) at (layoutRowField p (take count (rowAt (now (cells .entry)) p))) ⌝ }
 {
     fields::put_head(out, at, 10, 2 + 4 * count);
-    fields::put_pair(out, at + 3, p as u32);
+    numbers::put_pair(out, at + 3, p as u32);
     put_ids(out, at + range::ROW, cells, p * Cluster::ROW, count);
 }
 

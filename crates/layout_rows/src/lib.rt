@@ -14,17 +14,17 @@ pub fn row_fault(bytes: &[u8], start: usize, partitions: usize, next: usize, cou
     requires { ⌜ start + 2 + 4 * count ≤ length (now bytes) ⌝ }
     ensures { λ r. ⌜ r ≡ layoutRowFault partitions next (numberAt (now (bytes .entry)) start 2) (idsAt (now (bytes .entry)) (start + 2) count) ⌝ }
 {
-    let partition = fields::pair_at(bytes, start) as usize;
+    let partition = numbers::pair_at(bytes, start) as usize;
     if partitions <= partition {
         return refusal::RANGE;
     }
-    if fields::ids::has_zero(bytes, start + 2, count) {
+    if id_bytes::has_zero(bytes, start + 2, count) {
         return refusal::RANGE;
     }
     if partition != next {
         return refusal::ORDER;
     }
-    if fields::ids::ids_rise(bytes, start + 2, count) {
+    if id_bytes::ids_rise(bytes, start + 2, count) {
         0
     } else {
         refusal::ORDER

@@ -11,10 +11,10 @@ mod print;
 fn with_head(c: Cluster, bytes: &[u8]) -> Cluster {
     let nodes = c.nodes;
     Cluster {
-        bits: fields::byte_at(bytes, 0),
-        replication: fields::byte_at(bytes, 1),
-        redundancy: fields::byte_at(bytes, 2),
-        count: fields::byte_at(bytes, 3) as usize,
+        bits: numbers::byte_at(bytes, 0),
+        replication: numbers::byte_at(bytes, 1),
+        redundancy: numbers::byte_at(bytes, 2),
+        count: numbers::byte_at(bytes, 3) as usize,
         nodes,
     }
 }
@@ -22,7 +22,7 @@ fn with_head(c: Cluster, bytes: &[u8]) -> Cluster {
 // The cluster with a node in a slot: a byte for the slot, and the bytes of the node.
 fn with_node(c: Cluster, bytes: &[u8]) -> Cluster {
     let mut next = c;
-    let b = fields::byte_at(bytes, 0) as usize;
+    let b = numbers::byte_at(bytes, 0) as usize;
     if b < Cluster::NODES {
         next.nodes[b] = node_bytes::node_at(bytes, 1);
     }
@@ -41,10 +41,10 @@ fn put(cells: &mut [u32], at: usize, id: u32) {
 // The row that is spelled from byte `at` on.
 fn row(cells: &mut [u32], bytes: &[u8], at: usize) {
     if at < 32 {
-        let from = fields::pair_at(bytes, at) as usize;
-        put(cells, from, fields::byte_at(bytes, at + 2));
-        put(cells, from + 1, fields::byte_at(bytes, at + 3));
-        put(cells, from + 2, fields::byte_at(bytes, at + 4));
+        let from = numbers::pair_at(bytes, at) as usize;
+        put(cells, from, numbers::byte_at(bytes, at + 2));
+        put(cells, from + 1, numbers::byte_at(bytes, at + 3));
+        put(cells, from + 2, numbers::byte_at(bytes, at + 4));
     }
 }
 
@@ -101,15 +101,15 @@ fn lend(c: Cluster, letter: u8, size: u32, cells: &[u32], n: usize) {
 
 // The case that is spelled.
 fn spelled(c: Cluster, letter: u8, bytes: &[u8]) {
-    let mut cells = [fields::byte_at(bytes, 6); 2056];
+    let mut cells = [numbers::byte_at(bytes, 6); 2056];
     row(&mut cells, bytes, 7);
     row(&mut cells, bytes, 12);
     lend(
         c,
         letter,
-        fields::word_at(bytes, 0),
+        numbers::word_at(bytes, 0),
         &cells,
-        fields::pair_at(bytes, 4) as usize,
+        numbers::pair_at(bytes, 4) as usize,
     );
 }
 

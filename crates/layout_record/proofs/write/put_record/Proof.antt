@@ -7,7 +7,7 @@ use mathlib.Core.Path.{_≡_, ap, _∙_}
 use lib.ListN.{length}
 use Rattle.cluster.specs.Terms.{rowsIn}
 use Rattle.fields.specs.RecordField.{over}
-use Rattle.fields.proofs.Written.{length-written}
+use Rattle.numbers.proofs.Written.{length-written}
 use Rattle.layout_head.specs.RecordHead.{headFields}
 use Rattle.layout_rows.specs.RecordLayout.{layoutRecord}
 use Rattle.layout_rows.specs.RecordLayoutFaults.{rowsFit}
