@@ -1,11 +1,11 @@
--- `walks::crossed` meets its contract. Assumes nothing.
+-- `crossings::crossed` meets its contract. Assumes nothing.
 use borrow.Author.Needs.{needs}
 use native.Mathlib.Omega.{arith}
 use borrow.Author.Tests.{not-true, not-false}
-use Rattle.walks.proofs.Steps.{cross-store, cross-apart, cross-first, cross-both}
+use Rattle.crossings.proofs.Steps.{cross-store, cross-apart, cross-first, cross-both}
 use Rattle.walks.specs.ModelWalks.{okOf}
-use Rattle.walks.proofs.crossed.Statement.{statement}
-use Rattle.walks.proofs.crossed.Tie as tie
+use Rattle.crossings.proofs.crossed.Statement.{statement}
+use Rattle.crossings.proofs.crossed.Tie as tie
 
 cell-requires : tie.Need-cell-requires
 cell-requires c κs = search needs

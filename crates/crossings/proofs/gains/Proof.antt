@@ -1,14 +1,14 @@
--- `walks::gains` meets its contract. The loop has added the costs of the arcs that it passed to that of the closing arc. Assumes nothing.
+-- `crossings::gains` meets its contract. The loop has added the costs of the arcs that it passed to that of the closing arc. Assumes nothing.
 use borrow.Author.Needs.{needs}
 use native.Mathlib.Omega.{arith}
-use Rattle.walks.proofs.Steps.{entryCost, costsAfter, cost-at, gains-begin, gains-none, gains-more, gains-all}
+use Rattle.crossings.proofs.Steps.{entryCost, costsAfter, cost-at, gains-begin, gains-none, gains-more, gains-all}
 use Rattle.sets.specs.ModelBits.{bitsAt}
 use Rattle.walks.specs.ModelWalks.{walkIn}
 use lib.Dec.{ltb}
 use mathlib.Core.Path.{_≡_, ap, _∙_}
 use Prim.Native.Nat.{ℕ, _+_, _*_, _≤_, _<_, _-_}
-use Rattle.walks.proofs.gains.Statement.{statement}
-use Rattle.walks.proofs.gains.Tie as tie
+use Rattle.crossings.proofs.gains.Statement.{statement}
+use Rattle.crossings.proofs.gains.Tie as tie
 
 abbrev Inv-loop : tie.InvT-loop
 Inv-loop y q i j former partitions end t₀ sum₀ t sum = (i < t) × (t ≤ j) × (sum ≤ 2 * t)

@@ -1,8 +1,8 @@
--- `walks::later` meets its contract. No arc that the loop passed can be crossed with i. Assumes nothing.
+-- `crossings::later` meets its contract. No arc that the loop passed can be crossed with i. Assumes nothing.
 use borrow.Author.Needs.{needs}
 use native.Mathlib.Omega.{arith}
 use Rattle.sums.proofs.First.{first-hit, first-miss, first-end}
 use Rattle.walks.specs.ModelWalks.{okOf, walkIn}
 use Rattle.exchange.specs.ModelUncross.{crosses, partner}
 use Rattle.sums.specs.ModelSums.{firstFrom}
 use lib.ListN.{getD}
@@ -10,8 +10,8 @@ use native.Mathlib.Numerals.{add-one}
 use mathlib.Core.Bool.{Bool}
 use mathlib.Core.Path.{_≡_, sym, ap, _∙_}
 use Prim.Native.Nat.{ℕ, _-_}
-use Rattle.walks.proofs.later.Statement.{statement}
-use Rattle.walks.proofs.later.Tie as tie
+use Rattle.crossings.proofs.later.Statement.{statement}
+use Rattle.crossings.proofs.later.Tie as tie
 
 abbrev Inv-loop : tie.InvT-loop
 Inv-loop y q m i rows tight partitions mates all z j₀ j =

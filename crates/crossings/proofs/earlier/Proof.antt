@@ -1,8 +1,8 @@
--- `walks::earlier` meets its contract. No arc that the loop passed can be crossed with a later one. Assumes nothing.
+-- `crossings::earlier` meets its contract. No arc that the loop passed can be crossed with a later one. Assumes nothing.
 use borrow.Author.Needs.{needs}
 use native.Mathlib.Omega.{arith}
 use Rattle.sums.proofs.First.{first-hit, first-miss, first-end}
 use Rattle.walks.specs.ModelWalks.{okOf, walkIn}
 use Rattle.exchange.specs.ModelUncross.{partner, firstCrossed}
 use Rattle.sums.specs.ModelSums.{firstFrom}
 use borrow.Author.Tests.{lt-ltb, le-ltb}
@@ -11,8 +11,8 @@ use native.Mathlib.Nat.{sub-zero}
 use mathlib.Core.Bool.{Bool}
 use mathlib.Core.Path.{_≡_, sym, ap, _∙_}
 use Prim.Native.Nat.{ℕ, _≤_, _-_}
-use Rattle.walks.proofs.earlier.Statement.{statement}
-use Rattle.walks.proofs.earlier.Tie as tie
+use Rattle.crossings.proofs.earlier.Statement.{statement}
+use Rattle.crossings.proofs.earlier.Tie as tie
 
 abbrev Inv-loop : tie.InvT-loop
 Inv-loop y q m rows tight partitions mates all z i₀ i = (i ≤ m)
