@@ -1,4 +1,4 @@
--- `sizing::mates` meets its contract. The loop's invariant: the first b sets are written.
+-- `caps::mates` meets its contract. The loop's invariant: the first b sets are written.
 -- Assumes nothing.
 use borrow.Author.Needs.{needs}
 use native.Mathlib.Omega.{arith}
@@ -8,10 +8,10 @@ use Rattle.cluster.specs.Terms.{mostNodes}
 use Rattle.sums.specs.ModelSums.{is}
 use Rattle.sets.specs.ModelBits.{maskOf}
 use Rattle.incidence.specs.ModelIncidence.{cell, column}
-use Rattle.sizing.specs.ModelSizing.{mateCells}
+use Rattle.caps.specs.ModelCaps.{mateCells}
 use Rattle.incidence.proofs.Columns.{column-none, column-next, column-end}
-use Rattle.sizing.proofs.mates.Statement.{statement}
-use Rattle.sizing.proofs.mates.Tie as tie
+use Rattle.caps.proofs.mates.Statement.{statement}
+use Rattle.caps.proofs.mates.Tie as tie
 
 abbrev Inv-loop : tie.InvT-loop
 Inv-loop n zones m mates₀ b₀ mates b = (b ≤ m) × (m ≤ mostNodes) × (mates ≡ column (λ i. maskOf (λ x. is (cell zones x) (cell zones i)) m) b)

@@ -1,4 +1,4 @@
--- `sizing::greatest` meets its contract. The usable capacities passed are no larger. Assumes nothing.
+-- `caps::greatest` meets its contract. The usable capacities passed are no larger. Assumes nothing.
 use borrow.Author.Needs.{needs}
 use borrow.Author.Count.{below-more}
 use native.Mathlib.Omega.{arith}
@@ -7,8 +7,8 @@ use mathlib.Core.Path.{sym, ap, _∙_}
 use mathlib.Core.Logic.{⊎-elim}
 use Rattle.cluster.specs.Terms.{mostNodes, topology, nodeAt, usable}
 use Rattle.cluster.proofs.Slots.{node-slot}
-use Rattle.sizing.proofs.greatest.Statement.{statement}
-use Rattle.sizing.proofs.greatest.Tie as tie
+use Rattle.caps.proofs.greatest.Statement.{statement}
+use Rattle.caps.proofs.greatest.Tie as tie
 
 abbrev Inv-loop : tie.InvT-loop
 Inv-loop c n most₀ b₀ most b = (b ≤ n) × (n ≤ mostNodes) × (n ≤ c .count) × ((i : ℕ) → i < b → usable (nodeAt (topology c) i) ≤ most)

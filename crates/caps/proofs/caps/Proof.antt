@@ -1,4 +1,4 @@
--- `sizing::caps` meets its contract. The loop's invariant: the first b caps are written, and the capacities passed are numbers of 32 bits.
+-- `caps::caps` meets its contract. The loop's invariant: the first b caps are written, and the capacities passed are numbers of 32 bits.
 -- Assumes nothing.
 use borrow.Author.Needs.{needs}
 use borrow.Author.Count.{below-more}
@@ -11,9 +11,9 @@ use Rattle.cluster.proofs.Slots.{node-slot}
 use Rattle.incidence.specs.ModelIncidence.{capAt, column}
 use Rattle.incidence.proofs.Columns.{column-none, column-next, column-end}
 use Rattle.tallies.specs.ModelTallies.{sizeBits}
-use Rattle.sizing.specs.ModelSizing.{cutBits, capCells, capsIn}
-use Rattle.sizing.proofs.caps.Statement.{statement}
-use Rattle.sizing.proofs.caps.Tie as tie
+use Rattle.caps.specs.ModelCaps.{cutBits, capCells, capsIn}
+use Rattle.caps.proofs.caps.Statement.{statement}
+use Rattle.caps.proofs.caps.Tie as tie
 
 abbrev Inv-loop : tie.InvT-loop
 Inv-loop size c n most caps₀ b₀ caps b = (b ≤ n) × (n ≤ mostNodes) × (n ≤ c .count) × (caps ≡ column (capAt (cutBits (topology c)) size) b)
