@@ -1,11 +1,11 @@
 # The walk over the fields of a cluster record: `cluster_record::walk`.
 from walk import CELL_TERMS, FIELD, READER, RECORD, RECORD_TERMS, TYPES, U8, U32, USES, USIZE, Callee, Walk, struct, used
 
-OWN, FIELDS = 'cluster_record', 'cluster_fields'
+OWN, FIELDS, READING = 'cluster_record', 'cluster_fields', 'cluster_reading'
 CLUSTER, ANSWER = struct('Cluster', 'Cl'), struct('ReadCluster', 'An')
 
 NONE = Callee('Empty', 'empty', 'cluster', 'Cluster::none', [], CLUSTER, 'r ≡ noNodes')
-ALLOWED = Callee('Allowed', 'allowed', OWN, 'allowed_after', [(U32, 'last')], U32, 'tagsOf r ≡ allowedAfter last')
+ALLOWED = Callee('Allowed', 'allowed', READING, 'allowed_after', [(U32, 'last')], U32, 'tagsOf r ≡ allowedAfter last')
 NEXT = Callee('Next', 'next', 'fields', 'reader::next', [(READER, 'at'), (U32, 'al'), (USIZE, '0')], FIELD,
               '(r ≡ fieldAt bytes at (tagsOf al) 0) × Within n at (tagsOf al) 0 r')
 REFUSAL = Callee('RefusalOf', 'refusal-of', 'fields', 'refusal_of', [(FIELD, 'f')], U32, 'r ≡ refusalOf f')
@@ -62,7 +62,7 @@ use Rattle.cluster.proofs.Cluster as Cl
 use Rattle.cluster.proofs.Cluster.Laws as Cl′
 use {SPECS}.declared.ReadCluster.{{ReadCluster}}
 use Rattle.{FIELDS}.specs.RecordClusterFaults.{{itemIn, withItem, formerWith, faultIn}}
-use {SPECS}.RecordClusterReading.{{Reading, allowedAfter, clusterRefused, ended as endedOf}}
+use Rattle.{READING}.specs.RecordClusterReading.{{Reading, allowedAfter, clusterRefused, ended as endedOf}}
 use {SPECS}.RecordClusterAnswer.{{clusterAnswer}}
 use {PROOFS}.ReadCluster as An
 use {PROOFS}.ReadCluster.Laws as An′

@@ -8,10 +8,10 @@ PARTS = Callee('Partitions', 'partitions', 'cluster', 'partitions', [(U32, 'bits
 NEXT = Callee('Next', 'next', BELOW, 'reading::next_field', [(RECORD, 's'), (USIZE, 'at'), (U32, '10'), (USIZE, 'exact')], FIELD,
               '(r ≡ nextField bytes at 10 exact) × Within n at (10 ∷ []) exact r', '10 < 32')
 STOPPED = Callee('Stopping', 'refused-by', OWN, 'rows::refused_by', [(FIELD, 'f')], ANSWER, 'r ≡ layoutAnswer (layoutRefused (refusalOf f) (placeOf f))')
-FAULT = Callee('Fault', 'fault', OWN, 'rows::row_fault', [(RECORD, 's'), (USIZE, 'start'), (USIZE, 'parts'), (USIZE, 'next'), (USIZE, 'count')], U32,
+FAULT = Callee('Fault', 'fault', 'layout_rows', 'row_fault', [(RECORD, 's'), (USIZE, 'start'), (USIZE, 'parts'), (USIZE, 'next'), (USIZE, 'count')], U32,
                'r ≡ layoutRowFault parts next (numberAt bytes start 2) (idsAt bytes (start + 2) count)', 'start + 2 + 4 * count ≤ n')
 REFUSED = Callee('Refusing', 'refused', OWN, 'refused', [(U32, 'refusal'), (USIZE, 'byte')], ANSWER, 'r ≡ layoutAnswer (layoutRefused refusal byte)')
-PUT = Callee('Put', 'put-ids', 'fields', 'ids::put_ids', [(RECORD, 's'), (USIZE, 'row'), (USIZE, 'at'), (USIZE, 'count')], UNIT,
+PUT = Callee('Put', 'put-ids', 'id_bytes', 'put_ids', [(RECORD, 's'), (USIZE, 'row'), (USIZE, 'at'), (USIZE, 'count')], UNIT,
              'zs ≡ put (row * rowCells) (λ j. numberAt bytes (at + 4 * j) 4) count ys', '(row * rowCells + count ≤ length ys) × (at + 4 * count ≤ n)', lends=True)
 ENDED = Callee('Ended', 'ended', OWN, 'rows::ended', [(RECORD, 's'), (USIZE, 'at'), (NUMBERS, 'z')], ANSWER, '(L : Layout) → r ≡ layoutAnswer (endIn bytes at z L)')
 
@@ -47,7 +47,7 @@ use Rattle.cell_rows.proofs.CellLayouts.{{length-cellsOf}}
 use Rattle.{BELOW}.specs.declared.Numbers.{{Numbers}}
 use {SPECS}.declared.ReadLayout.{{ReadLayout}}
 use Rattle.{BELOW}.specs.RecordHeadFaults.{{nextField}}
-use {SPECS}.RecordLayoutFaults.{{layoutRefused, layoutRowFault, endIn}}
+use Rattle.layout_rows.specs.RecordLayoutFaults.{{layoutRefused, layoutRowFault, endIn}}
 use {SPECS}.RecordLayoutAnswer.{{layoutAnswer}}
 use Rattle.{BELOW}.proofs.Numbers as Nu
 use Rattle.{BELOW}.proofs.Numbers.Laws as Nu′

@@ -14,8 +14,8 @@ use Rattle.cluster.specs.Terms.{mem}
 use Rattle.cluster.proofs.Lists.{mem-cases}
 use Rattle.fields.specs.RecordField.{bytesOf, Bytes, part, written, nodeWidth, removeWidth, resizeWidth, nodeBytes, headWidth, field, ruleOf, legal, legalAs, fieldAt}
 use Rattle.fields.specs.declared.Field.the-variants.{Body}
-use Rattle.fields.proofs.Numbers.{length-bytes, length-part, part-append, bytes-byte, bytes-join, bytes-there, number-at-lt, number-here, after-number}
-use Rattle.fields.proofs.Written.{written-fits}
+use Rattle.numbers.proofs.Numbers.{length-bytes, length-part, part-append, bytes-byte, bytes-join, bytes-there, number-at-lt, number-here, after-number}
+use Rattle.numbers.proofs.Written.{written-fits}
 use Rattle.fields.proofs.Puts.{put-next, put-body}
 use Rattle.node_bytes.proofs.Nodes.{length-node, bytes-node, node-here, node-bytes, fits-node}
 use Rattle.fields.proofs.RecordField.{one-tag, whole, field-back, length-field, field-bytes, body-here, field-here}

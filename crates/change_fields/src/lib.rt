@@ -58,13 +58,13 @@ pub fn change_in(s: &[u8], tag: u8, start: usize) -> Change
             node: node_bytes::node_at(s, start),
         };
     }
-    let id = fields::word_at(s, start);
+    let id = numbers::word_at(s, start);
     if tag as u32 == REMOVE {
         return Change::Remove { id };
     }
     Change::Resize {
         id,
-        capacity: fields::word_at(s, start + 4),
+        capacity: numbers::word_at(s, start + 4),
     }
 }
 
@@ -91,13 +91,13 @@ fn put_change(x: Change, out: &mut [u8]) -> usize
         }
         Change::Remove { id } => {
             fields::put_head(out, 0, REMOVE, lengths::REMOVE);
-            fields::put_word(out, 3, id);
+            numbers::put_word(out, 3, id);
             3 + lengths::REMOVE
         }
         Change::Resize { id, capacity } => {
             fields::put_head(out, 0, RESIZE, lengths::RESIZE);
-            fields::put_word(out, 3, id);
-            fields::put_word(out, 7, capacity);
+            numbers::put_word(out, 3, id);
+            numbers::put_word(out, 7, capacity);
             3 + lengths::RESIZE
         }
     }

@@ -117,7 +117,7 @@ fn change_line(text: &[u8], from: usize, last: Cluster) -> Cluster {
     if n == 0 {
         return last;
     }
-    let at = fields::byte_at(&bytes, 0) as usize;
+    let at = numbers::byte_at(&bytes, 0) as usize;
     if at == 255 {
         return change(c, &bytes[1..n], 18446744073709551615);
     }

@@ -15,7 +15,7 @@ use Rattle.cell_rows.proofs.CellLayouts.{length-cellsOf, getD-cellsOf}
 use Rattle.fields.specs.RecordField.{numberAt, rowWidth, idsAt}
 use Rattle.cluster_fields.specs.RecordClusterFaults.{Item, itemIn, upTo, formerWith}
 use Rattle.cluster_fields.proofs.Items.{item-five}
-use Rattle.fields.proofs.IdBytes.{length-ids, getD-ids}
+use Rattle.id_bytes.proofs.IdBytes.{length-ids, getD-ids}
 
 -- What holds of every element of a list, of one more and of the default holds of every element of the longer list.
 pub every-snoc : {A : Type 0} (P : A → Type 0) (d : A) (l : List A) (x : A) → ((i : ℕ) → P (getD l i d)) → P x → P d → (i : ℕ) → P (getD (l ++ (x ∷ [])) i d)

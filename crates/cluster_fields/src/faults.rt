@@ -58,13 +58,13 @@ pub fn field_fault(bytes: &[u8], c: Cluster, tag: u8, start: usize) -> u32
     ensures { λ r. ⌜ ((next len : ℕ) → r ≡ faultIn (topology c) next (itemIn (now (bytes .entry)) tag start len)) ⌝ }
 {
     if tag == 1 {
-        return number_fault(0, Cluster::BITS, fields::byte_at(bytes, start));
+        return number_fault(0, Cluster::BITS, numbers::byte_at(bytes, start));
     }
     if tag == 2 {
-        return number_fault(1, Cluster::REPLICATION, fields::byte_at(bytes, start));
+        return number_fault(1, Cluster::REPLICATION, numbers::byte_at(bytes, start));
     }
     if tag == 3 {
-        return number_fault(1, c.replication, fields::byte_at(bytes, start));
+        return number_fault(1, c.replication, numbers::byte_at(bytes, start));
     }
     let node = node_bytes::node_at(bytes, start);
     node_fault(c.count, last_id(c), node)

@@ -15,18 +15,18 @@ pub fn row_fault(bytes: &[u8], bits: u32, next: usize, start: usize, len: usize)
         (cond (ltb (numberAt (now (bytes .entry)) start 2) next || not (rising (idsAt (now (bytes .entry)) (start + 2) ((len - 2) / 4)))) 5 0) ⌝ }
 {
     let count = (len - 2) / 4;
-    let partition = fields::pair_at(bytes, start) as usize;
+    let partition = numbers::pair_at(bytes, start) as usize;
     if cluster::partitions(bits) <= partition {
         return refusal::RANGE;
     }
     // Ids that rise have no 0 among them, so those of a row without fault are scanned once.
-    if fields::ids::ids_rise(bytes, start + 2, count) {
+    if id_bytes::ids_rise(bytes, start + 2, count) {
         if partition < next {
             return refusal::ORDER;
         }
         return 0;
     }
-    if fields::ids::has_zero(bytes, start + 2, count) {
+    if id_bytes::has_zero(bytes, start + 2, count) {
         return refusal::RANGE;
     }
     refusal::ORDER

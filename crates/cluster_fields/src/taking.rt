@@ -7,7 +7,6 @@ ghost use Rattle.fields.specs.RecordField.{numberAt, rowWidth};
 ghost use Rattle.cluster_fields.specs.RecordClusterFaults.{itemIn, withItem, formerWith};
 ghost use Rattle.cluster.specs.TermsReading.{slotsOf};
 use cluster::Cluster;
-use fields::ids;
 
 // A cluster with what a field says of it, which is no former row.
 pub fn cluster_with(bytes: &[u8], c: Cluster, tag: u8, start: usize) -> Cluster
@@ -16,15 +15,15 @@ pub fn cluster_with(bytes: &[u8], c: Cluster, tag: u8, start: usize) -> Cluster
 {
     let mut next = c;
     if tag == 1 {
-        next.bits = fields::byte_at(bytes, start);
+        next.bits = numbers::byte_at(bytes, start);
         return next;
     }
     if tag == 2 {
-        next.replication = fields::byte_at(bytes, start);
+        next.replication = numbers::byte_at(bytes, start);
         return next;
     }
     if tag == 3 {
-        next.redundancy = fields::byte_at(bytes, start);
+        next.redundancy = numbers::byte_at(bytes, start);
         return next;
     }
     let at = c.count;
@@ -40,7 +39,7 @@ pub fn take_row(rows: &mut [u32], bytes: &[u8], start: usize, len: usize) -> usi
         → (now (rows .exit) ≡ cellsOf (formerWith F (itemIn (now (bytes .entry)) 5 start len)))
         × (r ≡ length (formerWith F (itemIn (now (bytes .entry)) 5 start len)))) ⌝ }
 {
-    let partition = fields::pair_at(bytes, start) as usize;
-    ids::put_ids(rows, bytes, partition, start + 2, (len - 2) / 4);
+    let partition = numbers::pair_at(bytes, start) as usize;
+    id_bytes::put_ids(rows, bytes, partition, start + 2, (len - 2) / 4);
     partition + 1
 }

@@ -6,7 +6,7 @@ use mathlib.Core.List.{List, _++_}
 use lib.ListN.{length, drop}
 use borrow.Author.Tests.{lt-ltb, le-ltb, eq-eqb, ne-eqb}
 use Rattle.cluster.specs.Terms.{layoutCells, cellsOf}
-use Rattle.cluster_record.specs.RecordClusterReading.{clusterRefused, readCluster}
+use Rattle.cluster_reading.specs.RecordClusterReading.{clusterRefused, readCluster}
 use Rattle.cluster_record.specs.RecordClusterAnswer.{clusterOutcome, clusterAnswer, readClusterOf, formerRead}
 
 module _ (s former : List ℕ) where

@@ -16,18 +16,18 @@ use Rattle.cluster.specs.TermsReading.{Accepted}
 use Rattle.cluster.proofs.Lists.{rising-head, rising-tail, rising-none}
 use Rattle.fields.specs.RecordField.{bytesOf, nodeBytes, FitsNode, field, fieldAt, ruleOf, legal, idBytes, idsAt}
 use Rattle.fields.specs.declared.Field.the-variants.{Body}
-use Rattle.fields.proofs.Numbers.{length-bytes, number-here, after-number}
+use Rattle.numbers.proofs.Numbers.{length-bytes, number-here, after-number}
 use Rattle.node_bytes.proofs.Nodes.{length-node, node-here}
 use Rattle.fields.proofs.RecordField.{legal-true, legal-any, length-field, body-here, rest-here, field-here}
 use Rattle.cluster_record.specs.RecordCluster.{bitsField, replicationField, redundancyField, nodeField, nodeFields, formerField, formerFields, clusterRecord, IsClusterRecord}
 use Rattle.cluster_fields.specs.RecordClusterFaults.{Item, BitsOf, ReplicationOf, RedundancyOf, OneNode, FormerRow, itemIn, withItem, upTo, formerWith, lastOf, faultIn}
-use Rattle.cluster_record.specs.RecordClusterReading.{Reading, nothingRead, allowedAfter, readingWith, ended, walk, readCluster}
-use Rattle.fields.proofs.IdBytes.{length-id-bytes, ids-here}
+use Rattle.cluster_reading.specs.RecordClusterReading.{Reading, nothingRead, allowedAfter, readingWith, ended, walk, readCluster}
+use Rattle.id_bytes.proofs.IdBytes.{length-id-bytes, ids-here}
 use Rattle.cluster_fields.proofs.Items.{item-bits, item-replication, item-redundancy, item-node, item-five, node-sound, row-sound}
 use Rattle.cluster.proofs.Accepting.{few-partitions}
 use Rattle.cluster_fields.proofs.Rows.{upTo-full, length-next}
-use Rattle.cluster_record.proofs.Walks.{walk-ends, walk-on}
-use Rattle.cluster_record.proofs.Readings.{Kind, number-next, node-next, row-next, kind-allowed}
+use Rattle.cluster_reading.proofs.Walks.{walk-ends, walk-on}
+use Rattle.cluster_reading.proofs.Readings.{Kind, number-next, node-next, row-next, kind-allowed}
 
 -- The walk over s has come so far, and the bytes `rest` are left.
 record Reaches (s : List ℕ) (r : Reading) (rest : List ℕ) : Type 0 where

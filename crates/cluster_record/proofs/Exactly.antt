@@ -17,12 +17,12 @@ use Rattle.fields.proofs.RecordField.{whole, refused-some}
 use Rattle.cluster_record.specs.declared.ReadCluster.{ReadCluster}
 use Rattle.cluster_record.specs.RecordCluster.{IsClusterRecord}
 use Rattle.cluster_fields.specs.RecordClusterFaults.{upTo}
-use Rattle.cluster_record.specs.RecordClusterReading.{Reading, ClusterRead, nothingRead, allowedAfter, clusterRefused, ended, readCluster}
+use Rattle.cluster_reading.specs.RecordClusterReading.{Reading, ClusterRead, nothingRead, allowedAfter, clusterRefused, ended, readCluster}
 use Rattle.cluster_record.specs.RecordClusterAnswer.{clusterOutcome, clusterAnswer, readClusterOf, formerRead}
 use Rattle.cluster_record.specs.RecordClusterClaims.{ReadsCluster, AnswersCluster, Yielded}
 use Rattle.cluster.proofs.Slots.{topology-slots}
-use Rattle.cluster_record.proofs.Walks.{walk-holds}
-use Rattle.cluster_record.proofs.Readings.{kind, row-bytes, Well, well-nothing, well-step}
+use Rattle.cluster_reading.proofs.Walks.{walk-holds}
+use Rattle.cluster_reading.proofs.Readings.{kind, row-bytes, Well, well-nothing, well-step}
 use Rattle.cluster_record.proofs.Answers.{long-answer, accepted-former}
 use Rattle.cluster_record.proofs.Sound.{well-former, reads-records}
 use Rattle.cluster_record.proofs.Complete.{records-read}

@@ -1,5 +1,3 @@
-pub mod Walks
-pub mod Readings
 pub mod Walked
 pub mod Answers
 pub mod RecordBytes

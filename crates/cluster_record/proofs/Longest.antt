@@ -17,18 +17,18 @@ use Rattle.fields.specs.RecordField.{nodeWidth, nodeBytes, rowWidth, headWidth,
 use Rattle.fields.specs.declared.Field.the-variants.{Body}
 use Rattle.node_bytes.proofs.Nodes.{length-node}
 use Rattle.fields.proofs.Cut.{number-same, ids-same, node-same, field-same}
-use Rattle.fields.proofs.Numbers.{length-bytes}
+use Rattle.numbers.proofs.Numbers.{length-bytes}
 use Rattle.fields.proofs.RecordField.{whole, length-field, refused-some}
 use Rattle.cluster_record.specs.RecordCluster.{bitsField, replicationField, redundancyField, nodeField, nodeFields, formerField, formerFields, clusterRecord, longestRecord, decidingBytes}
 use Rattle.cluster_fields.specs.RecordClusterFaults.{Item, BitsOf, ReplicationOf, RedundancyOf, OneNode, FormerRow, itemIn, withItem, upTo, formerWith, faultIn}
-use Rattle.cluster_record.specs.RecordClusterReading.{Reading, ClusterRead, nothingRead, allowedAfter, readingWith, clusterRefused, walk, readCluster}
+use Rattle.cluster_reading.specs.RecordClusterReading.{Reading, ClusterRead, nothingRead, allowedAfter, readingWith, clusterRefused, walk, readCluster}
 use Rattle.cluster_record.specs.RecordClusterAnswer.{clusterOutcome, clusterAnswer, readClusterOf, formerRead}
 use Rattle.cluster_fields.proofs.Items.{item-node, item-five, sound-row}
 use Rattle.cluster.proofs.Accepting.{few-partitions}
 use Rattle.cluster_fields.proofs.Rows.{length-next}
-use Rattle.cluster_record.proofs.Walks.{walk-refused, walk-fault, walk-on, walk-holds}
-use Rattle.cluster_record.proofs.Readings.{Kind, number-next, node-next, row-next, kind, one-byte, node-length, row-bytes, Well, well-nothing, well-step, rows-few}
-use Rattle.fields.proofs.IdBytes.{length-id-bytes}
+use Rattle.cluster_reading.proofs.Walks.{walk-refused, walk-fault, walk-on, walk-holds}
+use Rattle.cluster_reading.proofs.Readings.{Kind, number-next, node-next, row-next, kind, one-byte, node-length, row-bytes, Well, well-nothing, well-step, rows-few}
+use Rattle.id_bytes.proofs.IdBytes.{length-id-bytes}
 
 -- ---- the longest record
 

@@ -11,7 +11,7 @@ use Rattle.cluster.specs.declared.Node.{Node}
 use Rattle.cluster.specs.Terms.{Layout}
 use Rattle.fields.specs.RecordField.{Bytes, part, field, fieldAt}
 use Rattle.fields.specs.declared.Field.the-variants.{Body}
-use Rattle.fields.proofs.Numbers.{length-part}
+use Rattle.numbers.proofs.Numbers.{length-part}
 use Rattle.fields.proofs.RecordField.{whole, field-back, length-field}
 use Rattle.cluster_record.specs.RecordCluster.{nodeField, nodeFields, formerField, formerFields}
 use Rattle.cluster_fields.specs.RecordClusterFaults.{upTo}

@@ -13,17 +13,17 @@ use Rattle.cluster.specs.declared.Node.{Node}
 use Rattle.cluster.specs.Terms.{mostCopies, Topology, partitions, Layout, noNode, rising, IsFormer}
 use Rattle.fields.specs.RecordField.{bytesOf, Bytes, part, numberAt, nodeWidth, FitsNode, field, fieldAt, Whole, nodeAtByte, idBytes, idsAt}
 use Rattle.fields.specs.declared.Field.the-variants.{Body}
-use Rattle.fields.proofs.IdBytes.{ids-back, ids-words, length-ids}
+use Rattle.id_bytes.proofs.IdBytes.{ids-back, ids-words, length-ids}
 use Rattle.node_bytes.proofs.Nodes.{node-bytes, fits-none, fits-node}
-use Rattle.fields.proofs.Numbers.{bytes-there, part-append}
+use Rattle.numbers.proofs.Numbers.{bytes-there, part-append}
 use Rattle.fields.proofs.RecordField.{whole, refused-some}
 use Rattle.cluster_record.specs.RecordCluster.{bitsField, replicationField, redundancyField, nodeField, nodeFields, formerField, formerFields, clusterRecord, FitsRecord, IsClusterRecord}
 use Rattle.cluster_fields.specs.RecordClusterFaults.{Item, BitsOf, ReplicationOf, RedundancyOf, OneNode, FormerRow, itemIn, withItem, upTo, formerWith, faultIn}
-use Rattle.cluster_record.specs.RecordClusterReading.{Reading, ClusterRead, nothingRead, allowedAfter, readingWith, clusterRefused, ended, readCluster}
+use Rattle.cluster_reading.specs.RecordClusterReading.{Reading, ClusterRead, nothingRead, allowedAfter, readingWith, clusterRefused, ended, readCluster}
 use Rattle.cluster_fields.proofs.Items.{item-node, item-five, sound-row}
 use Rattle.cluster_fields.proofs.Rows.{every-snoc, row-upTo, length-upTo}
-use Rattle.cluster_record.proofs.Walks.{walk-holds}
-use Rattle.cluster_record.proofs.Readings.{Kind, number-next, node-next, row-next, kind, one-byte, node-length, row-bytes, Well, well-nothing, well-step}
+use Rattle.cluster_reading.proofs.Walks.{walk-holds}
+use Rattle.cluster_reading.proofs.Readings.{Kind, number-next, node-next, row-next, kind, one-byte, node-length, row-bytes, Well, well-nothing, well-step}
 use Rattle.cluster_record.proofs.RecordBytes.{nodes-snoc, rows-upTo, rows-next, bytes-next}
 
 -- ---- the numbers fit

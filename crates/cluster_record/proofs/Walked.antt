@@ -15,7 +15,7 @@ use Rattle.fields.specs.RecordField.{numberAt, rowWidth, fieldAt, Whole, nodeAt
 use Rattle.fields.specs.declared.Field.the-variants.{Body, Refused}
 use Rattle.fields.proofs.RecordField.{whole, refused-some}
 use Rattle.cluster_fields.specs.RecordClusterFaults.{Item, itemIn, withItem, formerWith, faultIn}
-use Rattle.cluster_record.specs.RecordClusterReading.{Reading, ClusterRead, nothingRead, allowedAfter, readingWith, clusterRefused, ended, walk, readCluster}
+use Rattle.cluster_reading.specs.RecordClusterReading.{Reading, ClusterRead, nothingRead, allowedAfter, readingWith, clusterRefused, ended, walk, readCluster}
 use Rattle.cluster_record.specs.declared.ReadCluster.{ReadCluster}
 use Rattle.cluster_record.specs.RecordClusterAnswer.{clusterAnswer}
 use Rattle.cluster_fields.proofs.Items.{item-node, item-five, former-kept, sound-node, sound-row}
@@ -23,8 +23,8 @@ use Rattle.cluster_fields.proofs.FieldFaults.{RowFault, row-fault}
 use Rattle.cluster.proofs.Accepting.{few-partitions}
 use Rattle.cluster_fields.proofs.Rows.{cells-none, cells-upTo}
 use Rattle.cluster.proofs.Slots.{topology-slots}
-use Rattle.cluster_record.proofs.Walks.{walk-ends, walk-refused, walk-fault, walk-on}
-use Rattle.cluster_record.proofs.Readings.{Kind, kind, tag-range, row-bytes, Well, well-nothing, well-step}
+use Rattle.cluster_reading.proofs.Walks.{walk-ends, walk-refused, walk-fault, walk-on}
+use Rattle.cluster_reading.proofs.Readings.{Kind, kind, tag-range, row-bytes, Well, well-nothing, well-step}
 
 pub record Walked (s rows : List ℕ) (c : Cluster) (last next at : ℕ) : Type 0 where
   pub reading : Reading

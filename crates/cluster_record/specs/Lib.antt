@@ -1,4 +1,3 @@
 pub mod RecordCluster
 pub mod RecordClusterAnswer
 pub mod RecordClusterClaims
-pub mod RecordClusterReading

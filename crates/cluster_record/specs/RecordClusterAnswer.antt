@@ -8,7 +8,7 @@ use lib.ListN.{length, drop}
 use Rattle.cluster.specs.Terms.{layoutCells, cellsOf}
 use Rattle.cluster.specs.TermsReading.{slotsOf}
 use Rattle.cluster_record.specs.declared.ReadCluster.{ReadCluster}
-use Rattle.cluster_record.specs.RecordClusterReading.{ClusterRead, clusterRefused, readCluster}
+use Rattle.cluster_reading.specs.RecordClusterReading.{ClusterRead, clusterRefused, readCluster}
 
 -- "8: former buffer too short (byte 0). Then field by field".
 unfoldable pub clusterOutcome : List ℕ → List ℕ → ClusterRead

@@ -7,7 +7,7 @@ use lib.ListN.{drop}
 use Rattle.cluster.specs.Terms.{mostNodes, layoutCells, Topology, topology, Layout, cellsOf, faultOf}
 use Rattle.cluster.specs.declared.Cluster.{Cluster}
 use Rattle.cluster.specs.TermsReading.{slotsOf}
-use Rattle.cluster_record.specs.RecordClusterReading.{readCluster}
+use Rattle.cluster_reading.specs.RecordClusterReading.{readCluster}
 use Rattle.cluster_record.specs.RecordClusterAnswer.{readClusterOf, formerRead}
 
 -- The reading of s is not refused and yields the cluster t and the former layout F.

@@ -3,8 +3,7 @@ ghost use mathlib.Core.Path.{_≡_};
 ghost use lib.ListN.{replicate};
 ghost use Rattle.cluster.specs.Terms.{layoutCells, cellsOf};
 ghost use Rattle.cluster.specs.TermsReading.{slotsOf};
-ghost use Rattle.fields.specs.ModelTags.{tagsOf};
-ghost use Rattle.cluster_record.specs.RecordClusterReading.{Reading, allowedAfter, clusterRefused, ended as endedOf, readCluster};
+ghost use Rattle.cluster_reading.specs.RecordClusterReading.{Reading, clusterRefused, ended as endedOf, readCluster};
 ghost use Rattle.cluster_record.specs.RecordClusterAnswer.{clusterAnswer, readClusterOf, formerRead};
 use cluster::Cluster;
 use cluster::refusal;
@@ -33,19 +32,6 @@ fn refused(refusal: u32, byte: usize) -> ReadCluster
     }
 }
 
-// The set of the tags that are allowed after a tag, 0 for none yet.
-fn allowed_after(last: u32) -> u32
-    ensures { λ r. ⌜ tagsOf r ≡ allowedAfter last ⌝ }
-{
-    if last < 3 {
-        return sets::with(0, last + 1);
-    }
-    if last < 5 {
-        return sets::with(sets::with(0, 4), 5);
-    }
-    sets::with(0, 5)
-}
-
 // What is said at the end of the bytes: a field is missing, or the cluster stands.
 fn ended(bytes: &[u8], last: u32, c: Cluster) -> ReadCluster
     ensures { λ r. ⌜ ((k : Reading) → last ≡ k .last → c ≡ slotsOf (k .cluster) → r ≡ clusterAnswer (endedOf (now (bytes .entry)) k)) ⌝ }
@@ -71,7 +57,7 @@ fn walk(bytes: &[u8], rows: &mut [u32]) -> ReadCluster
     let mut last = 0u32;
     let mut next = 0;
     while r.at < r.src.len() {
-        let f = reader::next(r, allowed_after(last), 0);
+        let f = reader::next(r, cluster_reading::allowed_after(last), 0);
         let Field::Body { tag, start, len } = f else {
             return refused(fields::refusal_of(f), fields::place_of(f));
         };

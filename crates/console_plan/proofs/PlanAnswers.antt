@@ -7,12 +7,12 @@ use native.Mathlib.Omega.{arith}
 use lib.ListN.{length, drop, replicate, length-replicate}
 use Rattle.cluster.specs.Terms.{layoutCells, scratchCells, Topology, topology, partitions, Layout, IsFormer, rowsIn}
 use Rattle.cluster.proofs.Slots.{topology-slots}
-use Rattle.cluster_record.specs.RecordClusterReading.{readCluster}
+use Rattle.cluster_reading.specs.RecordClusterReading.{readCluster}
 use Rattle.cluster_record.specs.RecordClusterAnswer.{clusterAnswer, readClusterOf}
 use Rattle.cluster_record.specs.declared.ReadCluster.{ReadCluster}
 use Rattle.cluster_record.proofs.Answers.{long-answer, accepted-former}
 use Rattle.cluster_record.proofs.Exactly.{reads-yield, answer-yields}
-use Rattle.planner.specs.TermsPlan.{unusable, Owed}
+use Rattle.settling.specs.TermsPlan.{unusable, Owed}
 use Rattle.planner.proofs.Refusals.{cells-usable}
 use Rattle.answers.specs.TermsAnswers.{reading}
 use Rattle.console_plan.specs.TermsConsolePlan.{formerIn, PlanOwed}

@@ -11,7 +11,7 @@ use Rattle.sums.proofs.Tests.{true-or-false}
 use Rattle.cluster.specs.Terms.{mem}
 use Rattle.fields.specs.RecordField.{numberOf, part, numberAt, nodeWidth, nodeAtByte, idsAt, headWidth, longestField, legalAs, fieldAt}
 use Rattle.fields.specs.declared.Field.the-variants.{Body}
-use Rattle.fields.proofs.Numbers.{has-true, number-there}
+use Rattle.numbers.proofs.Numbers.{has-true, number-there}
 use Rattle.lengths.proofs.Lengths.{lawful, legal-greatest, greatest-le}
 use Rattle.fields.proofs.RecordField.{field-tag, field-length, field-whole}
 

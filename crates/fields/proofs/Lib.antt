@@ -1,8 +1,5 @@
-pub mod Numbers
 pub mod Tags
 pub mod RecordField
-pub mod Written
-pub mod IdBytes
 pub mod Cut
 pub mod Puts
 pub mod Pieces

@@ -8,10 +8,10 @@ use native.Mathlib.Omega.{arith}
 use lib.ListN.{length, take, drop, getD, length-append, length-drop}
 use lib.Seq.{take-suc, getD-drop, length-take-le}
 use Rattle.fields.specs.RecordField.{bytesOf, headWidth, field, written, idBytes}
-use Rattle.fields.proofs.Numbers.{length-bytes}
+use Rattle.numbers.proofs.Numbers.{length-bytes}
 use Rattle.fields.proofs.RecordField.{field-bytes}
-use Rattle.fields.proofs.Written.{written-append}
-use Rattle.fields.proofs.IdBytes.{length-id-bytes, id-bytes-snoc}
+use Rattle.numbers.proofs.Written.{written-append}
+use Rattle.id_bytes.proofs.IdBytes.{length-id-bytes, id-bytes-snoc}
 
 -- What is written after bytes that were written makes them longer.
 pub put-next : (s r l m : List ℕ) (at w end : ℕ) → r ≡ written s at l → length l ≡ w → at + w ≡ end → end + length m ≤ length s

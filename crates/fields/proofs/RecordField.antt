@@ -20,7 +20,7 @@ use Rattle.lengths.proofs.Lengths.{greatest-lt, legal-least, legal-greatest, le
 use Rattle.fields.specs.RecordField.{bytesOf, Bytes, part, numberAt, headWidth, field, legalAs, judged, fieldAt, Whole, Within}
 use Rattle.fields.specs.declared.Field.{Field}
 use Rattle.fields.specs.declared.Field.the-variants.{Body, Refused}
-use Rattle.fields.proofs.Numbers.{length-bytes, has-true, has-false, number-byte, number-here, bytes-there, length-part}
+use Rattle.numbers.proofs.Numbers.{length-bytes, has-true, has-false, number-byte, number-here, bytes-there, length-part}
 
 -- ---- tags allowed next
 

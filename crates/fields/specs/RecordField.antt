@@ -1,6 +1,5 @@
--- Numbers and fields in the bytes of a record: a number in its bytes and back, and the field that stands at a byte. The legal lengths by tag are
--- those of crates/lengths/specs/RecordLengths.antt.
--- A byte is a number below 256.
+-- Nodes and fields in the bytes of a record: the bytes of a node, and the field that stands at a byte. The legal lengths by tag are those of
+-- crates/lengths/specs/RecordLengths.antt; numbers and ids in their bytes are those of RecordNumber.antt and RecordIds.antt.
 -- Assumes nothing.
 use Prim.Native.Nat.{ℕ, zero, suc, _+_, _-_, _*_, _/_, _%_, _^_, _≤_, _<_}
 use mathlib.Core.Path.{_≡_}
@@ -12,44 +11,13 @@ use Rattle.cluster.specs.Terms.{mostCopies, noNode, mem}
 use Rattle.cluster.specs.declared.Node.{Node}
 pub use Rattle.lengths.specs.RecordLengths.{nodeWidth, removeWidth, resizeWidth, rowWidth}
 unfoldable pub use Rattle.lengths.specs.RecordLengths.{ruleOf, legal, legalAs}
+pub use Rattle.numbers.specs.RecordNumber.{Bytes, part}
+unfoldable pub use Rattle.numbers.specs.RecordNumber.{numberOf, bytesOf, has, numberAt, written, over}
+unfoldable pub use Rattle.id_bytes.specs.RecordIds.{idsAt, idBytes}
 use Rattle.fields.specs.declared.Field.{Field}
 use Rattle.fields.specs.declared.Field.the-variants.{Body, Refused}
 
--- "numbers are unsigned, high byte first": the number that some bytes are.
-unfoldable pub numberOf : List ℕ → ℕ
-numberOf [] = 0
-numberOf (b ∷ l) = b * 256 ^ length l + numberOf l
-
--- The w bytes of a number, high byte first.
-unfoldable pub bytesOf : ℕ → ℕ → List ℕ
-bytesOf zero n = []
-bytesOf (suc w) n = n / 256 ^ w % 256 ∷ bytesOf w n
-
--- Bytes are below 256.
-abbrev pub Bytes : List ℕ → Type 0
-Bytes l = (i : ℕ) → getD l i 0 < 256
-
--- The n bytes of s from byte `at` on.
-abbrev pub part : List ℕ → ℕ → ℕ → List ℕ
-part s at n = take n (drop at s)
-
--- Whether a record of n bytes has w bytes from byte `at` on.
-unfoldable pub has : ℕ → ℕ → ℕ → Bool
-has n at w = leb (at + w) n
-
--- The number in the w bytes of s from byte `at` on; 0 where s does not have them all.
-unfoldable pub numberAt : List ℕ → ℕ → ℕ → ℕ
-numberAt s at w = cond (has (length s) at w) (numberOf (part s at w)) 0
-
--- s with the bytes l in the place of its own from byte `at` on; s itself where it does not have as many there.
-unfoldable pub written : List ℕ → ℕ → List ℕ → List ℕ
-written s at l = cond (has (length s) at (length l)) (take at s ++ l ++ drop (at + length l) s) s
-
--- The bytes p and then s from where they end: what a record p leaves in a buffer s.
-unfoldable pub over : List ℕ → List ℕ → List ℕ
-over p s = p ++ drop (length p) s
-
--- ---- nodes, ids and rows
+-- ---- nodes
 
 -- The bytes of a node, in this order.
 unfoldable pub nodeBytes : Node → List ℕ
@@ -67,16 +35,6 @@ unfoldable pub nodeAtByte : List ℕ → ℕ → Node
 nodeAtByte s at =
     cond (has (length s) at nodeWidth)
     (record { id = numberAt s at 4; zone = numberAt s (at + 4) 2; capacity = numberAt s (at + 6) 4; ceiling = numberAt s (at + 10) 2 }) noNode
-
--- The m ids from a byte on, "id 4" bytes each.
-unfoldable pub idsAt : List ℕ → ℕ → ℕ → List ℕ
-idsAt s at zero = []
-idsAt s at (suc m) = numberAt s at 4 ∷ idsAt s (at + 4) m
-
--- Ids as a record has them, four bytes each.
-unfoldable pub idBytes : List ℕ → List ℕ
-idBytes [] = []
-idBytes (i ∷ l) = bytesOf 4 i ++ idBytes l
 
 -- ---- fields
 

@@ -38,7 +38,7 @@ fn divide(
         × Same (split partitions 1 (bitsAt (now (former .entry))) (walkIn m (now (y .entry)) (now (q .entry))) i j) (walkIn r (now (y .exit)) (now (q .exit))) ⌝ }
 {
     let k = j - i;
-    if walks::gains(y, q, i as u32, j as u32, former, partitions) {
+    if crossings::gains(y, q, i as u32, j as u32, former, partitions) {
         shift(y, 0, i + 1, k);
         shift(q, 0, i + 1, k);
         y[k] = y[0];
@@ -71,11 +71,11 @@ pub fn free(
     let mut left = m;
     while 0 < left {
         let n = len as u32;
-        let i = walks::earlier(y, q, n, rows, tight, partitions, mates, all, z);
+        let i = crossings::earlier(y, q, n, rows, tight, partitions, mates, all, z);
         if n <= i {
             return len;
         }
-        let j = walks::later(y, q, n, i, rows, tight, partitions, mates, all, z);
+        let j = crossings::later(y, q, n, i, rows, tight, partitions, mates, all, z);
         len = divide(y, q, len, i as usize, j, former, partitions);
         left -= 1;
     }

@@ -16,14 +16,14 @@ fn put_number(out: &mut [u8], at: usize, tag: u32, width: usize, value: u32)
 {
     fields::put_head(out, at, tag, width);
     if width == 1 {
-        fields::put_byte(out, at + 3, value);
+        numbers::put_byte(out, at + 3, value);
         return;
     }
     if width == 2 {
-        fields::put_pair(out, at + 3, value);
+        numbers::put_pair(out, at + 3, value);
         return;
     }
-    fields::put_word(out, at + 3, value);
+    numbers::put_word(out, at + 3, value);
 }
 
 // Puts the fields before the rows.

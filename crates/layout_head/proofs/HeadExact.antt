@@ -12,7 +12,7 @@ use Rattle.sums.proofs.Tests.{both, true-or-false}
 use Rattle.fields.specs.RecordField.{bytesOf, Bytes, numberAt, field, legal}
 use Rattle.fields.specs.declared.Field.{Field}
 use Rattle.fields.specs.declared.Field.the-variants.{Body, Refused}
-use Rattle.fields.proofs.Numbers.{length-bytes, bytes-there, number-here}
+use Rattle.numbers.proofs.Numbers.{length-bytes, bytes-there, number-here}
 use Rattle.fields.proofs.RecordField.{legal-any, whole, field-back, field-here, body-here, rest-here}
 use Rattle.layout_head.specs.declared.Numbers.{Numbers}
 use Rattle.layout_head.specs.declared.table.Entry.{Entry}

@@ -41,12 +41,12 @@ fn number_at(bytes: &[u8], start: usize, len: usize) -> u32
     ensures { λ r. ⌜ r ≡ numberAt (now (bytes .entry)) start len ⌝ }
 {
     if len == 1 {
-        return fields::byte_at(bytes, start);
+        return numbers::byte_at(bytes, start);
     }
     if len == 2 {
-        return fields::pair_at(bytes, start);
+        return numbers::pair_at(bytes, start);
     }
-    fields::word_at(bytes, start)
+    numbers::word_at(bytes, start)
 }
 
 // A field that is not whole ends the reading.

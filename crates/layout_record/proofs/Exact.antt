@@ -19,9 +19,9 @@ use Rattle.layout_head.specs.declared.Numbers.{Numbers}
 use Rattle.layout_record.specs.declared.ReadLayout.{ReadLayout}
 use Rattle.layout_record.specs.declared.Written.{Written}
 use Rattle.layout_head.specs.RecordHead.{headTable, inRange, headFields}
-use Rattle.layout_record.specs.RecordLayout.{HasLayout, layoutRowFields, layoutRecord, recordLength, IsLayoutRecord}
+use Rattle.layout_rows.specs.RecordLayout.{HasLayout, layoutRowFields, layoutRecord, recordLength, IsLayoutRecord}
 use Rattle.layout_head.specs.RecordHeadFaults.{HeadRead, HeadEnds, HeadRefused, headFrom}
-use Rattle.layout_record.specs.RecordLayoutFaults.{LayoutRead, layoutAccepted, rowsFrom, readLayout, rowFits, rowsFit, writeFault}
+use Rattle.layout_rows.specs.RecordLayoutFaults.{LayoutRead, layoutAccepted, rowsFrom, readLayout, rowFits, rowsFit, writeFault}
 use Rattle.layout_record.specs.RecordLayoutAnswer.{layoutAnswer, readLayoutOf, assignmentRead, writeAnswer, outAfter}
 use Rattle.layout_record.proofs.RecordLaws.{length-record}
 use Rattle.layout_record.specs.RecordLayoutClaims.{Words, WasRecord, ReadsLayout, WasRead, CanWrite, WritesLayout, WasWritten}
@@ -29,7 +29,7 @@ use Rattle.layout_head.proofs.NumberFields.{few-bits, few-copies}
 use Rattle.layout_head.proofs.HeadExact.{head-refused, head-back, head-found}
 use Rattle.layout_record.proofs.RowsExact.{rows-back, rows-found}
 use Rattle.cluster.proofs.Accepting.{few-partitions}
-use Rattle.layout_record.proofs.RowFaults.{fits-formed, fits-zero, formed-fits, zero-fits, Writable, no-fault, write-none}
+use Rattle.layout_rows.proofs.RowFaults.{fits-formed, fits-zero, formed-fits, zero-fits, Writable, no-fault, write-none}
 use Rattle.sums.proofs.Tests.{every-at, every-all}
 use Rattle.layout_record.proofs.RowSteps.{read-halted, read-on, read-short, read-long, long-set, write-accepted}
 

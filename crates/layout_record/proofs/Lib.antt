@@ -2,7 +2,6 @@ pub mod CellsMore
 pub mod Exact
 pub mod PutRows
 pub mod RecordLaws
-pub mod RowFaults
 pub mod RowSteps
 pub mod RowsExact
 pub mod RowsTo

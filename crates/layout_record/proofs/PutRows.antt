@@ -13,17 +13,17 @@ use Rattle.cluster.specs.Terms.{rowCells, bufferRows, Layout, rowAt, idsIn, for
 use Rattle.cell_rows.proofs.CellRows.{formed-cells}
 use Rattle.cell_rows.proofs.CellLayouts.{length-rowsIn, row-rowsIn}
 use Rattle.fields.specs.RecordField.{bytesOf, written, over, idBytes}
-use Rattle.fields.proofs.Numbers.{length-bytes}
-use Rattle.fields.proofs.Written.{written-over, length-written}
-use Rattle.fields.proofs.IdBytes.{length-id-bytes}
+use Rattle.numbers.proofs.Numbers.{length-bytes}
+use Rattle.numbers.proofs.Written.{written-over, length-written}
+use Rattle.id_bytes.proofs.IdBytes.{length-id-bytes}
 use Rattle.layout_head.specs.declared.Numbers.{Numbers}
 use Rattle.layout_head.specs.RecordHead.{headFields}
-use Rattle.layout_record.specs.RecordLayout.{layoutRowField, layoutRowFields, layoutRecord, recordLength}
-use Rattle.layout_record.specs.RecordLayoutFaults.{rowFits, rowsFit}
+use Rattle.layout_rows.specs.RecordLayout.{layoutRowField, layoutRowFields, layoutRecord, recordLength}
+use Rattle.layout_rows.specs.RecordLayoutFaults.{rowFits, rowsFit}
 use Rattle.fields.proofs.Puts.{put-next, put-body}
 use Rattle.layout_head.proofs.NumberFields.{few-bits, length-head}
 use Rattle.layout_record.proofs.RecordLaws.{length-row, rows-snoc, length-rows, rowsIn-more}
-use Rattle.layout_record.proofs.RowFaults.{fits-formed, Writable}
+use Rattle.layout_rows.proofs.RowFaults.{fits-formed, Writable}
 use Rattle.cluster.proofs.Accepting.{few-partitions}
 use Rattle.sums.proofs.Tests.{every-at}
 

@@ -9,12 +9,12 @@ use lib.ListN.{length, length-append}
 use Rattle.sums.specs.TermsSums.{tab}
 use Rattle.cluster.specs.Terms.{Layout, row, rowAt, idsIn, rowsIn}
 use Rattle.fields.specs.RecordField.{bytesOf, idBytes}
-use Rattle.fields.proofs.Numbers.{length-bytes}
+use Rattle.numbers.proofs.Numbers.{length-bytes}
 use Rattle.fields.proofs.RecordField.{length-field}
 use Rattle.layout_head.specs.declared.Numbers.{Numbers}
 use Rattle.layout_head.specs.RecordHead.{headFields}
-use Rattle.layout_record.specs.RecordLayout.{HasLayout, layoutRowField, layoutRowFields, layoutRecord, recordLength}
-use Rattle.fields.proofs.IdBytes.{length-id-bytes}
+use Rattle.layout_rows.specs.RecordLayout.{HasLayout, layoutRowField, layoutRowFields, layoutRecord, recordLength}
+use Rattle.id_bytes.proofs.IdBytes.{length-id-bytes}
 use Rattle.layout_head.proofs.NumberFields.{length-head}
 use native.Mathlib.Numerals.{add-one}
 

@@ -17,13 +17,13 @@ use Rattle.fields.specs.declared.Field.{Field}
 use Rattle.fields.specs.declared.Field.the-variants.{Body, Refused}
 use Rattle.layout_head.specs.declared.Numbers.{Numbers}
 use Rattle.layout_head.specs.RecordHead.{headTable}
-use Rattle.layout_record.specs.RecordLayout.{layoutRecord, recordLength}
+use Rattle.layout_rows.specs.RecordLayout.{layoutRecord, recordLength}
 use Rattle.layout_head.specs.RecordHeadFaults.{nextField, HeadEnds, HeadRefused, headFrom}
-use Rattle.layout_record.specs.RecordLayoutFaults.{LayoutRead, layoutRefused, layoutRowFault, endIn, rowIn, rowsFrom, rowsAfter, readLayout, writeFault}
+use Rattle.layout_rows.specs.RecordLayoutFaults.{LayoutRead, layoutRefused, layoutRowFault, endIn, rowIn, rowsFrom, rowsAfter, readLayout, writeFault}
 use Rattle.layout_record.specs.RecordLayoutAnswer.{layoutOutcome, layoutAnswer, readLayoutOf, assignmentRead, writeAnswer, outAfter}
-use Rattle.fields.proofs.IdBytes.{length-ids, getD-ids}
+use Rattle.id_bytes.proofs.IdBytes.{length-ids, getD-ids}
 use Rattle.layout_record.proofs.CellsMore.{cells-more}
-use Rattle.layout_record.proofs.RowFaults.{end-whole, end-more}
+use Rattle.layout_rows.proofs.RowFaults.{end-whole, end-more}
 use Rattle.layout_head.proofs.FieldFaults.{none-refused}
 
 -- ---- the rows

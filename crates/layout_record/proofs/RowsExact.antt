@@ -16,16 +16,16 @@ use Rattle.cluster.proofs.Lists.{rising-fresh}
 use Rattle.fields.specs.RecordField.{bytesOf, Bytes, part, numberAt, field, ruleOf, legal, legalAs, idBytes, idsAt}
 use Rattle.fields.specs.declared.Field.{Field}
 use Rattle.fields.specs.declared.Field.the-variants.{Body, Refused}
-use Rattle.fields.proofs.Numbers.{length-bytes, bytes-there, number-here, part-append}
+use Rattle.numbers.proofs.Numbers.{length-bytes, bytes-there, number-here, part-append}
 use Rattle.fields.proofs.RecordField.{one-tag, legal-only, whole, field-back, field-here, body-here, rest-here}
 use Rattle.layout_head.specs.declared.Numbers.{Numbers}
-use Rattle.layout_record.specs.RecordLayout.{layoutRowField, layoutRowFields}
+use Rattle.layout_rows.specs.RecordLayout.{layoutRowField, layoutRowFields}
 use Rattle.layout_head.specs.RecordHeadFaults.{nextField}
-use Rattle.layout_record.specs.RecordLayoutFaults.{LayoutRead, layoutAccepted, layoutRefused, layoutRowFault, endIn, rowIn, rowsFrom}
-use Rattle.fields.proofs.IdBytes.{length-ids, length-id-bytes, ids-here, ids-back, ids-words}
+use Rattle.layout_rows.specs.RecordLayoutFaults.{LayoutRead, layoutAccepted, layoutRefused, layoutRowFault, endIn, rowIn, rowsFrom}
+use Rattle.id_bytes.proofs.IdBytes.{length-ids, length-id-bytes, ids-here, ids-back, ids-words}
 use Rattle.layout_record.proofs.CellsMore.{length-more}
 use Rattle.layout_head.proofs.NumberFields.{next-there}
-use Rattle.layout_record.proofs.RowFaults.{fault-partition, fault-zero, fault-next, fault-falls, fault-none, end-whole, end-more}
+use Rattle.layout_rows.proofs.RowFaults.{fault-partition, fault-zero, fault-next, fault-falls, fault-none, end-whole, end-more}
 use Rattle.layout_head.proofs.FieldFaults.{next-refused, none-refused, next-body, tag-alone, before-end}
 
 -- Rows as a record has them: R rising ids of 32 bits each.

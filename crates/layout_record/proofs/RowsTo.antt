@@ -13,7 +13,7 @@ use Rattle.fields.specs.declared.Field.the-variants.{Body, Refused}
 use Rattle.layout_head.specs.declared.Numbers.{Numbers}
 use Rattle.layout_record.specs.declared.ReadLayout.{ReadLayout}
 use Rattle.layout_head.specs.RecordHeadFaults.{nextField}
-use Rattle.layout_record.specs.RecordLayoutFaults.{LayoutRead, layoutRefused, layoutRowFault, endIn, rowsFrom}
+use Rattle.layout_rows.specs.RecordLayoutFaults.{LayoutRead, layoutRefused, layoutRowFault, endIn, rowsFrom}
 use Rattle.layout_record.specs.RecordLayoutAnswer.{layoutAnswer}
 use Rattle.layout_record.proofs.CellsMore.{length-more}
 use Rattle.layout_head.proofs.FieldFaults.{next-refused}

@@ -1,4 +1,2 @@
-pub mod RecordLayout
 pub mod RecordLayoutAnswer
 pub mod RecordLayoutClaims
-pub mod RecordLayoutFaults

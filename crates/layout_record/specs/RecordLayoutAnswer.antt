@@ -10,8 +10,8 @@ use Rattle.fields.specs.RecordField.{over}
 use Rattle.layout_head.specs.declared.Numbers.{Numbers}
 use Rattle.layout_record.specs.declared.ReadLayout.{ReadLayout}
 use Rattle.layout_record.specs.declared.Written.{Written}
-use Rattle.layout_record.specs.RecordLayout.{layoutRecord, recordLength}
-use Rattle.layout_record.specs.RecordLayoutFaults.{LayoutRead, layoutRefused, readLayout, writeFault}
+use Rattle.layout_rows.specs.RecordLayout.{layoutRecord, recordLength}
+use Rattle.layout_rows.specs.RecordLayoutFaults.{LayoutRead, layoutRefused, readLayout, writeFault}
 
 -- "8 for the assignment buffer", with byte 0; then field by field.
 unfoldable pub layoutOutcome : List ℕ → List ℕ → LayoutRead

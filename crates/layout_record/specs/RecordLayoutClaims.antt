@@ -9,8 +9,8 @@ use lib.ListN.{length, take, drop, getD}
 use Rattle.cluster.specs.Terms.{layoutCells, Layout, cellsOf}
 use Rattle.layout_head.specs.declared.Numbers.{Numbers}
 use Rattle.layout_head.specs.RecordHead.{inRange}
-use Rattle.layout_record.specs.RecordLayout.{HasLayout, layoutRecord, IsLayoutRecord}
-use Rattle.layout_record.specs.RecordLayoutFaults.{layoutAccepted, readLayout}
+use Rattle.layout_rows.specs.RecordLayout.{HasLayout, layoutRecord, IsLayoutRecord}
+use Rattle.layout_rows.specs.RecordLayoutFaults.{layoutAccepted, readLayout}
 use Rattle.layout_record.specs.RecordLayoutAnswer.{readLayoutOf, assignmentRead, writeAnswer, outAfter}
 
 -- Cells are numbers of 32 bits.

@@ -1,12 +1,12 @@
 // Layout records, read and written: the numbers of a layout and its rows.
 ghost use mathlib.Core.Path.{_≡_};
-ghost use Rattle.layout_record.specs.RecordLayoutFaults.{layoutRefused};
+ghost use Rattle.layout_rows.specs.RecordLayoutFaults.{layoutRefused};
 ghost use Rattle.layout_record.specs.RecordLayoutAnswer.{layoutAnswer, readLayoutOf, assignmentRead, writeAnswer, outAfter};
 use cluster::Cluster;
 use cluster::refusal;
 use layout_head::Numbers;
+use layout_rows::range;
 
-mod range;
 mod rows;
 mod write;
 

@@ -1,44 +1,19 @@
 // Reading the rows of a layout record into cells.
 ghost use mathlib.Core.Path.{_≡_};
 ghost use mathlib.Core.List.{[]};
-ghost use Prim.Native.Nat.{_+_, _*_, _^_, _≤_};
-ghost use lib.ListN.{length, replicate};
+ghost use Prim.Native.Nat.{_^_, _≤_};
+ghost use lib.ListN.{replicate};
 ghost use Rattle.cluster.specs.Terms.{mostBits, mostCopies, layoutCells, Layout, cellsOf};
-ghost use Rattle.fields.specs.RecordField.{numberAt, idsAt, refusalOf, placeOf};
-ghost use Rattle.layout_record.specs.RecordLayoutFaults.{layoutRefused, layoutRowFault, endIn, rowsFrom, readLayout};
+ghost use Rattle.fields.specs.RecordField.{refusalOf, placeOf};
+ghost use Rattle.layout_rows.specs.RecordLayoutFaults.{layoutRefused, endIn, rowsFrom, readLayout};
 ghost use Rattle.layout_record.specs.RecordLayoutAnswer.{layoutAnswer};
 use super::ReadLayout;
 use super::refused;
-use cluster::refusal;
 use fields::Field;
-use fields::ids;
 use fields::reader::Reader;
 use layout_head::Numbers;
 use layout_head::reading;
 use layout_head::reading::Head;
-
-// The fault of a row whose body begins at byte `start`: a value outside its range, then a row that is not the next or
-// ids that do not rise; 0 where there is none.
-fn row_fault(bytes: &[u8], start: usize, partitions: usize, next: usize, count: usize) -> u32
-    requires { ⌜ start + 2 + 4 * count ≤ length (now bytes) ⌝ }
-    ensures { λ r. ⌜ r ≡ layoutRowFault partitions next (numberAt (now (bytes .entry)) start 2) (idsAt (now (bytes .entry)) (start + 2) count) ⌝ }
-{
-    let partition = fields::pair_at(bytes, start) as usize;
-    if partitions <= partition {
-        return refusal::RANGE;
-    }
-    if fields::ids::has_zero(bytes, start + 2, count) {
-        return refusal::RANGE;
-    }
-    if partition != next {
-        return refusal::ORDER;
-    }
-    if fields::ids::ids_rise(bytes, start + 2, count) {
-        0
-    } else {
-        refusal::ORDER
-    }
-}
 
 // A field that is not whole ends the reading.
 fn refused_by(f: Field) -> ReadLayout
@@ -79,11 +54,11 @@ fn read_rows(bytes: &[u8], from: usize, numbers: Numbers, cells: &mut [u32]) -> 
         let Field::Body { tag: _, start, len } = f else {
             return refused_by(f);
         };
-        let fault = row_fault(r.src, start, partitions, next, count);
+        let fault = layout_rows::row_fault(r.src, start, partitions, next, count);
         if fault != 0 {
             return refused(fault, r.at);
         }
-        ids::put_ids(cells, r.src, next, start + 2, count);
+        id_bytes::put_ids(cells, r.src, next, start + 2, count);
         r.at = start + len;
         next += 1;
     }

@@ -5,12 +5,12 @@ ghost use Prim.Native.Nat.{_+_, _*_, _^_, _≤_, _<_};
 ghost use lib.ListN.{length, take, drop};
 ghost use Rattle.cluster.specs.Terms.{mostCopies, bufferRows, layoutCells, rowAt, rowsIn};
 ghost use Rattle.fields.specs.RecordField.{written, over, idBytes};
-ghost use Rattle.layout_record.specs.RecordLayout.{layoutRowField, layoutRowFields, layoutRecord};
-ghost use Rattle.layout_record.specs.RecordLayoutFaults.{rowsFit, writeFault};
-use super::range;
+ghost use Rattle.layout_rows.specs.RecordLayout.{layoutRowField, layoutRowFields, layoutRecord};
+ghost use Rattle.layout_rows.specs.RecordLayoutFaults.{rowsFit, writeFault};
 use cluster::Cluster;
 use layout_head::Numbers;
 use layout_head::table;
+use layout_rows::range;
 
 // Puts the ids in the cells from `from` on, four bytes each.
 fn put_ids(out: &mut [u8], at: usize, cells: &[u32], from: usize, count: usize)
@@ -19,7 +19,7 @@ fn put_ids(out: &mut [u8], at: usize, cells: &[u32], from: usize, count: usize)
 {
     let mut j = 0;
     while j < count {
-        fields::put_word(out, at + 4 * j, cells[from + j]);
+        numbers::put_word(out, at + 4 * j, cells[from + j]);
         j += 1;
     }
 }
@@ -30,7 +30,7 @@ fn put_row(out: &mut [u8], at: usize, cells: &[u32], p: usize, count: usize)
     ensures { λ _. ⌜ now (out .exit) ≡ written (now (out .entry)) at (layoutRowField p (take count (rowAt (now (cells .entry)) p))) ⌝ }
 {
     fields::put_head(out, at, 10, 2 + 4 * count);
-    fields::put_pair(out, at + 3, p as u32);
+    numbers::put_pair(out, at + 3, p as u32);
     put_ids(out, at + range::ROW, cells, p * Cluster::ROW, count);
 }
 

@@ -36,8 +36,8 @@ pub fn improved(
     let count = c.count;
     sizing::deal(c, size, rows);
     let zones = zones::zones(c);
-    let mates = sizing::mates(zones, count);
-    let caps = sizing::caps(c, size);
+    let mates = caps::mates(zones, count);
+    let caps = caps::caps(c, size);
     ordering::run(
         rows,
         before,

@@ -10,7 +10,7 @@ use Rattle.sums.proofs.Sum.{lt-or-ge}
 use Rattle.cluster.specs.Terms.{noNode}
 use Rattle.cluster.specs.declared.Node.{Node}
 use Rattle.fields.specs.RecordField.{bytesOf, Bytes, part, numberAt, written, nodeWidth, nodeBytes, FitsNode, nodeAtByte}
-use Rattle.fields.proofs.Numbers.{length-bytes, has-true, has-false, part-append, bytes-byte, bytes-join, number-at-lt, bytes-there, number-here, after-number}
+use Rattle.numbers.proofs.Numbers.{length-bytes, has-true, has-false, part-append, bytes-byte, bytes-join, number-at-lt, bytes-there, number-here, after-number}
 use Rattle.fields.proofs.Puts.{put-next}
 
 -- A node of four numbers.

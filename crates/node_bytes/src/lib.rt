@@ -7,12 +7,12 @@ use cluster::Node;
 pub fn node_at(s: &[u8], at: usize) -> Node
     ensures { λ r. ⌜ r ≡ nodeAtByte (now (s .entry)) at ⌝ }
 {
-    if fields::reaches(s.len(), at, lengths::NODE) {
+    if numbers::reaches(s.len(), at, lengths::NODE) {
         Node {
-            id: fields::word_at(s, at),
-            zone: fields::pair_at(s, at + 4) as u16,
-            capacity: fields::word_at(s, at + 6),
-            ceiling: fields::pair_at(s, at + 10) as u16,
+            id: numbers::word_at(s, at),
+            zone: numbers::pair_at(s, at + 4) as u16,
+            capacity: numbers::word_at(s, at + 6),
+            ceiling: numbers::pair_at(s, at + 10) as u16,
         }
     } else {
         Node::NONE
@@ -23,10 +23,10 @@ pub fn node_at(s: &[u8], at: usize) -> Node
 pub fn put_node(out: &mut [u8], at: usize, node: Node)
     ensures { λ _. ⌜ now (out .exit) ≡ written (now (out .entry)) at (nodeBytes node) ⌝ }
 {
-    if fields::reaches(out.len(), at, lengths::NODE) {
-        fields::put_word(out, at, node.id);
-        fields::put_pair(out, at + 4, node.zone as u32);
-        fields::put_word(out, at + 6, node.capacity);
-        fields::put_pair(out, at + 10, node.ceiling as u32);
+    if numbers::reaches(out.len(), at, lengths::NODE) {
+        numbers::put_word(out, at, node.id);
+        numbers::put_pair(out, at + 4, node.zone as u32);
+        numbers::put_word(out, at + 6, node.capacity);
+        numbers::put_pair(out, at + 10, node.ceiling as u32);
     }
 }

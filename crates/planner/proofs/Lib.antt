@@ -1,4 +1,3 @@
 pub mod Refusals
-pub mod Settling
 pub mod Planning
 pub mod Only

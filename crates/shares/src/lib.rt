@@ -1,4 +1,4 @@
-// How many copies each node is given: in a first pass at most P for each zone, in a second pass what is left. The line in which they are dealt is beside it.
+// How many copies each node is given: in a first pass at most P for each zone, in a second pass what is left.
 ghost use mathlib.Core.Path.{_≡_};
 ghost use Prim.Native.Nat.{_≤_, _<_, _-_, _+_};
 ghost use lib.ListN.{length};
@@ -9,8 +9,6 @@ ghost use Rattle.tallies.specs.ModelTallies.{AtMost};
 use cluster::Cluster;
 use tallies::totals;
 use tallies::totals::least;
-
-pub mod line;
 
 // What is left of x when y is taken, or 0.
 pub fn less(x: u32, y: u32) -> u32

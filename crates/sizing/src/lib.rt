@@ -6,66 +6,13 @@ ghost use lib.ListN.{length};
 ghost use Rattle.cluster.specs.Terms.{topology, partitions, nodeAt, usable, faultOf};
 ghost use Rattle.incidence.specs.ModelIncidence.{zoneIndex, capAt, zoneCells};
 ghost use Rattle.dealing.specs.ModelDeal.{hasRoom};
-ghost use Rattle.sizing.specs.ModelSizing.{mateCells, capsIn, sizeOf, sizeIn, dealtRows, dealtIn};
-ghost use Rattle.cluster.specs.TermsReading.{Fits32};
+ghost use Rattle.sizing.specs.ModelSizing.{sizeOf, sizeIn, dealtRows, dealtIn};
 use cluster::Cluster;
 use incidence::zones;
-use shares::line;
-use tallies::nodes;
 use tallies::totals;
 
 // The bits of a size: it is at most what may be filled of a disk, which is a u32.
 const SIZE_BITS: u32 = 32;
-
-// For each of the first n nodes, at most as many as a cluster has, the set of the nodes of its zone, then zeros.
-pub fn mates(zones: [u32; Cluster::NODES], n: usize) -> [u32; Cluster::NODES]
-    ensures { λ r. ⌜ r ≡ mateCells zones n ⌝ }
-{
-    let m = nodes::cut(n);
-    let mut mates = [0u32; Cluster::NODES];
-    let mut b = 0;
-    while b < m {
-        let z = zones[b];
-        mates[b] = nodes::of_zone(&zones, m, z);
-        b += 1;
-    }
-    mates
-}
-
-// The most copies that each node in use may hold at a size, then zeros; none at the size 0. It tells too that capacities are numbers of
-// 32 bits.
-pub fn caps(c: Cluster, size: u32) -> [u32; Cluster::NODES]
-    ensures { λ r. ⌜ (r ≡ capsIn c size) × Fits32 (topology c) ⌝ }
-{
-    let n = zones::used(c);
-    let most = cluster::partitions(c.bits) as u32;
-    let mut caps = [0u32; Cluster::NODES];
-    let mut b = 0;
-    while b < n {
-        let node = c.nodes[b];
-        let usable = node.usable();
-        let highest = totals::least(most, node.ceiling as u32);
-        caps[b] = nodes::cap(usable, highest, size);
-        b += 1;
-    }
-    caps
-}
-
-// The largest usable capacity of the nodes in use.
-fn greatest(c: Cluster) -> u32
-    ensures { λ r. ⌜ ((b : ℕ) → b < length (topology c .nodes) → usable (nodeAt (topology c) b) ≤ r) ⌝ }
-{
-    let n = zones::used(c);
-    let mut most = 0;
-    let mut b = 0;
-    while b < n {
-        let node = c.nodes[b];
-        let usable = node.usable();
-        most = if most < usable { usable } else { most };
-        b += 1;
-    }
-    most
-}
 
 // Whether the caps of a size have room for a layout; a size above `most`, the largest usable capacity, needs no caps.
 fn passes(c: Cluster, zones: &[u32], most: u32, size: u32) -> bool
@@ -77,7 +24,7 @@ fn passes(c: Cluster, zones: &[u32], most: u32, size: u32) -> bool
         return false;
     }
     let n = zones::used(c);
-    let caps = caps(c, size);
+    let caps = caps::caps(c, size);
     totals::fit(
         zones,
         &caps,
@@ -94,7 +41,7 @@ fn bisected(c: Cluster) -> u32
     ensures { λ r. ⌜ r ≡ sizeOf (topology c) ⌝ }
 {
     let zones = zones::zones(c);
-    let most = greatest(c);
+    let most = caps::greatest(c);
     let mut size = 0;
     let mut i = SIZE_BITS;
     while 0 < i {
@@ -122,10 +69,10 @@ fn begin(c: Cluster, size: u32, rows: &mut [u32])
     let n = zones::used(c);
     let most = cluster::partitions(c.bits) as u32;
     let zones = zones::zones(c);
-    let caps = caps(c, size);
+    let caps = caps::caps(c, size);
     let copies = shares::given(&zones, &caps, n, most, c.replication);
     let starts = line::starts(&zones, &copies, n, most);
-    line::deal(rows, &starts, &copies, n, most);
+    deals::deal(rows, &starts, &copies, n, most);
 }
 
 // Deals the layout that planning begins with at a size: each of the first P cells becomes the set of the nodes of its partition's row.

@@ -26,14 +26,14 @@ use Rattle.layouts.proofs.CheckMeaning.{valid-fits, valid-passed}
 use Rattle.sizing.specs.ModelSizing.{sizeOf}
 use Rattle.planning.specs.Demand.{Answer, Demand3, Rules}
 use Rattle.planning.specs.ModelPlan.{planOf}
-use Rattle.planner.specs.TermsPlan.{unusable, planRefusal, planIn, answered, plannedOf, assignmentAfter}
-use Rattle.planner.specs.declared.Planned.{Planned}
+use Rattle.settling.specs.TermsPlan.{unusable, planRefusal, planIn, answered, plannedOf, assignmentAfter}
+use Rattle.settling.specs.declared.Planned.{Planned}
 use Rattle.planner.proofs.Refusals.{Usable, usable, lent-former}
 use Rattle.layout_head.specs.declared.Numbers.{Numbers}
 use Rattle.layout_record.specs.declared.ReadLayout.{ReadLayout}
 use Rattle.layout_record.specs.declared.Written.{Written}
 use Rattle.layout_head.specs.RecordHead.{allHold, inRange}
-use Rattle.layout_record.specs.RecordLayout.{HasLayout, layoutRecord, recordLength}
+use Rattle.layout_rows.specs.RecordLayout.{HasLayout, layoutRecord, recordLength}
 use Rattle.layout_record.specs.RecordLayoutAnswer.{readLayoutOf, assignmentRead, writeAnswer, outAfter}
 use Rattle.layout_record.specs.RecordLayoutClaims.{ReadsLayout, WritesLayout}
 use Rattle.layout_record.proofs.RecordLaws.{length-record}

@@ -9,7 +9,7 @@ use borrow.Author.Tests.{lt-ltb, le-ltb}
 use native.Mathlib.Omega.{arith}
 use Rattle.cluster.specs.TermsReading.{slotsOf}
 use Rattle.cluster.specs.declared.Cluster.{Cluster}
-use Rattle.cluster_record.specs.RecordClusterReading.{Reading, clusterRefused, ended}
+use Rattle.cluster_reading.specs.RecordClusterReading.{Reading, clusterRefused, ended}
 use Rattle.cluster_record.specs.RecordClusterAnswer.{clusterAnswer}
 use Rattle.cluster_record.proofs.ended.Statement.{statement}
 use Rattle.cluster_record.proofs.ended.Tie as tie

@@ -7,7 +7,7 @@ use lib.ListN.{length, drop}
 use Rattle.cluster.specs.Terms.{cellsOf}
 use Rattle.cell_rows.proofs.CellLayouts.{length-cellsOf}
 use Rattle.cluster_record.specs.declared.ReadCluster.{ReadCluster}
-use Rattle.cluster_record.specs.RecordClusterReading.{readCluster}
+use Rattle.cluster_reading.specs.RecordClusterReading.{readCluster}
 use Rattle.cluster_record.specs.RecordClusterAnswer.{clusterAnswer}
 use Rattle.cluster_record.proofs.Answers.{short-answer, short-former, long-answer, accepted-former, refused-former}
 use borrow.Author.Needs.{needs}

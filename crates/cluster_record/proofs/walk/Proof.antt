@@ -75,7 +75,7 @@ use Rattle.cluster.proofs.Cluster as Cl
 use Rattle.cluster.proofs.Cluster.Laws as Cl′
 use Rattle.cluster_record.specs.declared.ReadCluster.{ReadCluster}
 use Rattle.cluster_fields.specs.RecordClusterFaults.{itemIn, withItem, formerWith, faultIn}
-use Rattle.cluster_record.specs.RecordClusterReading.{Reading, allowedAfter, clusterRefused, ended as endedOf}
+use Rattle.cluster_reading.specs.RecordClusterReading.{Reading, allowedAfter, clusterRefused, ended as endedOf}
 use Rattle.cluster_record.specs.RecordClusterAnswer.{clusterAnswer}
 use Rattle.cluster_record.proofs.ReadCluster as An
 use Rattle.cluster_record.proofs.ReadCluster.Laws as An′
@@ -85,10 +85,10 @@ use Rattle.cluster.proofs.Cluster.none as empty
 use Rattle.cluster.proofs.Cluster.none.Symbol as empty-def
 use Rattle.cluster.proofs.Cluster.none.Symbol.{name as #cluster·Cluster·none}
 use Rattle.cluster.proofs.Cluster.none.Met as empty-thm
-use Rattle.cluster_record.proofs.allowed_after as allowed
-use Rattle.cluster_record.proofs.allowed_after.Symbol as allowed-def
-use Rattle.cluster_record.proofs.allowed_after.Symbol.{name as #cluster-record·allowed-after}
-use Rattle.cluster_record.proofs.allowed_after.Met as allowed-thm
+use Rattle.cluster_reading.proofs.allowed_after as allowed
+use Rattle.cluster_reading.proofs.allowed_after.Symbol as allowed-def
+use Rattle.cluster_reading.proofs.allowed_after.Symbol.{name as #cluster-reading·allowed-after}
+use Rattle.cluster_reading.proofs.allowed_after.Met as allowed-thm
 use Rattle.fields.proofs.reader.next as next
 use Rattle.fields.proofs.reader.next.Symbol as next-def
 use Rattle.fields.proofs.reader.next.Symbol.{name as #fields·reader·next}
@@ -446,7 +446,7 @@ module _ {M : Type 1} (𝓤 : URA M) (H : Heap 𝓤) (A : Atoms 𝓤) (W : Given
       nothing ! $ move ! (2 ∷ 0 ∷ []) $ fjoin ! $ move ! (1 ∷ 0 ∷ []) $ fjoin ! $ frame ! $ owned ! An.the-row (Is An.the-row) (LL.makes An.the-type An′.the-plain 𝓤 H A) an _ is $ done !
 
   module _ (𝓣 : Tables 𝓤 H) (fm : FmC 𝓤 H (W .laws) (𝓣 .C)) (n-fits : n < 2 ^ 64) (room : Room u32 m)
-      (known-empty : Triple 𝓤 (𝓣 .C #cluster·Cluster·none) (Empty 𝓤 H A mem run)) (known-allowed : Triple 𝓤 (𝓣 .C #cluster-record·allowed-after) (Allowed 𝓤 H A mem run)) (known-next : Triple 𝓤 (𝓣 .C #fields·reader·next) (Next 𝓤 H A mem run)) (known-refusal-of : Triple 𝓤 (𝓣 .C #fields·refusal-of) (RefusalOf 𝓤 H A mem run)) (known-place-of : Triple 𝓤 (𝓣 .C #fields·place-of) (PlaceOf 𝓤 H A mem run)) (known-row-fault : Triple 𝓤 (𝓣 .C #cluster-fields·row-faults·row-fault) (OfRow 𝓤 H A mem run)) (known-fault : Triple 𝓤 (𝓣 .C #cluster-fields·faults·field-fault) (Fault 𝓤 H A mem run)) (known-refused : Triple 𝓤 (𝓣 .C #cluster-record·refused) (Refusing 𝓤 H A mem run)) (known-with : Triple 𝓤 (𝓣 .C #cluster-fields·taking·cluster-with) (With 𝓤 H A mem run)) (known-row : Triple 𝓤 (𝓣 .C #cluster-fields·taking·take-row) (Row 𝓤 H A mem run)) (known-ended : Triple 𝓤 (𝓣 .C #cluster-record·ended) (Ended 𝓤 H A mem run))
+      (known-empty : Triple 𝓤 (𝓣 .C #cluster·Cluster·none) (Empty 𝓤 H A mem run)) (known-allowed : Triple 𝓤 (𝓣 .C #cluster-reading·allowed-after) (Allowed 𝓤 H A mem run)) (known-next : Triple 𝓤 (𝓣 .C #fields·reader·next) (Next 𝓤 H A mem run)) (known-refusal-of : Triple 𝓤 (𝓣 .C #fields·refusal-of) (RefusalOf 𝓤 H A mem run)) (known-place-of : Triple 𝓤 (𝓣 .C #fields·place-of) (PlaceOf 𝓤 H A mem run)) (known-row-fault : Triple 𝓤 (𝓣 .C #cluster-fields·row-faults·row-fault) (OfRow 𝓤 H A mem run)) (known-fault : Triple 𝓤 (𝓣 .C #cluster-fields·faults·field-fault) (Fault 𝓤 H A mem run)) (known-refused : Triple 𝓤 (𝓣 .C #cluster-record·refused) (Refusing 𝓤 H A mem run)) (known-with : Triple 𝓤 (𝓣 .C #cluster-fields·taking·cluster-with) (With 𝓤 H A mem run)) (known-row : Triple 𝓤 (𝓣 .C #cluster-fields·taking·take-row) (Row 𝓤 H A mem run)) (known-ended : Triple 𝓤 (𝓣 .C #cluster-record·ended) (Ended 𝓤 H A mem run))
       (l₀ l₁ l₂ l₃ l₄ l₅ l₆ l₇ l₈ l₉ l₁₀ l₁₁ l₁₂ l₁₃ l₁₄ l₁₅ l₁₆ l₁₇ l₁₈ l₁₉ l₂₀ l₂₁ l₂₂ l₂₃ l₂₄ l₂₅ l₂₆ l₂₇ l₂₈ l₂₉ l₃₀ : ℕ) where
     abbrev C : Calls 𝓤 H
     C = 𝓣 .C
@@ -652,7 +652,7 @@ module _ {M : Type 1} (𝓤 : URA M) (H : Heap 𝓤) (A : Atoms 𝓤) (W : Given
   start zeros z e z-is = record { rows = cells₀; c = z; last = 0; next = 0; at = 0; long = refl; read = walked-start bytes cells₀ z e zeros; plain-c = z-is; last-fits = lit< tt; next-fits = lit< tt }
 
   -- the MIR, up to the loop: the reader is made at byte 0
-  walks : (𝓣 : Tables 𝓤 H) → FmC 𝓤 H (W .laws) (𝓣 .C) → Triple 𝓤 (𝓣 .C #cluster·Cluster·none) (Empty 𝓤 H A mem run) → Triple 𝓤 (𝓣 .C #cluster-record·allowed-after) (Allowed 𝓤 H A mem run) → Triple 𝓤 (𝓣 .C #fields·reader·next) (Next 𝓤 H A mem run) → Triple 𝓤 (𝓣 .C #fields·refusal-of) (RefusalOf 𝓤 H A mem run) → Triple 𝓤 (𝓣 .C #fields·place-of) (PlaceOf 𝓤 H A mem run) → Triple 𝓤 (𝓣 .C #cluster-fields·row-faults·row-fault) (OfRow 𝓤 H A mem run) → Triple 𝓤 (𝓣 .C #cluster-fields·faults·field-fault) (Fault 𝓤 H A mem run) → Triple 𝓤 (𝓣 .C #cluster-record·refused) (Refusing 𝓤 H A mem run) → Triple 𝓤 (𝓣 .C #cluster-fields·taking·cluster-with) (With 𝓤 H A mem run) → Triple 𝓤 (𝓣 .C #cluster-fields·taking·take-row) (Row 𝓤 H A mem run) → Triple 𝓤 (𝓣 .C #cluster-record·ended) (Ended 𝓤 H A mem run) → Is (ShrSlice (named 0) κ u8) s (v ∷ []) → Is (MutSlice (named 1) κ′ u32) (held γ cells₀) (mv ∷ []) → cells₀ ≡ replicate layoutCells 0
+  walks : (𝓣 : Tables 𝓤 H) → FmC 𝓤 H (W .laws) (𝓣 .C) → Triple 𝓤 (𝓣 .C #cluster·Cluster·none) (Empty 𝓤 H A mem run) → Triple 𝓤 (𝓣 .C #cluster-reading·allowed-after) (Allowed 𝓤 H A mem run) → Triple 𝓤 (𝓣 .C #fields·reader·next) (Next 𝓤 H A mem run) → Triple 𝓤 (𝓣 .C #fields·refusal-of) (RefusalOf 𝓤 H A mem run) → Triple 𝓤 (𝓣 .C #fields·place-of) (PlaceOf 𝓤 H A mem run) → Triple 𝓤 (𝓣 .C #cluster-fields·row-faults·row-fault) (OfRow 𝓤 H A mem run) → Triple 𝓤 (𝓣 .C #cluster-fields·faults·field-fault) (Fault 𝓤 H A mem run) → Triple 𝓤 (𝓣 .C #cluster-record·refused) (Refusing 𝓤 H A mem run) → Triple 𝓤 (𝓣 .C #cluster-fields·taking·cluster-with) (With 𝓤 H A mem run) → Triple 𝓤 (𝓣 .C #cluster-fields·taking·take-row) (Row 𝓤 H A mem run) → Triple 𝓤 (𝓣 .C #cluster-record·ended) (Ended 𝓤 H A mem run) → Is (ShrSlice (named 0) κ u8) s (v ∷ []) → Is (MutSlice (named 1) κ′ u32) (held γ cells₀) (mv ∷ []) → cells₀ ≡ replicate layoutCells 0
       → ent 𝓤 (onEntry 𝓤 H A walk.signature (κ, (κ′, tt)) (q, (q′, tt)) (s, (held γ cells₀, tt)) (v ∷ [], (mv ∷ [], tt))) (WpFn 𝓤 H (𝓣 .C) (𝓣 .Λ) code.function (v ∷ mv ∷ []) Post′)
   walks 𝓣 fm known-empty known-allowed known-next known-refusal-of known-place-of known-row-fault known-fault known-refused known-with known-row known-ended p p′ zeros =
       let wt = shr-slice-lawful 𝓤 H A W (named 0) κ u8 .typed s (v ∷ []) p .0 in
@@ -669,7 +669,7 @@ module _ {M : Type 1} (𝓤 : URA M) (H : Heap 𝓤) (A : Atoms 𝓤) (W : Given
       looped 𝓣 fm (p .0 .1 .0) (p′ .0 .1) known-empty known-allowed known-next known-refusal-of known-place-of known-row-fault known-fault known-refused known-with known-row known-ended l₀ l₁ l₂ l₃ l₄ l₅ l₆ l₇ l₈ l₉ l₁₀ l₁₁ l₁₂ l₁₃ l₁₄ l₁₅ l₁₆ l₁₇ l₁₈ l₁₉ l₂₀ l₂₁ l₂₂ l₂₃ l₂₄ l₂₅ l₂₆ l₂₇ l₂₈ l₂₉ l₃₀ (start zeros z e z-is)))))))))))))))))))))))))))))))))
 
 module _ {M : Type 1} (𝓤 : URA M) (H : Heap 𝓤) (A : Atoms 𝓤) (W : Given 𝓤 H A) (mem : Memory → SProp 𝓤) (run : Routine → Fun 𝓤) (𝓣 : Tables 𝓤 H) where
-  walk-meets′ : Triple 𝓤 (𝓣 .C #cluster·Cluster·none) (Empty 𝓤 H A mem run) → Triple 𝓤 (𝓣 .C #cluster-record·allowed-after) (Allowed 𝓤 H A mem run) → Triple 𝓤 (𝓣 .C #fields·reader·next) (Next 𝓤 H A mem run) → Triple 𝓤 (𝓣 .C #fields·refusal-of) (RefusalOf 𝓤 H A mem run) → Triple 𝓤 (𝓣 .C #fields·place-of) (PlaceOf 𝓤 H A mem run) → Triple 𝓤 (𝓣 .C #cluster-fields·row-faults·row-fault) (OfRow 𝓤 H A mem run) → Triple 𝓤 (𝓣 .C #cluster-fields·faults·field-fault) (Fault 𝓤 H A mem run) → Triple 𝓤 (𝓣 .C #cluster-record·refused) (Refusing 𝓤 H A mem run) → Triple 𝓤 (𝓣 .C #cluster-fields·taking·cluster-with) (With 𝓤 H A mem run) → Triple 𝓤 (𝓣 .C #cluster-fields·taking·take-row) (Row 𝓤 H A mem run) → Triple 𝓤 (𝓣 .C #cluster-record·ended) (Ended 𝓤 H A mem run) → Meets 𝓤 H A walk.signature (WpFn 𝓤 H (𝓣 .C) (𝓣 .Λ) code.function) (walk.spec 𝓤 H A mem run)
+  walk-meets′ : Triple 𝓤 (𝓣 .C #cluster·Cluster·none) (Empty 𝓤 H A mem run) → Triple 𝓤 (𝓣 .C #cluster-reading·allowed-after) (Allowed 𝓤 H A mem run) → Triple 𝓤 (𝓣 .C #fields·reader·next) (Next 𝓤 H A mem run) → Triple 𝓤 (𝓣 .C #fields·refusal-of) (RefusalOf 𝓤 H A mem run) → Triple 𝓤 (𝓣 .C #fields·place-of) (PlaceOf 𝓤 H A mem run) → Triple 𝓤 (𝓣 .C #cluster-fields·row-faults·row-fault) (OfRow 𝓤 H A mem run) → Triple 𝓤 (𝓣 .C #cluster-fields·faults·field-fault) (Fault 𝓤 H A mem run) → Triple 𝓤 (𝓣 .C #cluster-record·refused) (Refusing 𝓤 H A mem run) → Triple 𝓤 (𝓣 .C #cluster-fields·taking·cluster-with) (With 𝓤 H A mem run) → Triple 𝓤 (𝓣 .C #cluster-fields·taking·take-row) (Row 𝓤 H A mem run) → Triple 𝓤 (𝓣 .C #cluster-record·ended) (Ended 𝓤 H A mem run) → Meets 𝓤 H A walk.signature (WpFn 𝓤 H (𝓣 .C) (𝓣 .Λ) code.function) (walk.spec 𝓤 H A mem run)
   walk-meets′ known-empty known-allowed known-next known-refusal-of known-place-of known-row-fault known-fault known-refused known-with known-row known-ended =
       walk-meets 𝓤 H A walk.ended stayed W (goes-none-slice 𝓤 H A W 2 (0 ∷ []) tt (plain (λ _. u8)) yes, (goes-slice 𝓤 H A W 2 1 tt (plain (λ _. u32)), tt)) (walk.clauses 𝓤 H A mem run) (WpFn 𝓤 H (𝓣 .C) (𝓣 .Λ) code.function) (WpFn-mono 𝓤 H (W .laws) 𝓣 code.function)
       (walked 𝓤 H A walk.ended stayed (walk.clauses 𝓤 H A mem run) (WpFn 𝓤 H (𝓣 .C) (𝓣 .Λ) code.function) (λ κs. (slice-vals, (slice-vals, tt))) (λ κs. (shr-slice-tells (named 0) (κs .0) u8, (mut-slice-tells (named 1) (κs .1 .0) u32, tt)))
@@ -682,7 +682,7 @@ walk-spec 𝓤 H 𝓜 𝓖 𝓡 =
     (tables 𝓤 H 𝓜 𝓡 code.env .C) (tables 𝓤 H 𝓜 𝓡 code.env .Λ) #cluster-record·walk code.function (code.unfolded 𝓤 H 𝓜 𝓡)
     (walk-meets′ 𝓤 H (𝓖 .A) (givenOf 𝓤 H 𝓜 𝓖) (𝓜 .mem) (𝓡 .run) (tablesOf 𝓤 H 𝓜 (tables 𝓤 H 𝓜 𝓡 code.env))
     (cited 𝓤 H (Empty 𝓤 H (𝓖 .A) (𝓜 .mem) (𝓡 .run)) 𝓜 𝓡 code.env #cluster·Cluster·none empty-def.routine code.calls-cluster·Cluster·none (empty-thm.met 𝓤 H 𝓜 𝓖 𝓡))
-    (cited 𝓤 H (Allowed 𝓤 H (𝓖 .A) (𝓜 .mem) (𝓡 .run)) 𝓜 𝓡 code.env #cluster-record·allowed-after allowed-def.routine code.calls-cluster-record·allowed-after (allowed-thm.met 𝓤 H 𝓜 𝓖 𝓡))
+    (cited 𝓤 H (Allowed 𝓤 H (𝓖 .A) (𝓜 .mem) (𝓡 .run)) 𝓜 𝓡 code.env #cluster-reading·allowed-after allowed-def.routine code.calls-cluster-reading·allowed-after (allowed-thm.met 𝓤 H 𝓜 𝓖 𝓡))
     (cited 𝓤 H (Next 𝓤 H (𝓖 .A) (𝓜 .mem) (𝓡 .run)) 𝓜 𝓡 code.env #fields·reader·next next-def.routine code.calls-fields·reader·next (next-thm.met 𝓤 H 𝓜 𝓖 𝓡))
     (cited 𝓤 H (RefusalOf 𝓤 H (𝓖 .A) (𝓜 .mem) (𝓡 .run)) 𝓜 𝓡 code.env #fields·refusal-of refusal-of-def.routine code.calls-fields·refusal-of (refusal-of-thm.met 𝓤 H 𝓜 𝓖 𝓡))
     (cited 𝓤 H (PlaceOf 𝓤 H (𝓖 .A) (𝓜 .mem) (𝓡 .run)) 𝓜 𝓡 code.env #fields·place-of place-of-def.routine code.calls-fields·place-of (place-of-thm.met 𝓤 H 𝓜 𝓖 𝓡))

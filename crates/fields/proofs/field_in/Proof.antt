@@ -12,7 +12,7 @@ use Rattle.cluster.specs.Terms.{mem}
 use Rattle.fields.specs.ModelTags.{tagsOf}
 use Rattle.fields.specs.RecordField.{numberAt, legalAs, Within}
 use Rattle.fields.specs.declared.Field.the-variants.{Body}
-use Rattle.fields.proofs.Numbers.{true-has, false-has}
+use Rattle.numbers.proofs.Numbers.{true-has, false-has}
 use Rattle.fields.proofs.Tags.{mem-tags}
 use Rattle.fields.proofs.RecordField.{field-cut, field-tag, field-length, field-body, field-whole, within}
 use Rattle.fields.proofs.field_in.Statement.{statement}

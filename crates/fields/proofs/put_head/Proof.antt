@@ -5,7 +5,7 @@ use native.Mathlib.Omega.{arith}
 use Prim.Native.Nat.{_+_, _-_}
 use mathlib.Core.Path.{refl, _∙_}
 use Rattle.fields.specs.RecordField.{bytesOf}
-use Rattle.fields.proofs.Numbers.{length-bytes}
+use Rattle.numbers.proofs.Numbers.{length-bytes}
 use Rattle.fields.proofs.Puts.{put-next}
 use Rattle.fields.proofs.put_head.Statement.{statement}
 use Rattle.fields.proofs.put_head.Tie as tie

@@ -9,7 +9,7 @@ use lib.ListN.{length, drop}
 use Rattle.fields.specs.RecordField.{written}
 use Rattle.layout_head.specs.RecordHead.{headTable, numberFields}
 use Rattle.layout_head.proofs.NumberFields.{lawful-at, length-step, put-step, fields-end, length-head}
-use Rattle.fields.proofs.Written.{written-none}
+use Rattle.numbers.proofs.Written.{written-none}
 use Rattle.head_writing.proofs.put_numbers.Statement.{statement}
 use Rattle.head_writing.proofs.put_numbers.Tie as tie
 

@@ -9,7 +9,7 @@ use lib.ListN.{length, drop}
 use Rattle.cluster.specs.Terms.{cellsOf}
 use Rattle.cell_rows.proofs.CellLayouts.{length-cellsOf}
 use Rattle.layout_record.specs.declared.ReadLayout.{ReadLayout}
-use Rattle.layout_record.specs.RecordLayoutFaults.{readLayout}
+use Rattle.layout_rows.specs.RecordLayoutFaults.{readLayout}
 use Rattle.layout_record.specs.RecordLayoutAnswer.{layoutAnswer}
 use Rattle.layout_record.proofs.RowSteps.{read-short, short-kept, read-long, long-set, long-kept}
 use Rattle.layout_record.proofs.read_layout.Statement.{statement}

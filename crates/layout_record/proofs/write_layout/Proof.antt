@@ -4,7 +4,7 @@ use borrow.Author.Needs.{needs}
 use Prim.Native.Nat.{ℕ, _-_}
 use mathlib.Core.Path.{sym, ap, _∙_}
 use lib.ListN.{length}
-use Rattle.layout_record.proofs.RowFaults.{no-fault}
+use Rattle.layout_rows.proofs.RowFaults.{no-fault}
 use Rattle.layout_head.proofs.NumberFields.{few-bits, few-copies}
 use Rattle.layout_record.proofs.RowSteps.{write-refused, write-accepted}
 use Rattle.layout_record.proofs.write_layout.Statement.{statement}

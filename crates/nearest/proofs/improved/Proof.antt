@@ -13,9 +13,9 @@ use Rattle.nearest.proofs.improved.Tie as tie
 use Rattle.nearest.proofs.improved.Reads as reads
 use Rattle.nearest.proofs.improved.Lts as lts
 use Rattle.ordering.proofs.run.Reads as run-reads
-use Rattle.sizing.proofs.caps.Reads as caps-reads
+use Rattle.caps.proofs.caps.Reads as caps-reads
 use Rattle.sizing.proofs.deal.Reads as deal-reads
-use Rattle.sizing.proofs.mates.Reads as mates-reads
+use Rattle.caps.proofs.mates.Reads as mates-reads
 use Rattle.incidence.proofs.zones.zones.Reads as zones-reads
 
 long : (c : tie.Start) → length (c .args .c .nodes) ≡ mostNodes

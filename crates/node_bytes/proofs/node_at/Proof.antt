@@ -6,7 +6,7 @@ use borrow.Author.Needs.{needs}
 use native.Mathlib.Omega.{arith}
 use lib.ListN.{length}
 use Rattle.fields.specs.RecordField.{nodeWidth}
-use Rattle.fields.proofs.Numbers.{true-has, false-has}
+use Rattle.numbers.proofs.Numbers.{true-has, false-has}
 use Rattle.node_bytes.proofs.Nodes.{node-cong, node-there, node-none}
 use Rattle.node_bytes.proofs.node_at.Statement.{statement}
 use Rattle.node_bytes.proofs.node_at.Tie as tie

@@ -7,9 +7,9 @@ use borrow.Author.Needs.{needs}
 use native.Mathlib.Omega.{arith}
 use lib.ListN.{length}
 use Rattle.fields.specs.RecordField.{bytesOf, nodeWidth, nodeBytes, written}
-use Rattle.fields.proofs.Numbers.{length-bytes, true-has, false-has}
+use Rattle.numbers.proofs.Numbers.{length-bytes, true-has, false-has}
 use Rattle.node_bytes.proofs.Nodes.{length-node, put-numbers}
-use Rattle.fields.proofs.Written.{written-not}
+use Rattle.numbers.proofs.Written.{written-not}
 use Rattle.node_bytes.proofs.put_node.Statement.{statement}
 use Rattle.node_bytes.proofs.put_node.Tie as tie
 

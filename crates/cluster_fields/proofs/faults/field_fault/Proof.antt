@@ -15,7 +15,7 @@ use Rattle.cluster_fields.proofs.faults.field_fault.Lts as lts
 use Rattle.cluster_fields.proofs.faults.last_id.Reads as last-id-reads
 use Rattle.cluster_fields.proofs.faults.node_fault.Reads as node-fault-reads
 use Rattle.cluster_fields.proofs.faults.number_fault.Reads as number-fault-reads
-use Rattle.fields.proofs.byte_at.Reads as byte-at-reads
+use Rattle.numbers.proofs.byte_at.Reads as byte-at-reads
 use Rattle.node_bytes.proofs.node_at.Reads as node-at-reads
 
 long : (c : tie.Start) → length (c .args .c .nodes) ≡ 32

@@ -15,9 +15,9 @@ use Rattle.cluster_fields.proofs.row_faults.row_fault.Statement.{statem
 use Rattle.cluster_fields.proofs.row_faults.row_fault.Tie as tie
 use Rattle.cluster_fields.proofs.row_faults.row_fault.Reads as reads
 use Rattle.cluster_fields.proofs.row_faults.row_fault.Lts as lts
-use Rattle.fields.proofs.ids.has_zero.Reads as has-zero-reads
-use Rattle.fields.proofs.ids.ids_rise.Reads as ids-rise-reads
-use Rattle.fields.proofs.pair_at.Reads as pair-at-reads
+use Rattle.id_bytes.proofs.has_zero.Reads as has-zero-reads
+use Rattle.id_bytes.proofs.ids_rise.Reads as ids-rise-reads
+use Rattle.numbers.proofs.pair_at.Reads as pair-at-reads
 
 -- What the first test says of the partition.
 above : (c : tie.Then1) → let a = c .before .before .before .before .args in 2 ^ (a .bits) ≤ numberAt (a .bytes .now) (a .start) 2

@@ -14,7 +14,7 @@ use Rattle.cluster_fields.proofs.taking.cluster_with.Statement.{stateme
 use Rattle.cluster_fields.proofs.taking.cluster_with.Tie as tie
 use Rattle.cluster_fields.proofs.taking.cluster_with.Reads as reads
 use Rattle.cluster_fields.proofs.taking.cluster_with.Lts as lts
-use Rattle.fields.proofs.byte_at.Reads as byte-at-reads
+use Rattle.numbers.proofs.byte_at.Reads as byte-at-reads
 use Rattle.node_bytes.proofs.node_at.Reads as node-at-reads
 
 -- A node has a slot.

@@ -7,8 +7,8 @@ use Rattle.cluster_fields.proofs.taking.take_row.Statement.{statement}
 use Rattle.cluster_fields.proofs.taking.take_row.Tie as tie
 use Rattle.cluster_fields.proofs.taking.take_row.Reads as reads
 use Rattle.cluster_fields.proofs.taking.take_row.Lts as lts
-use Rattle.fields.proofs.ids.put_ids.Reads as put-ids-reads
-use Rattle.fields.proofs.pair_at.Reads as pair-at-reads
+use Rattle.id_bytes.proofs.put_ids.Reads as put-ids-reads
+use Rattle.numbers.proofs.pair_at.Reads as pair-at-reads
 
 pair-at-requires : tie.Need-pair-at-requires
 pair-at-requires c κs = search needs

@@ -8,9 +8,9 @@ use mathlib.Core.List.{List}
 use Rattle.fields.specs.RecordField.{fieldAt, refusalOf, placeOf}
 use Rattle.fields.specs.declared.Field.{Field}
 use Rattle.fields.proofs.Tags.{tags-empty}
-use Rattle.layout_record.specs.RecordLayoutFaults.{layoutRefused}
+use Rattle.layout_rows.specs.RecordLayoutFaults.{layoutRefused}
 use Rattle.layout_record.specs.RecordLayoutAnswer.{layoutAnswer}
-use Rattle.layout_record.proofs.RowFaults.{end-whole, end-more}
+use Rattle.layout_rows.proofs.RowFaults.{end-whole, end-more}
 use Rattle.layout_record.proofs.rows.ended.Statement.{statement}
 use Rattle.layout_record.proofs.rows.ended.Tie as tie
 

@@ -10,7 +10,7 @@ use Rattle.fields.specs.RecordField.{Bytes}
 use Rattle.layout_record.specs.declared.ReadLayout.{ReadLayout}
 use Rattle.layout_head.specs.RecordHead.{headTable}
 use Rattle.layout_head.specs.RecordHeadFaults.{HeadEnds, headFrom}
-use Rattle.layout_record.specs.RecordLayoutFaults.{LayoutRead}
+use Rattle.layout_rows.specs.RecordLayoutFaults.{LayoutRead}
 use Rattle.layout_head.specs.ModelReading.{headSays}
 use Rattle.layout_record.specs.RecordLayoutAnswer.{layoutAnswer}
 use Rattle.layout_record.proofs.CellsMore.{cells-none}

@@ -70,7 +70,7 @@ use Rattle.cell_rows.proofs.CellLayouts.{length-cellsOf}
 use Rattle.layout_head.specs.declared.Numbers.{Numbers}
 use Rattle.layout_record.specs.declared.ReadLayout.{ReadLayout}
 use Rattle.layout_head.specs.RecordHeadFaults.{nextField}
-use Rattle.layout_record.specs.RecordLayoutFaults.{layoutRefused, layoutRowFault, endIn}
+use Rattle.layout_rows.specs.RecordLayoutFaults.{layoutRefused, layoutRowFault, endIn}
 use Rattle.layout_record.specs.RecordLayoutAnswer.{layoutAnswer}
 use Rattle.layout_head.proofs.Numbers as Nu
 use Rattle.layout_head.proofs.Numbers.Laws as Nu′
@@ -89,18 +89,18 @@ use Rattle.layout_record.proofs.rows.refused_by as refused-by
 use Rattle.layout_record.proofs.rows.refused_by.Symbol as refused-by-def
 use Rattle.layout_record.proofs.rows.refused_by.Symbol.{name as #layout-record·rows·refused-by}
 use Rattle.layout_record.proofs.rows.refused_by.Met as refused-by-thm
-use Rattle.layout_record.proofs.rows.row_fault as fault
-use Rattle.layout_record.proofs.rows.row_fault.Symbol as fault-def
-use Rattle.layout_record.proofs.rows.row_fault.Symbol.{name as #layout-record·rows·row-fault}
-use Rattle.layout_record.proofs.rows.row_fault.Met as fault-thm
+use Rattle.layout_rows.proofs.row_fault as fault
+use Rattle.layout_rows.proofs.row_fault.Symbol as fault-def
+use Rattle.layout_rows.proofs.row_fault.Symbol.{name as #layout-rows·row-fault}
+use Rattle.layout_rows.proofs.row_fault.Met as fault-thm
 use Rattle.layout_record.proofs.refused as refused
 use Rattle.layout_record.proofs.refused.Symbol as refused-def
 use Rattle.layout_record.proofs.refused.Symbol.{name as #layout-record·refused}
 use Rattle.layout_record.proofs.refused.Met as refused-thm
-use Rattle.fields.proofs.ids.put_ids as put-ids
-use Rattle.fields.proofs.ids.put_ids.Symbol as put-ids-def
-use Rattle.fields.proofs.ids.put_ids.Symbol.{name as #fields·ids·put-ids}
-use Rattle.fields.proofs.ids.put_ids.Met as put-ids-thm
+use Rattle.id_bytes.proofs.put_ids as put-ids
+use Rattle.id_bytes.proofs.put_ids.Symbol as put-ids-def
+use Rattle.id_bytes.proofs.put_ids.Symbol.{name as #id-bytes·put-ids}
+use Rattle.id_bytes.proofs.put_ids.Met as put-ids-thm
 use Rattle.layout_record.proofs.rows.ended as ended
 use Rattle.layout_record.proofs.rows.ended.Symbol as ended-def
 use Rattle.layout_record.proofs.rows.ended.Symbol.{name as #layout-record·rows·ended}
@@ -253,7 +253,7 @@ module _ {M : Type 1} (𝓤 : URA M) (H : Heap 𝓤) (A : Atoms 𝓤) (W : Given
       told 𝓤 H A An.the-row (‵ ftrue) (refused-by-says f) W (ensured 𝓤 H A refused-by.ended (refused-by.clauses 𝓤 H A mem run) tt (f, tt) tt)
       (λ r. exE 𝓤 _ (λ ws. snd∗ 𝓤 (sem 𝓤 H A (lasts refused-by.ended tt (f, tt) ws)) (fact 𝓤 (refused-by-says f r)))) u
 
-  -- ---- `rows::row_fault`
+  -- ---- `row_fault`
   abbrev to-fault : (start : ℕ) (parts : ℕ) (next : ℕ) (count : ℕ) → Fault 𝓤 H A mem run .Ghost
   to-fault start parts next count = (((κ, tt), (q, tt), tt, (s, (start, (parts, (next, (count, tt))))), (v ∷ [], (vint w64 start ∷ [], (vint w64 parts ∷ [], (vint w64 next ∷ [], (vint w64 count ∷ [], tt)))))), tt)
 
@@ -289,7 +289,7 @@ module _ {M : Type 1} (𝓤 : URA M) (H : Heap 𝓤) (A : Atoms 𝓤) (W : Given
       told 𝓤 H A An.the-row (‵ ftrue) (refused-says refusal byte) W (ensured 𝓤 H A refused.ended (refused.clauses 𝓤 H A mem run) tt (refusal, (byte, tt)) tt)
       (λ r. exE 𝓤 _ (λ ws. snd∗ 𝓤 (sem 𝓤 H A (lasts refused.ended tt (refusal, (byte, tt)) ws)) (fact 𝓤 (refused-says refusal byte r)))) u
 
-  -- ---- `ids::put_ids`: the cells are lent again for a lifetime ν of the call, under the name δ
+  -- ---- `put_ids`: the cells are lent again for a lifetime ν of the call, under the name δ
   abbrev to-put-ids : (ν : ℕ) (δ : GName) (ys : List ℕ) (row : ℕ) (at : ℕ) (count : ℕ) → Put 𝓤 H A mem run .Ghost
   to-put-ids ν δ ys row at count = (((ν ∷ [], (κ, tt)), (fullShare, (q, tt)), tt, (held δ ys, (s, (row, (at, (count, tt))))), (mv ∷ [], (v ∷ [], (vint w64 row ∷ [], (vint w64 at ∷ [], (vint w64 count ∷ [], tt)))))), tt)
 
@@ -336,7 +336,7 @@ module _ {M : Type 1} (𝓤 : URA M) (H : Heap 𝓤) (A : Atoms 𝓤) (W : Given
 
   module _ (𝓣 : Tables 𝓤 H) (fm : FmC 𝓤 H (W .laws) (𝓣 .C)) (n-fits : n < 2 ^ 64) (room : Room u32 m) (begin-fits : begin < 2 ^ 64) (nu-is : Is Nu.the-row nu (Nu′.lowered nu ∷ []))
       (whole-buffer : m ≡ layoutCells) (copies : nu .replication ≤ mostCopies) (parts : ℕ) (parts-are : parts ≡ 2 ^ (nu .bits)) (few-parts : parts ≤ bufferRows) (parts-fits : parts < 2 ^ 64)
-      (known-partitions : Triple 𝓤 (𝓣 .C #cluster·partitions) (Partitions 𝓤 H A mem run)) (known-next : Triple 𝓤 (𝓣 .C #layout-head·reading·next-field) (Next 𝓤 H A mem run)) (known-refused-by : Triple 𝓤 (𝓣 .C #layout-record·rows·refused-by) (Stopping 𝓤 H A mem run)) (known-fault : Triple 𝓤 (𝓣 .C #layout-record·rows·row-fault) (Fault 𝓤 H A mem run)) (known-refused : Triple 𝓤 (𝓣 .C #layout-record·refused) (Refusing 𝓤 H A mem run)) (known-put-ids : Triple 𝓤 (𝓣 .C #fields·ids·put-ids) (Put 𝓤 H A mem run)) (known-ended : Triple 𝓤 (𝓣 .C #layout-record·rows·ended) (Ended 𝓤 H A mem run))
+      (known-partitions : Triple 𝓤 (𝓣 .C #cluster·partitions) (Partitions 𝓤 H A mem run)) (known-next : Triple 𝓤 (𝓣 .C #layout-head·reading·next-field) (Next 𝓤 H A mem run)) (known-refused-by : Triple 𝓤 (𝓣 .C #layout-record·rows·refused-by) (Stopping 𝓤 H A mem run)) (known-fault : Triple 𝓤 (𝓣 .C #layout-rows·row-fault) (Fault 𝓤 H A mem run)) (known-refused : Triple 𝓤 (𝓣 .C #layout-record·refused) (Refusing 𝓤 H A mem run)) (known-put-ids : Triple 𝓤 (𝓣 .C #id-bytes·put-ids) (Put 𝓤 H A mem run)) (known-ended : Triple 𝓤 (𝓣 .C #layout-record·rows·ended) (Ended 𝓤 H A mem run))
       (l₀ l₁ l₂ l₃ l₄ l₅ l₆ l₇ l₈ l₉ l₁₀ l₁₁ l₁₂ l₁₃ l₁₄ l₁₅ l₁₆ l₁₇ l₁₈ l₁₉ l₂₀ l₂₁ l₂₂ l₂₃ l₂₄ l₂₅ : ℕ) where
     -- fewer rows are left
     abbrev Less : Turn bytes m parts begin nu → Turn bytes m parts begin nu → Type 0
@@ -446,10 +446,10 @@ module _ {M : Type 1} (𝓤 : URA M) (H : Heap 𝓤) (A : Atoms 𝓤) (W : Given
             use2 W (later (some (λ (δ : GName). ‵ (OwnCells δ (ν ∷ []) (x .cells-now)) ⊛ ‵ (LentAgain u32 κ′ (ν ∷ []) q′ γ b o δ (x .cells-now))))) (lends-as u32 κ′ (ν ∷ []) q′ γ b o 𝓤 H A W (named 0) (named 0) (x .cells-now) (x .long)) $ await ! tt $ pick ! (λ δ. split ! $
             move ! (2 ∷ 0 ∷ []) $ join ! $ move ! (0 ∷ 2 ∷ 3 ∷ []) $
             use3 W (raw (Put 𝓤 H A mem run .pre (to-put-ids ν δ (x .cells-now) (x .next) (start + 2) (nu .replication))) ⊛ ‵ Own) (goes-put-ids ν δ (x .cells-now) (x .next) (start + 2) (nu .replication) (next-fits x) two-fits count-fits room-for) $ split ! $
-            -- [what `ids::put_ids` asks; what bytes owns; what is lent; the locals]
+            -- [what `put_ids` asks; what bytes owns; what is lent; the locals]
             calls-at ! fm (Put 𝓤 H A mem run) known-put-ids (to-put-ids ν δ (x .cells-now) (x .next) (start + 2) (nu .replication)) (and-then ! (load ! (from ! (stop !)) (look ! 9 refl)) (and-then ! (load ! (from ! (stop !)) (look ! 7 refl)) (and-then ! (load ! (from ! (stop !)) (look ! 37 refl)) (and-then ! (load ! (from ! (stop !)) (look ! 19 refl)) (and-then ! (load ! (from ! (stop !)) (look ! 41 refl)) (no-more !)))))) (λ u.
             use1 W (later (some (λ (r : Unit {0}). ((‵ (flft (ν ∷ []) fullShare) ⊛ tok) ⊛ ‵ (Nothing .own r (u ∷ []))) ⊛ raw (ensured 𝓤 H A put-ids.ended (put-ids.clauses 𝓤 H A mem run) (ν ∷ [], (κ, tt)) (held δ (x .cells-now), (s, ((x .next), ((start + 2), ((nu .replication), tt))))) tt r)))) (id⊢ 𝓤 _) $ await ! tt $ pick ! (λ r.
-            -- what `ids::put_ids` ensures, at some last list
+            -- what `put_ids` ensures, at some last list
             split ! $ move ! (1 ∷ []) $ use1 W (some (λ (zs : (List ℕ × (Unit {0} × (Unit {0} × (Unit {0} × (Unit {0} × Unit {0})))))). ‵ (lasts put-ids.ended (ν ∷ [], (κ, tt)) (held δ (x .cells-now), (s, ((x .next), ((start + 2), ((nu .replication), tt))))) zs) ⊛ raw (fact 𝓤 (put-ids-says (x .cells-now) (x .next) (start + 2) (nu .replication) r (zs .0))))) (id⊢ 𝓤 _) $ pick ! (λ zs.
             split ! $ move ! (1 ∷ []) $ heard ! (put-ids-says (x .cells-now) (x .next) (start + 2) (nu .replication) r (zs .0)) (λ e′. fsplit ! $ fsplit ! $ move ! (1 ∷ []) $ feqL ! (λ l.
             move ! (2 ∷ []) $ split ! $ move ! (1 ∷ []) $ feqL ! (λ is.
@@ -518,7 +518,7 @@ module _ {M : Type 1} (𝓤 : URA M) (H : Heap 𝓤) (A : Atoms 𝓤) (W : Given
   start parts e begin-fits zeros = record { cells-now = cells₀; next = 0; at = begin; long = refl; read = rows-start bytes begin nu parts cells₀ e zeros; at-fits = begin-fits }
 
   -- the MIR, up to the loop: the reader is made where the head ends
-  walks : (𝓣 : Tables 𝓤 H) → FmC 𝓤 H (W .laws) (𝓣 .C) → Triple 𝓤 (𝓣 .C #cluster·partitions) (Partitions 𝓤 H A mem run) → Triple 𝓤 (𝓣 .C #layout-head·reading·next-field) (Next 𝓤 H A mem run) → Triple 𝓤 (𝓣 .C #layout-record·rows·refused-by) (Stopping 𝓤 H A mem run) → Triple 𝓤 (𝓣 .C #layout-record·rows·row-fault) (Fault 𝓤 H A mem run) → Triple 𝓤 (𝓣 .C #layout-record·refused) (Refusing 𝓤 H A mem run) → Triple 𝓤 (𝓣 .C #fields·ids·put-ids) (Put 𝓤 H A mem run) → Triple 𝓤 (𝓣 .C #layout-record·rows·ended) (Ended 𝓤 H A mem run) → Is (ShrSlice (named 0) κ u8) s (v ∷ []) → begin < 2 ^ 64 → Is Nu.the-row nu (Nu′.lowered nu ∷ []) → Is (MutSlice (named 1) κ′ u32) (held γ cells₀) (mv ∷ []) → (nu .bits ≤ mostBits) × (1 ≤ nu .replication) × (nu .replication ≤ mostCopies) × (cells₀ ≡ cellsOf [])
+  walks : (𝓣 : Tables 𝓤 H) → FmC 𝓤 H (W .laws) (𝓣 .C) → Triple 𝓤 (𝓣 .C #cluster·partitions) (Partitions 𝓤 H A mem run) → Triple 𝓤 (𝓣 .C #layout-head·reading·next-field) (Next 𝓤 H A mem run) → Triple 𝓤 (𝓣 .C #layout-record·rows·refused-by) (Stopping 𝓤 H A mem run) → Triple 𝓤 (𝓣 .C #layout-rows·row-fault) (Fault 𝓤 H A mem run) → Triple 𝓤 (𝓣 .C #layout-record·refused) (Refusing 𝓤 H A mem run) → Triple 𝓤 (𝓣 .C #id-bytes·put-ids) (Put 𝓤 H A mem run) → Triple 𝓤 (𝓣 .C #layout-record·rows·ended) (Ended 𝓤 H A mem run) → Is (ShrSlice (named 0) κ u8) s (v ∷ []) → begin < 2 ^ 64 → Is Nu.the-row nu (Nu′.lowered nu ∷ []) → Is (MutSlice (named 1) κ′ u32) (held γ cells₀) (mv ∷ []) → (nu .bits ≤ mostBits) × (1 ≤ nu .replication) × (nu .replication ≤ mostCopies) × (cells₀ ≡ cellsOf [])
       → ent 𝓤 (onEntry 𝓤 H A walk.signature (κ, (κ′, tt)) (q, (q′, tt)) (s, (begin, (nu, (held γ cells₀, tt)))) (v ∷ [], (vint w64 begin ∷ [], (Nu′.lowered nu ∷ [], (mv ∷ [], tt))))) (WpFn 𝓤 H (𝓣 .C) (𝓣 .Λ) code.function (v ∷ vint w64 begin ∷ Nu′.lowered nu ∷ mv ∷ []) Post′)
   walks 𝓣 fm known-partitions known-next known-refused-by known-fault known-refused known-put-ids known-ended p begin-fits nu-is p′ pre =
       let wt = shr-slice-lawful 𝓤 H A W (named 0) κ u8 .typed s (v ∷ []) p .0 in
@@ -537,7 +537,7 @@ module _ {M : Type 1} (𝓤 : URA M) (H : Heap 𝓤) (A : Atoms 𝓤) (W : Given
       looped 𝓣 fm (p .0 .1 .0) (p′ .0 .1) begin-fits nu-is whole-buffer (pre .2) parts all (e .1) (parts-is .1) known-partitions known-next known-refused-by known-fault known-refused known-put-ids known-ended l₀ l₁ l₂ l₃ l₄ l₅ l₆ l₇ l₈ l₉ l₁₀ l₁₁ l₁₂ l₁₃ l₁₄ l₁₅ l₁₆ l₁₇ l₁₈ l₁₉ l₂₀ l₂₁ l₂₂ l₂₃ l₂₄ l₂₅ (start parts all begin-fits (pre .3)))))))))))))))))))))))))))))
 
 module _ {M : Type 1} (𝓤 : URA M) (H : Heap 𝓤) (A : Atoms 𝓤) (W : Given 𝓤 H A) (mem : Memory → SProp 𝓤) (run : Routine → Fun 𝓤) (𝓣 : Tables 𝓤 H) where
-  walk-meets′ : Triple 𝓤 (𝓣 .C #cluster·partitions) (Partitions 𝓤 H A mem run) → Triple 𝓤 (𝓣 .C #layout-head·reading·next-field) (Next 𝓤 H A mem run) → Triple 𝓤 (𝓣 .C #layout-record·rows·refused-by) (Stopping 𝓤 H A mem run) → Triple 𝓤 (𝓣 .C #layout-record·rows·row-fault) (Fault 𝓤 H A mem run) → Triple 𝓤 (𝓣 .C #layout-record·refused) (Refusing 𝓤 H A mem run) → Triple 𝓤 (𝓣 .C #fields·ids·put-ids) (Put 𝓤 H A mem run) → Triple 𝓤 (𝓣 .C #layout-record·rows·ended) (Ended 𝓤 H A mem run) → Meets 𝓤 H A walk.signature (WpFn 𝓤 H (𝓣 .C) (𝓣 .Λ) code.function) (walk.spec 𝓤 H A mem run)
+  walk-meets′ : Triple 𝓤 (𝓣 .C #cluster·partitions) (Partitions 𝓤 H A mem run) → Triple 𝓤 (𝓣 .C #layout-head·reading·next-field) (Next 𝓤 H A mem run) → Triple 𝓤 (𝓣 .C #layout-record·rows·refused-by) (Stopping 𝓤 H A mem run) → Triple 𝓤 (𝓣 .C #layout-rows·row-fault) (Fault 𝓤 H A mem run) → Triple 𝓤 (𝓣 .C #layout-record·refused) (Refusing 𝓤 H A mem run) → Triple 𝓤 (𝓣 .C #id-bytes·put-ids) (Put 𝓤 H A mem run) → Triple 𝓤 (𝓣 .C #layout-record·rows·ended) (Ended 𝓤 H A mem run) → Meets 𝓤 H A walk.signature (WpFn 𝓤 H (𝓣 .C) (𝓣 .Λ) code.function) (walk.spec 𝓤 H A mem run)
   walk-meets′ known-partitions known-next known-refused-by known-fault known-refused known-put-ids known-ended =
       walk-meets 𝓤 H A walk.ended stayed W (goes-none-slice 𝓤 H A W 2 (0 ∷ []) tt (plain (λ _. u8)) yes, (goes-none 𝓤 H A W 2 (λ _. usize) yes (λ κs x f. refl), (goes-none 𝓤 H A W 2 (λ _. Nu.the-row) yes (λ κs x f. refl), (goes-slice 𝓤 H A W 2 1 tt (plain (λ _. u32)), tt)))) (walk.clauses 𝓤 H A mem run) (WpFn 𝓤 H (𝓣 .C) (𝓣 .Λ) code.function) (WpFn-mono 𝓤 H (W .laws) 𝓣 code.function)
       (walked 𝓤 H A walk.ended stayed (walk.clauses 𝓤 H A mem run) (WpFn 𝓤 H (𝓣 .C) (𝓣 .Λ) code.function) (λ κs. (slice-vals, (uint-vals w64, ((λ z. Nu′.lowered z ∷ []), (slice-vals, tt))))) (λ κs. (shr-slice-tells (named 0) (κs .0) u8, (uint-tells w64, (Nu′.lowers .val-is, (mut-slice-tells (named 1) (κs .1 .0) u32, tt)))))
@@ -552,7 +552,7 @@ read-rows-spec 𝓤 H 𝓜 𝓖 𝓡 =
     (cited 𝓤 H (Partitions 𝓤 H (𝓖 .A) (𝓜 .mem) (𝓡 .run)) 𝓜 𝓡 code.env #cluster·partitions partitions-def.routine code.calls-cluster·partitions (partitions-thm.met 𝓤 H 𝓜 𝓖 𝓡))
     (cited 𝓤 H (Next 𝓤 H (𝓖 .A) (𝓜 .mem) (𝓡 .run)) 𝓜 𝓡 code.env #layout-head·reading·next-field next-def.routine code.calls-layout-head·reading·next-field (next-thm.met 𝓤 H 𝓜 𝓖 𝓡))
     (cited 𝓤 H (Stopping 𝓤 H (𝓖 .A) (𝓜 .mem) (𝓡 .run)) 𝓜 𝓡 code.env #layout-record·rows·refused-by refused-by-def.routine code.calls-layout-record·rows·refused-by (refused-by-thm.met 𝓤 H 𝓜 𝓖 𝓡))
-    (cited 𝓤 H (Fault 𝓤 H (𝓖 .A) (𝓜 .mem) (𝓡 .run)) 𝓜 𝓡 code.env #layout-record·rows·row-fault fault-def.routine code.calls-layout-record·rows·row-fault (fault-thm.met 𝓤 H 𝓜 𝓖 𝓡))
+    (cited 𝓤 H (Fault 𝓤 H (𝓖 .A) (𝓜 .mem) (𝓡 .run)) 𝓜 𝓡 code.env #layout-rows·row-fault fault-def.routine code.calls-layout-rows·row-fault (fault-thm.met 𝓤 H 𝓜 𝓖 𝓡))
     (cited 𝓤 H (Refusing 𝓤 H (𝓖 .A) (𝓜 .mem) (𝓡 .run)) 𝓜 𝓡 code.env #layout-record·refused refused-def.routine code.calls-layout-record·refused (refused-thm.met 𝓤 H 𝓜 𝓖 𝓡))
-    (cited 𝓤 H (Put 𝓤 H (𝓖 .A) (𝓜 .mem) (𝓡 .run)) 𝓜 𝓡 code.env #fields·ids·put-ids put-ids-def.routine code.calls-fields·ids·put-ids (put-ids-thm.met 𝓤 H 𝓜 𝓖 𝓡))
+    (cited 𝓤 H (Put 𝓤 H (𝓖 .A) (𝓜 .mem) (𝓡 .run)) 𝓜 𝓡 code.env #id-bytes·put-ids put-ids-def.routine code.calls-id-bytes·put-ids (put-ids-thm.met 𝓤 H 𝓜 𝓖 𝓡))
     (cited 𝓤 H (Ended 𝓤 H (𝓖 .A) (𝓜 .mem) (𝓡 .run)) 𝓜 𝓡 code.env #layout-record·rows·ended ended-def.routine code.calls-layout-record·rows·ended (ended-thm.met 𝓤 H 𝓜 𝓖 𝓡)))

@@ -3,7 +3,7 @@
 use borrow.Author.Needs.{needs}
 use mathlib.Core.Path.{ap₂, _∙_}
 use Prim.Native.Nat.{ℕ}
-use Rattle.layout_record.specs.RecordLayoutFaults.{layoutRefused}
+use Rattle.layout_rows.specs.RecordLayoutFaults.{layoutRefused}
 use Rattle.layout_record.specs.RecordLayoutAnswer.{layoutAnswer}
 use Rattle.layout_record.proofs.rows.refused_by.Statement.{statement}
 use Rattle.layout_record.proofs.rows.refused_by.Tie as tie

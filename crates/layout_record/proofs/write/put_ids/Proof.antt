@@ -6,7 +6,7 @@ use Prim.Native.Nat.{ℕ, _-_, _≤_}
 use mathlib.Core.Path.{_≡_, ap, _∙_}
 use lib.ListN.{length, take, drop}
 use Rattle.fields.specs.RecordField.{written, idBytes}
-use Rattle.fields.proofs.Written.{written-none}
+use Rattle.numbers.proofs.Written.{written-none}
 use Rattle.fields.proofs.Puts.{put-id}
 use Rattle.layout_record.proofs.write.put_ids.Statement.{statement}
 use Rattle.layout_record.proofs.write.put_ids.Tie as tie

@@ -7,12 +7,12 @@ use mathlib.Core.Path.{_≡_, ap, _∙_}
 use lib.ListN.{length}
 use Rattle.cluster.specs.Terms.{rowsIn}
 use Rattle.fields.specs.RecordField.{over}
-use Rattle.fields.proofs.Written.{length-written}
+use Rattle.numbers.proofs.Written.{length-written}
 use Rattle.layout_head.specs.RecordHead.{headFields}
-use Rattle.layout_record.specs.RecordLayout.{layoutRecord}
-use Rattle.layout_record.specs.RecordLayoutFaults.{rowsFit}
+use Rattle.layout_rows.specs.RecordLayout.{layoutRecord}
+use Rattle.layout_rows.specs.RecordLayoutFaults.{rowsFit}
 use Rattle.cluster.proofs.Accepting.{partitions-in-range}
-use Rattle.layout_record.proofs.RowFaults.{Writable, no-fault}
+use Rattle.layout_rows.proofs.RowFaults.{Writable, no-fault}
 use Rattle.layout_head.proofs.NumberFields.{few-bits, few-copies}
 use Rattle.layout_record.proofs.PutRows.{head-room, rows-room, whole-room, put-whole}
 use Rattle.layout_record.proofs.write.put_record.Statement.{statement}

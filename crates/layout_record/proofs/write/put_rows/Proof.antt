@@ -9,8 +9,8 @@ use lib.ListN.{length}
 use Rattle.sums.specs.TermsSums.{tab}
 use Rattle.cluster.specs.Terms.{rowsIn}
 use Rattle.fields.specs.RecordField.{written}
-use Rattle.layout_record.specs.RecordLayout.{layoutRowFields}
-use Rattle.fields.proofs.Written.{written-none}
+use Rattle.layout_rows.specs.RecordLayout.{layoutRowFields}
+use Rattle.numbers.proofs.Written.{written-none}
 use Rattle.layout_record.proofs.RecordLaws.{row-ends}
 use Rattle.layout_record.proofs.PutRows.{next-at, put-row-next}
 use Rattle.layout_record.proofs.write.put_rows.Statement.{statement}

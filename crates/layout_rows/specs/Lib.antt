@@ -1,0 +1,2 @@
+pub mod RecordLayout
+pub mod RecordLayoutFaults
