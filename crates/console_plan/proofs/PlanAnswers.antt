@@ -12,7 +12,7 @@ use Rattle.cluster_record.specs.RecordClusterAnswer.{clusterAnswer, readCluster
 use Rattle.cluster_record.specs.declared.ReadCluster.{ReadCluster}
 use Rattle.cluster_record.proofs.Answers.{long-answer, accepted-former}
 use Rattle.cluster_record.proofs.Exactly.{reads-yield, answer-yields}
-use Rattle.settling.specs.TermsPlan.{unusable, Owed}
+use Rattle.planner.specs.TermsPlan.{unusable, Owed}
 use Rattle.planner.proofs.Refusals.{cells-usable}
 use Rattle.answers.specs.TermsAnswers.{reading}
 use Rattle.console_plan.specs.TermsConsolePlan.{formerIn, PlanOwed}

@@ -8,8 +8,8 @@ use Rattle.sums.specs.TermsSums.{one-if}
 use Rattle.cluster.specs.Terms.{layoutCells, scratchCells, topology, partitions, rowsIn}
 use Rattle.cluster_record.specs.RecordClusterAnswer.{formerRead}
 use Rattle.cluster_record.specs.declared.ReadCluster.{ReadCluster}
-use Rattle.settling.specs.TermsPlan.{refusedWith, plannedOf, assignmentAfter, scratchAfter, Owed}
-use Rattle.settling.specs.declared.Planned.{Planned}
+use Rattle.planner.specs.TermsPlan.{refusedWith, plannedOf, assignmentAfter, scratchAfter, Owed}
+use Rattle.planner.specs.declared.Planned.{Planned}
 use Rattle.answers.specs.TermsAnswers.{halves, afterReading, reading}
 
 -- The cells of the former layout that the reading leaves.

@@ -4,13 +4,13 @@ ghost use mathlib.Core.Path.{_≡_};
 ghost use lib.ListN.{length};
 ghost use Rattle.sums.specs.TermsSums.{one-if};
 ghost use Rattle.cluster.specs.Terms.{topology, partitions, rowsIn};
-ghost use Rattle.settling.specs.TermsPlan.{unusable, Owed};
+ghost use Rattle.planner.specs.TermsPlan.{unusable, Owed};
 ghost use Rattle.answers.specs.TermsAnswers.{unlessShort, answerAfter, reading};
 ghost use Rattle.console_plan.specs.TermsConsolePlan.{formerIn, planCells, planned, plannedAssignment, plannedScratch, plannedNumbers, PlanOwed};
 use cluster::Cluster;
 use cluster::refusal;
 use cluster_record::ReadCluster;
-use settling::Planned;
+use planner::Planned;
 
 // The cells of the answer: byte (two cells), size, sent, verdict, improvements.
 const ANSWER: usize = 6;

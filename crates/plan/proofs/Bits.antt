@@ -8,8 +8,8 @@ use lib.Dec.{eqb}
 use borrow.Author.Tests.{eqb-true}
 use Rattle.cluster.specs.declared.Cluster.{Cluster}
 use Rattle.cluster.proofs.Accepting.{accepted}
-use Rattle.settling.specs.TermsPlan.{planRefusal, plannedOf}
-use Rattle.settling.specs.declared.Planned.{Planned}
+use Rattle.planner.specs.TermsPlan.{planRefusal, plannedOf}
+use Rattle.planner.specs.declared.Planned.{Planned}
 use Rattle.planner.proofs.Refusals.{usable-has}
 
 -- What is 0, or else stands in another's place, is 0 where that is.

@@ -4,7 +4,7 @@ ghost use lib.ListN.{length};
 ghost use Rattle.cluster.specs.Terms.{mostBits, layoutCells};
 use cluster::Cluster;
 use libc::STDOUT_FILENO;
-use settling::Planned;
+use planner::Planned;
 
 // A name and its number.
 fn number(name: &[u8], n: u32) {

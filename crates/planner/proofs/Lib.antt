@@ -1,3 +1,4 @@
 pub mod Refusals
+pub mod Settling
 pub mod Planning
 pub mod Only

@@ -14,7 +14,7 @@ use Rattle.cluster.specs.declared.Cluster.{Cluster}
 use Rattle.sizing.specs.ModelSizing.{sizeOf}
 use Rattle.sums.specs.TermsSums.{everyTo}
 use Rattle.planning.specs.ModelPlan.{planOf}
-use Rattle.settling.specs.TermsPlan.{unusable, planRefusal, refusedWith, answered, plannedOf, assignmentAfter, scratchAfter}
+use Rattle.planner.specs.TermsPlan.{unusable, planRefusal, refusedWith, answered, plannedOf, assignmentAfter, scratchAfter}
 use Rattle.sums.proofs.Tests.{every-cong}
 
 module _ (c d : Cluster) (nodes : topology c ≡ topology d) (few : c .count ≤ mostNodes) (few′ : d .count ≤ mostNodes) (f g : List ℕ) (whole : layoutCells ≤ length f)

@@ -17,8 +17,8 @@ use Rattle.cluster.specs.TermsReading.{Fits32}
 use Rattle.unions.specs.ModelUnions.{keptCells}
 use Rattle.sizing.specs.ModelSizing.{sizeOf, sizeIn}
 use Rattle.sizing.proofs.Reading.{size-in}
-use Rattle.settling.specs.TermsPlan.{unusable, planRefusal, planIn, refusedWith, answered, plannedOf, assignmentAfter, scratchAfter, Owed}
-use Rattle.settling.specs.declared.Planned.{Planned}
+use Rattle.planner.specs.TermsPlan.{unusable, planRefusal, planIn, refusedWith, answered, plannedOf, assignmentAfter, scratchAfter, Owed}
+use Rattle.planner.specs.declared.Planned.{Planned}
 use Rattle.planner.proofs.Refusals.{usable-has, lent-former}
 use Rattle.planning.proofs.Demands.{demand3, no-layout}
 

@@ -19,7 +19,7 @@ use Rattle.sums.specs.TermsSums.{everyTo}
 use Rattle.sums.proofs.Tests.{every-cong}
 use Rattle.allowances.proofs.Runs.{not-both}
 use Rattle.masks.proofs.Laws.{holds-formed, formed-former}
-use Rattle.settling.specs.TermsPlan.{unusable}
+use Rattle.planner.specs.TermsPlan.{unusable}
 
 -- The test of the former rows that code makes is the one of the definition.
 module _ (cells : List ℕ) (whole : layoutCells ≤ length cells) where

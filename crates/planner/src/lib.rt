@@ -2,12 +2,21 @@
 ghost use mathlib.Core.Path.{_≡_};
 ghost use lib.ListN.{length};
 ghost use Rattle.cluster.specs.Terms.{topology, partitions, rowsIn};
-ghost use Rattle.settling.specs.TermsPlan.{unusable, plannedOf, assignmentAfter, scratchAfter, refusedWith, Owed};
+ghost use Rattle.planner.specs.TermsPlan.{unusable, plannedOf, assignmentAfter, scratchAfter, refusedWith, Owed};
 use cluster::Cluster;
 use cluster::refusal;
-use settling::Planned;
 
 mod refuse;
+mod settle;
+
+// What planning answers: the refusal, 0 for none, and the numbers of the plan, 0 where it is refused.
+pub struct Planned {
+    pub refusal: u32,
+    pub size: u32,
+    pub sent: u32,
+    pub finished: bool,
+    pub improvements: u32,
+}
 
 // An answer that refuses.
 fn refused(number: u32) -> Planned
@@ -46,7 +55,7 @@ pub fn plan(
         clearing::clear(scratch);
         return refused(refusal::NO_LAYOUT);
     }
-    let planned = settling::settle(
+    let planned = settle::settle(
         c,
         former,
         allowance as u32,

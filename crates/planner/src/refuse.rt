@@ -1,6 +1,6 @@
 // What planning cannot use: short buffers, a cluster with a fault, ill-formed former rows.
 ghost use mathlib.Core.Path.{_≡_};
-ghost use Rattle.settling.specs.TermsPlan.{unusable};
+ghost use Rattle.planner.specs.TermsPlan.{unusable};
 use cluster::Cluster;
 use cluster::refusal;
 

@@ -24,7 +24,7 @@ use Rattle.sizing.specs.ModelSizing.{sizeOf, dealtBits}
 use Rattle.sizing.proofs.Sizes.{size-best, size-largest, beginning-valid}
 use Rattle.planning.specs.Demand.{Demand3, Rules}
 use Rattle.planning.specs.ModelPlan.{planOf}
-use Rattle.settling.specs.TermsPlan.{unusable, planRefusal, planIn, refusedWith, answered, plannedOf, assignmentAfter}
+use Rattle.planner.specs.TermsPlan.{unusable, planRefusal, planIn, refusedWith, answered, plannedOf, assignmentAfter}
 use Rattle.planner.proofs.Refusals.{Usable, usable-has}
 use Rattle.planning.proofs.Demands.{demand3}
 

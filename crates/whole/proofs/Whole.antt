@@ -26,8 +26,8 @@ use Rattle.layouts.proofs.CheckMeaning.{valid-fits, valid-passed}
 use Rattle.sizing.specs.ModelSizing.{sizeOf}
 use Rattle.planning.specs.Demand.{Answer, Demand3, Rules}
 use Rattle.planning.specs.ModelPlan.{planOf}
-use Rattle.settling.specs.TermsPlan.{unusable, planRefusal, planIn, answered, plannedOf, assignmentAfter}
-use Rattle.settling.specs.declared.Planned.{Planned}
+use Rattle.planner.specs.TermsPlan.{unusable, planRefusal, planIn, answered, plannedOf, assignmentAfter}
+use Rattle.planner.specs.declared.Planned.{Planned}
 use Rattle.planner.proofs.Refusals.{Usable, usable, lent-former}
 use Rattle.layout_head.specs.declared.Numbers.{Numbers}
 use Rattle.layout_record.specs.declared.ReadLayout.{ReadLayout}

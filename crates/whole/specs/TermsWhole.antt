@@ -8,7 +8,7 @@ use lib.ListN.{take, drop}
 use Rattle.sums.specs.TermsSums.{one-if}
 use Rattle.cluster.specs.Terms.{layoutCells, topology, partitions, row, rowsIn}
 use Rattle.cluster.specs.declared.Cluster.{Cluster}
-use Rattle.settling.specs.declared.Planned.{Planned}
+use Rattle.planner.specs.declared.Planned.{Planned}
 use Rattle.layout_head.specs.declared.Numbers.{Numbers}
 use Rattle.layouts.specs.TermsCheck.{fault}
 use Rattle.moves.specs.TermsMoves.{wideCellsOf, FitsSixteen, sends}

@@ -6,7 +6,7 @@ use mathlib.Core.Path.{_≡_, ap, _∙_}
 use mathlib.Core.List.{[], _∷_, _++_}
 use lib.ListN.{length, drop}
 use Rattle.sums.specs.TermsSums.{one-if}
-use Rattle.settling.specs.declared.Planned.{Planned}
+use Rattle.planner.specs.declared.Planned.{Planned}
 use Rattle.answers.specs.TermsAnswers.{halves, reading}
 use Rattle.console_plan.specs.TermsConsolePlan.{formerIn, planned, plannedAssignment, plannedScratch}
 use Rattle.answers.proofs.Answered.{short, long}

@@ -4,7 +4,7 @@ use mathlib.Core.Path.{_≡_, sym, _∙_}
 use lib.ListN.{length, take, drop, length-append, length-drop}
 use lib.Seq.{length-take-le}
 use Rattle.unions.specs.ModelUnions.{keptCells}
-use Rattle.settling.specs.TermsPlan.{unusable}
+use Rattle.planner.specs.TermsPlan.{unusable}
 use Rattle.planner.proofs.Refusals.{Usable, usable-has}
 use Rattle.planner.proofs.Planning.{refused-ends, none-ends, planned-ends, settle-asks}
 use Rattle.planner.proofs.plan.Statement.{statement}
@@ -14,7 +14,7 @@ use Rattle.planner.proofs.plan.Lts as lts
 use Rattle.clearing.proofs.clear.Reads as clear-reads
 use Rattle.planner.proofs.refuse.unusable.Reads as unusable-reads
 use Rattle.planner.proofs.refused.Reads as refused-reads
-use Rattle.settling.proofs.settle.Reads as settle-reads
+use Rattle.planner.proofs.settle.settle.Reads as settle-reads
 use Rattle.sizing.proofs.size.Reads as size-reads
 
 unusable-requires : tie.Need-unusable-requires

@@ -1,4 +1,4 @@
-// What planning answers, and the plan of a cluster that has a layout: the run from the dealt beginning, its cells, and how many copies it sends.
+// The plan of a cluster that has a layout: the run from the dealt beginning, its cells, and how many copies it sends.
 ghost use mathlib.Core.Path.{_≡_};
 ghost use mathlib.Core.Bool.{true};
 ghost use mathlib.Core.List.{_++_};
@@ -9,20 +9,12 @@ ghost use Rattle.masks.specs.ModelMasks.{rowsFormed};
 ghost use Rattle.cluster.specs.TermsReading.{Fits32};
 ghost use Rattle.sizing.specs.ModelSizing.{sizeOf};
 ghost use Rattle.unions.specs.ModelUnions.{keptCells};
-ghost use Rattle.settling.specs.TermsPlan.{planIn, answered};
+ghost use Rattle.planner.specs.TermsPlan.{planIn, answered};
+use super::Planned;
 use cluster::Cluster;
 
-// What planning answers: the refusal, 0 for none, and the numbers of the plan, 0 where it is refused.
-pub struct Planned {
-    pub refusal: u32,
-    pub size: u32,
-    pub sent: u32,
-    pub finished: bool,
-    pub improvements: u32,
-}
-
 // The plan of a cluster that has a layout; `kept` is room for the run.
-pub fn settle(
+pub(crate) fn settle(
     c: Cluster,
     former: &[u32],
     allowance: u32,

@@ -28,8 +28,8 @@ use Rattle.agreement.specs.ModelAgreement.{agreementIn}
 use Rattle.steps.specs.ModelSteps.{State}
 use Rattle.improve.specs.ModelImprove.{ranIn}
 use Rattle.planning.specs.ModelPlan.{formerMasks, startRows, ranFrom, layoutRows, sentRows, answerBits, planFrom, planOf}
-use Rattle.settling.specs.TermsPlan.{planIn, answered}
-use Rattle.settling.specs.declared.Planned.{Planned}
+use Rattle.planner.specs.TermsPlan.{planIn, answered}
+use Rattle.planner.specs.declared.Planned.{Planned}
 use Rattle.improve.proofs.Ground.{run-good}
 use Rattle.planning.proofs.Grounds.{GoodRows, start-good, fm-long, ground, measure}
 use Rattle.planning.proofs.Rows.{rows-first, rows-share}

@@ -12,7 +12,7 @@ use Rattle.cluster.specs.declared.Cluster.{Cluster}
 use Rattle.sizing.specs.ModelSizing.{sizeOf}
 use Rattle.planning.specs.Demand.{Answer, Demand3}
 use Rattle.planning.specs.ModelPlan.{planOf}
-use Rattle.settling.specs.declared.Planned.{Planned}
+use Rattle.planner.specs.declared.Planned.{Planned}
 
 -- "8: any buffer too short. 6: more than 32 boxes. 4: bits, replication, redundancy or an id out of range. 5: ids not rising, or one of the
 -- first P former rows not rising ids followed by zeros."

@@ -2,11 +2,11 @@ use borrow.Author.Needs.{needs}
 use mathlib.Core.Path.{_≡_, _∙_}
 use Rattle.cluster.specs.Terms.{topology, partitions}
 use Rattle.cluster.proofs.Accepting.{partitions-in-range, accepted}
-use Rattle.settling.proofs.Settling.{before-long, countable, settled}
-use Rattle.settling.proofs.settle.Statement.{statement}
-use Rattle.settling.proofs.settle.Tie as tie
-use Rattle.settling.proofs.settle.Reads as reads
-use Rattle.settling.proofs.settle.Lts as lts
+use Rattle.planner.proofs.Settling.{before-long, countable, settled}
+use Rattle.planner.proofs.settle.settle.Statement.{statement}
+use Rattle.planner.proofs.settle.settle.Tie as tie
+use Rattle.planner.proofs.settle.settle.Reads as reads
+use Rattle.planner.proofs.settle.settle.Lts as lts
 use Rattle.masks.proofs.read_masks.Reads as read-masks-reads
 use Rattle.mask_cells.proofs.write_cells.Reads as write-cells-reads
 use Rattle.nearest.proofs.improved.Reads as improved-reads
