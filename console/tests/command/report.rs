@@ -272,28 +272,108 @@ fn steps_agree_with_table(page: &Element) {
     }
 }
 
+/// Copies to be received and to be dropped, as the table of the boxes says.
+fn moved(page: &Element, id: &str) -> [u64; 2] {
+    let cells = page.with_id(&format!("box-{id}"));
+    let cells = cells.named("td");
+    [2, 1].map(|place| number(&cells[cells.len() - place].text()))
+}
+
 /// What each box receives and drops is what the table of the boxes says, and so many copies are sent to it.
 fn senders_agree_with_boxes(page: &Element) {
     let mut all = [0, 0];
-    for line in page.with_id("moves").named("tr").into_iter().skip(1) {
+    let table = page.with_id("moves").of_class("of-moves")[0];
+    for line in table.named("tr").into_iter().skip(1) {
         let id = line.named("th")[0].text();
         let cells = line.named("td");
-        let moved = [1, 4].map(|place: usize| number(&cells[place].text()));
+        let told = [1, 4].map(|place: usize| number(&cells[place].text()));
         if id == "all" {
-            assert_eq!(moved, all);
+            assert_eq!(told, all);
             continue;
         }
-        let boxes = page.with_id(&format!("box-{id}"));
-        let boxes = boxes.named("td");
-        let told = [2, 1].map(|place| number(&boxes[boxes.len() - place].text()));
-        assert_eq!(moved, told, "box {id}");
+        assert_eq!(told, moved(page, &id), "box {id}");
         let from = cells[3].text();
         let copies = from.split('(').skip(1);
         let copies = copies.filter_map(|part| part.split(')').next());
-        assert_eq!(copies.map(number).sum::<u64>(), moved[0], "box {id}");
-        all = [all[0] + moved[0], all[1] + moved[1]];
+        assert_eq!(copies.map(number).sum::<u64>(), told[0], "box {id}");
+        all = [all[0] + told[0], all[1] + told[1]];
     }
     assert!(all[0] > 0, "something is sent");
+}
+
+/// A cell of the matrix by the id of its line and of its column, or by other words in the place of an id.
+type Place = (String, String);
+
+/// The cells of the matrix that are not empty: copies, and what they take.
+fn matrix(page: &Element) -> BTreeMap<Place, [u64; 2]> {
+    let table = page.with_id("moves").of_class("matrix")[0];
+    let words = |head: &Element| head.text().split(' ').map(String::from).collect::<Vec<_>>();
+    let heads = table.named("thead")[0].named("th").into_iter();
+    let heads: Vec<Vec<String>> = heads.map(words).collect();
+    let mut cells = BTreeMap::new();
+    for line in table.named("tbody")[0].named("tr") {
+        let from = match line.named("th")[0] {
+            lost if lost.text() == "no source" => lost.text(),
+            head => words(head)[0].clone(),
+        };
+        assert_eq!(line.named("td").len() + 1, heads.len(), "{from}");
+        assert_eq!(from == "no source", !line.named("em").is_empty());
+        for (cell, head) in line.named("td").into_iter().zip(&heads[1..]) {
+            let text = cell.text();
+            let Some((copies, takes)) = text.split_once(' ') else {
+                assert_eq!((text.as_str(), cell.get("data-head")), ("", ""));
+                continue;
+            };
+            let (told, to) = match head[0].as_str() {
+                "to" => (head[..2].join(" "), head[1].clone()),
+                _ => (head.join(" "), head[0].clone()),
+            };
+            assert_eq!(cell.get("data-head"), told, "{from}");
+            let twice = cells.insert((from.clone(), to), [number(copies), number(takes)]);
+            assert!(twice.is_none(), "{from} {told}");
+        }
+    }
+    cells
+}
+
+/// Each cell of the matrix is what the table of the partitions says, sums included, and each column and what is
+/// dropped what the table of the boxes says. `unit` is that of the page, in megabytes.
+fn matrix_agrees_with_tables(page: &Element, size: u64, unit: u64) {
+    let mut copies: BTreeMap<Place, u64> = BTreeMap::new();
+    for [before, after] in table(page).values() {
+        let source = before.iter().find(|(_, tag)| *tag != "del");
+        let from = source.map_or_else(|| "no source".into(), |(id, _)| id.to_string());
+        for (to, _) in after.iter().filter(|(_, tag)| *tag == "b") {
+            for from in [from.as_str(), "all"] {
+                for to in [to.to_string(), "all".into()] {
+                    *copies.entry((from.into(), to)).or_default() += 1;
+                }
+            }
+        }
+    }
+    let drawn = matrix(page);
+    let expected = copies.into_iter();
+    let expected = expected.map(|(place, copies)| (place, [copies, copies * size / unit]));
+    assert_eq!(drawn, expected.collect());
+
+    let ids = page.all().into_iter().map(|element| element.get("id"));
+    let ids: Vec<&str> = ids.filter_map(|id| id.strip_prefix("box-")).collect();
+    let mut dropped = BTreeMap::new();
+    for id in ids {
+        let [receives, drops] = moved(page, id);
+        let sum = drawn.get(&("all".into(), id.into()));
+        assert_eq!(sum.map_or(0, |sum| sum[0]), receives, "box {id}");
+        dropped.extend((drops > 0).then_some((number(id), drops)));
+    }
+    let told = page.with_id("moves").of_class("drops")[0].text();
+    let (list, sum) = told.split_once("; ").unwrap_or((&told, ""));
+    let drops = list.split(", ").map(numbers);
+    let drops = drops.filter(|part| !part.is_empty());
+    let drops: BTreeMap<u64, u64> = drops.map(|part| (part[1], part[0])).collect();
+    assert_eq!(drops, dropped, "{told}");
+    if drops.len() > 1 {
+        assert_eq!(number(sum), drops.values().sum::<u64>(), "{told}");
+    }
 }
 
 /// The disks of the small cluster.
@@ -326,7 +406,7 @@ fn bars_and_map_agree_with_the_tables() {
     bars_add_up(&page, &small_capacities(), 110);
     map_agrees_with_table(&page);
     steps_agree_with_table(&page);
-    senders_agree_with_boxes(&page);
+    matrix_agrees_with_tables(&page, 26, 1);
 
     let folder = planned_home("report-home");
     assert_eq!(
@@ -339,7 +419,7 @@ fn bars_and_map_agree_with_the_tables() {
     bars_add_up(&page, &BTreeMap::from(capacities), tb(4));
     map_agrees_with_table(&page);
     steps_agree_with_table(&page);
-    senders_agree_with_boxes(&page);
+    matrix_agrees_with_tables(&page, 19_531, 1000);
     let folded = page.with_id("steps").named("summary");
     assert_eq!(folded[0].text(), "192 partitions, 242 steps");
     let told = "3 copies of everything, in at least 2 zones. Each partition may grow to 19,531 MB: \
@@ -348,8 +428,116 @@ fn bars_and_map_agree_with_the_tables() {
     assert_eq!(lead(&page), told);
 }
 
-/// Eight of the 32 ids from this one on for each partition, in no order that makes groups.
-fn scattered(first: u32, seed: u32) -> Vec<u8> {
+/// Box 1 sends 6 + 141 copies of 19,531 MB and box 3 sends 51; what the columns come to is what comes in `diff`.
+#[test]
+fn the_sums_of_the_matrix_are_those_of_diff() {
+    let folder = planned_home("report-matrix");
+    assert_eq!(
+        folder.call("plan next.txt --former last --out next").status,
+        0
+    );
+    let page = page_of(&folder, "next.txt next --former last");
+    let cells = matrix(&page);
+    let expected = [
+        ("1", "3", [6, 117]),
+        ("1", "6", [141, 2753]),
+        ("1", "all", [147, 2871]),
+        ("3", "6", [51, 996]),
+        ("3", "all", [51, 996]),
+        ("all", "3", [6, 117]),
+        ("all", "6", [192, 3749]),
+        ("all", "all", [198, 3867]),
+    ];
+    let expected = expected.map(|(from, to, cell)| ((from.into(), to.into()), cell));
+    assert_eq!(cells, BTreeMap::from(expected));
+    let told = "To drop: 13 copies at box 1, 6 at box 2, 19 at box 3, 6 at box 4; 44 in all.";
+    assert_eq!(page.of_class("drops")[0].text(), told);
+
+    let diff = folder.call("diff next.txt last next").out;
+    let boxes = diff.split("\n\n").nth(1).expect("the table of the boxes");
+    let mut compared = 0;
+    for line in boxes.lines().skip(1) {
+        let words: Vec<&str> = line.split_whitespace().collect();
+        let comes = [4, 3].map(|place| number(words[words.len() - place]));
+        let sum = cells.get(&("all".into(), words[0].into()));
+        assert_eq!(sum.copied().unwrap_or_default(), comes, "{line}");
+        compared += 1;
+    }
+    assert_eq!(compared, 7, "six boxes and their sum");
+}
+
+/// The page of eleven boxes of which the first two send sixteen partitions to so many of the others.
+fn page_of_receivers(folder: &Folder, receivers: u32) -> Element {
+    let boxes = (1..=11).map(|id| format!("box {id} home 100\n"));
+    let text = format!("copies 1\nzones 1\nbits 4\n{}", boxes.collect::<String>());
+    folder.write("home.txt", text);
+    let record = |box_of: &dyn Fn(u32) -> u32| {
+        let rows: Vec<[u32; 1]> = (0..16).map(|p| [box_of(p)]).collect();
+        let rows: Vec<&[u32]> = rows.iter().map(|row| row.as_slice()).collect();
+        layout_record(4, 5, &rows)
+    };
+    folder.write("last", record(&|p| 1 + p % 2));
+    folder.write("next", record(&|p| 3 + p % receivers));
+    page_of(folder, "home.txt next --former last")
+}
+
+/// With eight boxes that receive there is a matrix; with nine it would be too wide, and each box has a line.
+#[test]
+fn a_matrix_has_at_most_eight_columns() {
+    let folder = Folder::new("report-receivers");
+    let page = page_of_receivers(&folder, 8);
+    matrix_agrees_with_tables(&page, 5, 1);
+    let cells = matrix(&page);
+    let cell = |from: &str, to: &str| cells.get(&(from.into(), to.into())).copied();
+    let found = [("1", "3"), ("2", "3"), ("2", "10"), ("2", "all")];
+    let found = found.map(|(from, to)| cell(from, to));
+    assert_eq!(found, [Some([2, 10]), None, Some([2, 10]), Some([8, 40])]);
+    assert!(page.of_class("of-moves").is_empty());
+
+    let page = page_of_receivers(&folder, 9);
+    senders_agree_with_boxes(&page);
+    assert!(page.of_class("matrix").is_empty() && page.of_class("drops").is_empty());
+    let lines = page.with_id("moves").named("tr");
+    let line = |place: usize| {
+        let cells = lines[place].all().into_iter().skip(1);
+        cells.map(Element::text).collect::<Vec<_>>().join("|")
+    };
+    assert_eq!(lines.len(), 13, "a head, eleven boxes and their sum");
+    assert_eq!(
+        [1, 3, 11, 12].map(line),
+        [
+            "1||0|0||8",
+            "3||2|10|1 (1), 2 (1)|0",
+            "11||1|5|1 (1)|0",
+            "all||16|80||16"
+        ]
+    );
+}
+
+/// Where fewer copies are wanted than there were, none is sent, and what is dropped is told all the same.
+#[test]
+fn without_sends_there_is_no_matrix() {
+    let folder = Folder::new("report-drops");
+    let text = "copies 1\nzones 1\nbits 1\nbox 1 home 90\nbox 2 home 90\n";
+    folder.write("home.txt", text);
+    folder.write("last", layout_record(1, 20, &[&[1, 2], &[1, 2]]));
+    for (after, told) in [
+        ([[1], [2]], "1 copy at box 1, 1 at box 2; 2 in all"),
+        ([[1], [1]], "2 copies at box 2"),
+    ] {
+        let rows = after.each_ref().map(|row| row.as_slice());
+        folder.write("next", layout_record(1, 20, &rows));
+        let page = page_of(&folder, "home.txt next --former last");
+        let moves = page.with_id("moves");
+        assert!(moves.named("table").is_empty());
+        let words: Vec<String> = moves.named("p").into_iter().map(Element::text).collect();
+        let told = format!("To drop: {told}.");
+        assert_eq!(words, ["No copy has to be sent.", &told]);
+    }
+}
+
+/// Eight of the so many ids from this one on for each partition, in no order that makes groups.
+fn scattered(first: u32, many: u32, seed: u32) -> Vec<Vec<u32>> {
     let mut state = seed;
     let mut below = |most: usize| {
         state = state.wrapping_mul(1_664_525).wrapping_add(1_013_904_223);
@@ -357,24 +545,30 @@ fn scattered(first: u32, seed: u32) -> Vec<u8> {
     };
     let mut rows = Vec::new();
     for _ in 0..256 {
-        let mut ids: Vec<u32> = (first..=first + 31).collect();
+        let mut ids: Vec<u32> = (first..first + many).collect();
         while ids.len() > 8 {
             ids.remove(below(ids.len()));
         }
         rows.push(ids);
     }
+    rows
+}
+
+/// The layout record of such rows.
+fn record_of(rows: &[Vec<u32>]) -> Vec<u8> {
     let rows: Vec<&[u32]> = rows.iter().map(Vec::as_slice).collect();
     layout_record(8, 1, &rows)
 }
 
 /// The most boxes with the longest ids, names and zones, each with a ceiling that it may not reach; eight copies
-/// each. All but one are new, or all were there before and nearly all copies move.
+/// each. All but one are new, or all were there before and nearly all copies move; or eight receive all that the
+/// others send, but for one partition.
 #[test]
 fn the_largest_page_is_not_long() {
     let folder = Folder::new("report-largest");
     let boxes = (0..32u32).map(|b| {
         let (quotes, zone) = ("\"".repeat(200), format!("{b}-{}", "\"".repeat(100)));
-        let id = 4_294_967_231 + b;
+        let id = FIRST + b;
         format!(
             "box {id} {zone} {}T {quotes}\nceiling {id} 255\n",
             2 + b % 7
@@ -382,13 +576,23 @@ fn the_largest_page_is_not_long() {
     });
     let text = format!("copies 8\nzones 1\n{}", boxes.collect::<String>());
     folder.write("home.txt", text);
-    folder.write("next", scattered(4_294_967_231, 2));
-    for first in [4_294_967_200, 4_294_967_231] {
-        folder.write("last", scattered(first, 1));
+    let others = scattered(FIRST + 8, 24, 1);
+    let mut gathered = vec![(FIRST..FIRST + 8).collect::<Vec<u32>>(); 256];
+    gathered[0].clone_from(&others[0]);
+    for (before, after) in [
+        (scattered(FIRST - 31, 32, 1), scattered(FIRST, 32, 2)),
+        (others, gathered),
+        (scattered(FIRST, 32, 1), scattered(FIRST, 32, 2)),
+    ] {
+        folder.write("last", record_of(&before));
+        folder.write("next", record_of(&after));
         let page = page_of(&folder, "home.txt next --former last");
         map_agrees_with_table(&page);
         steps_agree_with_table(&page);
-        senders_agree_with_boxes(&page);
+        match page.of_class("matrix").is_empty() {
+            true => senders_agree_with_boxes(&page),
+            false => matrix_agrees_with_tables(&page, 1, 1000),
+        }
         let bytes = folder.read("page.html");
         assert!(bytes.len() < 500_000, "{}", bytes.len());
         stands_alone(std::str::from_utf8(&bytes).expect("text"));
@@ -396,6 +600,9 @@ fn the_largest_page_is_not_long() {
     let again = folder.call("report home.txt next --former last --out page.html");
     assert_eq!(again.status, 0, "it is known as a page: {}", again.err);
 }
+
+/// The first id of the largest cluster: all have ten digits.
+const FIRST: u32 = 4_294_967_231;
 
 /// Where nothing moves, and where it is not known what was there before, there are no steps to tell.
 #[test]

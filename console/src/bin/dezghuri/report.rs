@@ -4,6 +4,7 @@ mod bars;
 mod facts;
 mod html;
 mod map;
+mod matrix;
 mod moves;
 mod tables;
 mod words;

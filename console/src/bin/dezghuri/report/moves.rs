@@ -2,6 +2,7 @@
 
 use super::facts::{Facts, Laid};
 use super::html::{isolated, section};
+use super::matrix;
 use super::tables::table;
 use crate::units::{count, thousands};
 use dezghuri::{Step, StepKind};
@@ -12,13 +13,22 @@ const LINES: usize = 32;
 /// More lines than these can be folded away.
 const FEW: usize = 12;
 /// What stands in the place of a source that there is not.
-const NO_SOURCE: &str = "no source";
+pub const NO_SOURCE: &str = "no source";
+/// What the caption of a table with such sends says more.
+pub const BACKUP: &str =
+    " No source: no box has a copy, so that it has to be brought from a backup.";
 
 /// What each box receives, from whom, and what it drops; nothing where nothing moves.
 pub fn by_box(facts: &Facts, laid: &Laid) -> String {
     if laid.steps.is_empty() {
         return String::new();
     }
+    let told = matrix::of_moves(facts, laid).unwrap_or_else(|| lines(facts, laid));
+    section("moves", "Who sends to whom", &told)
+}
+
+/// A line for each box, where more receive than a matrix has room for.
+fn lines(facts: &Facts, laid: &Laid) -> String {
     let nodes = facts.cluster().nodes.iter().enumerate();
     let lines: String = nodes
         .filter_map(|(b, node)| box_line(facts, laid, b, node.id))
@@ -31,11 +41,10 @@ pub fn by_box(facts: &Facts, laid: &Laid) -> String {
         facts.unit().name
     );
     if laid.steps.iter().any(has_no_source) {
-        caption += " No source: no box has a copy, so that it has to be brought from a backup.";
+        caption += BACKUP;
     }
     let heads = ["box", "name", "to receive", "takes", "from", "to drop"];
-    let table = table("cards of-moves", &caption, &heads, &lines);
-    section("moves", "Who sends to whom", &table)
+    table("cards of-moves", &caption, &heads, &lines)
 }
 
 fn box_line(facts: &Facts, laid: &Laid, b: usize, id: u32) -> Option<String> {
