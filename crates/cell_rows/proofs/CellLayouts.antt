@@ -1,23 +1,24 @@
 -- The laws of layouts in cells: a layout that fits is read back as it was written, and cells that hold rows are written back as they were.
 -- Assumes nothing.
 use Prim.Native.Nat.{ℕ, zero, suc, _+_, _-_, _*_, _/_, _%_, _≤_, _<_}
-use mathlib.Core.Path.{_≡_, refl, sym, ap, ap₂, _∙_}
+use mathlib.Core.Path.{_≡_, refl, sym, ap, _∙_}
 use mathlib.Core.List.{List, [], _∷_, _++_}
 use mathlib.Core.Logic.{⊎-elim}
 use native.Mathlib.Omega.{arith}
-use lib.ListN.{length, take, drop, getD, replicate, length-append, length-replicate, length-take, length-drop, List·getD-eq-default}
-use lib.Seq.{take-at, take-take, take-append-le, length-take-le, getD-take, getD-drop, ext-getD}
+use lib.ListN.{length, take, drop, getD, replicate, length-append, length-take, List·getD-eq-default}
+use lib.Seq.{take-at, take-take, take-append-le, length-take-le, getD-take, ext-getD}
 use Rattle.sums.proofs.Sum.{lt-or-ge}
 use Rattle.cells.proofs.Cells.{length-tab, getD-tab, tab-cong, tab-getD}
 use Rattle.cluster.specs.Terms.{rowCells, bufferRows, layoutCells, Layout, row, cellsOf, rowAt, idsIn, blank, formed, rowsIn}
 use Rattle.cell_rows.specs.ModelRows.{FitsCells, HoldsRows}
-use Rattle.cell_rows.proofs.CellRows.{getD-zeros, zeros-blank, blank-cell, ids-length, formed-cell, rising-ids, rising-formed}
+use Rattle.cell_rows.proofs.AnyWidth.{length-rowOf, getD-rowOf, row-cells}
+use Rattle.cell_rows.proofs.CellRows.{zeros-blank, blank-cell, ids-length, formed-cell, rising-ids, rising-formed}
 
 -- ---- the rows of cells
 
 -- Cells that reach past row p have eight cells in it.
 pub length-rowAt : (cells : List ℕ) (p : ℕ) → p * rowCells + rowCells ≤ length cells → length (rowAt cells p) ≡ rowCells
-length-rowAt cells p h = length-take-le rowCells (drop (p * rowCells) cells) (omega (arith, length-drop (p * rowCells) cells))
+length-rowAt cells p h = length-rowOf rowCells cells p h
 
 -- A row has at most eight cells, and so at most eight ids.
 pub few-ids : (cells : List ℕ) (p : ℕ) → length (idsIn (rowAt cells p)) ≤ rowCells
@@ -25,7 +26,7 @@ few-ids cells p = omega (arith, ids-length (rowAt cells p), length-take rowCells
 
 -- Cell j of row p is cell 8 p + j.
 pub getD-rowAt : (cells : List ℕ) (p j : ℕ) → j < rowCells → getD (rowAt cells p) j 0 ≡ getD cells (p * rowCells + j) 0
-getD-rowAt cells p j h = getD-take rowCells (drop (p * rowCells) cells) j 0 h ∙ getD-drop (p * rowCells) cells j 0
+getD-rowAt cells p j h = getD-rowOf rowCells cells p j h
 
 -- A part that ends before the cut is the same after it.
 take-drop-take : {A : Type 0} (n b m : ℕ) (l : List A) → b + n ≤ m → take n (drop b (take m l)) ≡ take n (drop b l)
@@ -72,22 +73,10 @@ pub getD-cellsOf : (L : Layout) (c : ℕ) → c < layoutCells → getD (cellsOf 
 unfolding cellsOf
 getD-cellsOf L c h = getD-tab (λ c. getD (row L (c / rowCells)) (c % rowCells) 0) layoutCells c 0 h
 
--- Cell j of row p of a layout is id j of row p, or 0 where there is none.
-pub cell-of : (L : Layout) (p j : ℕ) → p < bufferRows → j < rowCells → getD (rowAt (cellsOf L) p) j 0 ≡ getD (row L p) j 0
-cell-of L p j h k =
-    let d : (p * rowCells + j) / rowCells ≡ p = omega arith in
-    let m : (p * rowCells + j) % rowCells ≡ j = omega arith in
-    getD-rowAt (cellsOf L) p j k
-    ∙ (getD-cellsOf L (p * rowCells + j) (omega arith) ∙ ap₂ (λ (q i : ℕ). getD (row L q) i 0) d m)
-
 -- Row p of the cells of a layout is row p, then zeros.
 pub rowAt-cellsOf : (L : Layout) (p : ℕ) → p < bufferRows → length (row L p) ≤ rowCells
     → rowAt (cellsOf L) p ≡ row L p ++ replicate (rowCells - length (row L p)) 0
-rowAt-cellsOf L p h k =
-    let e : length (rowAt (cellsOf L) p) ≡ rowCells = length-rowAt (cellsOf L) p (omega (arith, length-cellsOf L)) in
-    ext-getD 0 (rowAt (cellsOf L) p) (row L p ++ replicate (rowCells - length (row L p)) 0)
-    (omega (arith, e, length-append (row L p) (replicate (rowCells - length (row L p)) 0), length-replicate {A = ℕ} (rowCells - length (row L p)) 0))
-    (λ j l. cell-of L p j h (omega arith) ∙ sym (getD-zeros (row L p) (rowCells - length (row L p)) j))
+rowAt-cellsOf L p h k = row-cells rowCells bufferRows (row L) (cellsOf L) (omega (arith, length-cellsOf L)) (getD-cellsOf L) p h k
 
 -- ---- written, then read
 

@@ -1,3 +1,4 @@
+pub mod AnyWidth
 pub mod CellLayouts
 pub mod CellRows
 pub mod RowScans

@@ -1,16 +1,16 @@
 -- Rows in sixteen cells each: rising ids, sixteen at most, are read back from their cells, whatever cells follow.
 -- Assumes nothing.
-use Prim.Native.Nat.{ℕ, _+_, _-_, _*_, _/_, _%_, _≤_, _<_}
-use mathlib.Core.Path.{_≡_, sym, ap, ap₂, _∙_}
+use Prim.Native.Nat.{ℕ, _+_, _-_, _/_, _%_, _≤_, _<_}
+use mathlib.Core.Path.{_≡_, sym, ap, _∙_}
 use mathlib.Core.List.{List, [], _++_, append-nil}
 use mathlib.Core.Bool.{true}
 use native.Mathlib.Omega.{arith}
-use lib.ListN.{length, drop, getD, replicate, length-append, length-replicate, length-drop, List·getD-append}
-use lib.Seq.{length-take-le, getD-take, getD-drop, ext-getD}
+use lib.ListN.{length, getD, replicate, length-append, List·getD-append}
 use Rattle.sums.specs.TermsSums.{tab}
 use Rattle.cells.proofs.Cells.{length-tab, getD-tab, tab-cong}
 use Rattle.cluster.specs.Terms.{wideRowCells, wideCells, bufferRows, row, rising, rowOf, idsIn, formed}
-use Rattle.cell_rows.proofs.CellRows.{getD-zeros, rising-ids, rising-formed}
+use Rattle.cell_rows.proofs.AnyWidth.{row-cells}
+use Rattle.cell_rows.proofs.CellRows.{rising-ids, rising-formed}
 use Rattle.moves.specs.TermsMoves.{wideRowsIn, wideCellsOf}
 
 -- The rows take 4,096 cells.
@@ -34,37 +34,20 @@ unfolding wideRowsIn
 row-wideRows n cells p h = getD-tab (λ p. idsIn (rowOf wideRowCells cells p)) n p [] h
 
 module _ (H : ℕ → List ℕ) (rest : List ℕ) where
-  -- Row p has sixteen cells.
-  length-row : (p : ℕ) → p < bufferRows → length (rowOf wideRowCells (wideCellsOf H ++ rest) p) ≡ wideRowCells
-  length-row p h =
-      length-take-le wideRowCells (drop (p * wideRowCells) (wideCellsOf H ++ rest))
-      (omega (arith, length-drop (p * wideRowCells) (wideCellsOf H ++ rest), length-append (wideCellsOf H) rest, length-wideCells H))
-
-  -- Cell j of row p is id j of row p, or 0 where there is none.
-  cell-of : (p j : ℕ) → p < bufferRows → j < wideRowCells → getD (rowOf wideRowCells (wideCellsOf H ++ rest) p) j 0 ≡ getD (H p) j 0
-  cell-of p j h k =
-      let d : (p * wideRowCells + j) / wideRowCells ≡ p = omega arith in
-      let m : (p * wideRowCells + j) % wideRowCells ≡ j = omega arith in
-      getD-take wideRowCells (drop (p * wideRowCells) (wideCellsOf H ++ rest)) j 0 k
-      ∙ (getD-drop (p * wideRowCells) (wideCellsOf H ++ rest) j 0
-      ∙ (List·getD-append (wideCellsOf H) rest 0 (p * wideRowCells + j) (omega (arith, length-wideCells H))
-      ∙ (getD-wideCells H (p * wideRowCells + j) (omega arith) ∙ ap₂ (λ (q i : ℕ). getD (H q) i 0) d m)))
-
   module _ (p : ℕ) (h : p < bufferRows) (few : length (H p) ≤ wideRowCells) (rises : rising (H p) ≡ true) where
     -- A row that fits is its ids, then zeros.
-    row-cells : rowOf wideRowCells (wideCellsOf H ++ rest) p ≡ H p ++ replicate (wideRowCells - length (H p)) 0
-    row-cells =
-        ext-getD 0 (rowOf wideRowCells (wideCellsOf H ++ rest) p) (H p ++ replicate (wideRowCells - length (H p)) 0)
-        (omega (arith, length-row p h, length-append (H p) (replicate (wideRowCells - length (H p)) 0), length-replicate {A = ℕ} (wideRowCells - length (H p)) 0))
-        (λ j l. cell-of p j h (omega (arith, length-row p h)) ∙ sym (getD-zeros (H p) (wideRowCells - length (H p)) j))
+    own-cells : rowOf wideRowCells (wideCellsOf H ++ rest) p ≡ H p ++ replicate (wideRowCells - length (H p)) 0
+    own-cells =
+        row-cells wideRowCells bufferRows H (wideCellsOf H ++ rest) (omega (arith, length-append (wideCellsOf H) rest, length-wideCells H))
+        (λ c l. List·getD-append (wideCellsOf H) rest 0 c (omega (arith, length-wideCells H)) ∙ getD-wideCells H c l) p h few
 
     -- Its cells are rising ids, then zeros,
     pub cells-formed : formed (rowOf wideRowCells (wideCellsOf H ++ rest) p) ≡ true
-    cells-formed = ap (λ (r : List ℕ). formed r) row-cells ∙ rising-formed 0 (wideRowCells - length (H p)) (H p) rises
+    cells-formed = ap (λ (r : List ℕ). formed r) own-cells ∙ rising-formed 0 (wideRowCells - length (H p)) (H p) rises
 
     -- and its ids are read from them.
     cells-ids : idsIn (rowOf wideRowCells (wideCellsOf H ++ rest) p) ≡ H p
-    cells-ids = ap (λ (r : List ℕ). idsIn r) row-cells ∙ rising-ids 0 (wideRowCells - length (H p)) (H p) rises
+    cells-ids = ap (λ (r : List ℕ). idsIn r) own-cells ∙ rising-ids 0 (wideRowCells - length (H p)) (H p) rises
 
   -- Rows that fit are read from their cells.
   pub wide-read : (n : ℕ) → n ≤ bufferRows → ((p : ℕ) → p < n → length (H p) ≤ wideRowCells) → ((p : ℕ) → p < n → rising (H p) ≡ true)
