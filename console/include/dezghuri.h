@@ -162,6 +162,20 @@ uint32_t dezghuri_figures(const uint8_t *record, size_t record_len,
                           uint32_t *figures, size_t figures_len,
                           uint32_t *answer, size_t answer_len);
 
+/* Certifies that the assignment has the largest size that the record's cluster has a layout of, and that none of
+ * that size sends fewer copies, from the former layout that the record carries: a price for each node, by which
+ * anybody can check it with sums alone. The prices are the least that do.
+ *
+ * assignment, 2,048 cells.
+ * answer, 35 cells: 0, 1 the byte of a refused reading (high, low); 2 the place, as dezghuri_check; 3 to 34 the
+ * prices of the nodes in id order, 0 for slots not in use; all 0 when refused.
+ * Refusals: as dezghuri_check; then 19, a layout is valid at a larger size; 20, one valid at the size sends
+ * fewer. */
+uint32_t dezghuri_certify(const uint8_t *record, size_t record_len,
+                          const uint32_t *assignment, size_t assignment_len,
+                          uint32_t size,
+                          uint32_t *answer, size_t answer_len);
+
 /* Copies the row of a partition, 0 to 255, out of an assignment.
  *
  * assignment, 2,048 cells.

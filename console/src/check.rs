@@ -50,7 +50,12 @@ impl Cluster {
     }
 
     /// A size of 0 has the number of a bad value too, but no byte: the field at byte 0 is good.
-    fn judge_layout(&self, refusal: u32, answer: &[u32], size: u32) -> Result<(), Refused> {
+    pub(crate) fn judge_layout(
+        &self,
+        refusal: u32,
+        answer: &[u32],
+        size: u32,
+    ) -> Result<(), Refused> {
         let byte = wide(answer[0], answer[1]);
         let of_size = size == 0 && byte == 0 && self.bits <= 8;
         judge(refusal, (!of_size).then_some(byte), Some(answer[2]))

@@ -141,7 +141,7 @@ impl Cluster {
 }
 
 /// The most copies that a node can hold at a size.
-fn most_copies(node: &Node, partitions: u64, size: u64) -> u64 {
+pub(crate) fn most_copies(node: &Node, partitions: u64, size: u64) -> u64 {
     disk_room(node, partitions, size).min(node.ceiling.into())
 }
 

@@ -31,6 +31,8 @@ pub const READ_LAYOUT_ANSWER: usize = 8;
 pub const PLAN_ANSWER: usize = 6;
 /// Least length of [`check`]'s answer.
 pub const CHECK_ANSWER: usize = 3;
+/// Least length of [`certify`]'s answer.
+pub const CERTIFY_ANSWER: usize = 35;
 /// Least length of [`figures`]'s answer.
 pub const FIGURES_ANSWER: usize = 5;
 /// Least length of [`write_layout`]'s answer.
@@ -79,6 +81,16 @@ mod c {
         ) -> u32;
 
         pub fn dezghuri_check(
+            record: *const u8,
+            record_len: usize,
+            assignment: *const u32,
+            assignment_len: usize,
+            size: u32,
+            answer: *mut u32,
+            answer_len: usize,
+        ) -> u32;
+
+        pub fn dezghuri_certify(
             record: *const u8,
             record_len: usize,
             assignment: *const u32,
@@ -224,6 +236,24 @@ pub fn check(record: &[u8], assignment: &[u32], size: u32, answer: &mut [u32]) -
     // overlaps no other.
     unsafe {
         c::dezghuri_check(
+            record.as_ptr(),
+            record.len(),
+            assignment.as_ptr(),
+            assignment.len(),
+            size,
+            answer.as_mut_ptr(),
+            answer.len(),
+        )
+    }
+}
+
+/// Checks as [`check`] does, and certifies that no layout has a larger size and none of this size sends
+/// fewer copies: a price for each node.
+pub fn certify(record: &[u8], assignment: &[u32], size: u32, answer: &mut [u32]) -> u32 {
+    // SAFETY: each pointer and length are those of one live slice, and the slice lent by `&mut`
+    // overlaps no other.
+    unsafe {
+        c::dezghuri_certify(
             record.as_ptr(),
             record.len(),
             assignment.as_ptr(),

@@ -49,6 +49,7 @@
 
 #![deny(unsafe_code, missing_docs)]
 
+mod certificate;
 mod change;
 mod check;
 mod cluster;
@@ -65,6 +66,7 @@ mod refusal;
 mod rewrite;
 pub mod units;
 
+pub use certificate::{Certificate, Class};
 pub use change::{Change, Changed, Staged};
 pub use check::Figures;
 pub use cluster::{Cluster, Node};

@@ -38,10 +38,14 @@ pub enum Refusal {
     Present = 13,
     /// 14: a node is to be removed or resized whose id is not there.
     Absent = 14,
+    /// 19: a layout is valid at a larger size.
+    Larger = 19,
+    /// 20: a layout valid at the size sends fewer copies.
+    Fewer = 20,
 }
 
-/// Each refusal with its meaning, in the order of the numbers from 1 on.
-const MEANINGS: [(Refusal, &str); 14] = [
+/// Each refusal with its meaning, in the order of the numbers.
+const MEANINGS: [(Refusal, &str); 16] = [
     (
         Refusal::Cut,
         "one or two bytes left, or a field's body cut short",
@@ -74,16 +78,18 @@ const MEANINGS: [(Refusal, &str); 14] = [
         Refusal::Absent,
         "an id to be removed or resized that is not there",
     ),
+    (Refusal::Larger, "a layout is valid at a larger size"),
+    (Refusal::Fewer, "a layout of the size sends fewer copies"),
 ];
 
 impl Refusal {
     /// The refusal of a number; nothing for 0 and for numbers that no call answers.
     pub fn from_number(number: u32) -> Option<Refusal> {
-        let place = usize::try_from(number).ok()?.checked_sub(1)?;
-        MEANINGS.get(place).map(|(refusal, _)| *refusal)
+        let mut refusals = MEANINGS.iter().map(|(refusal, _)| *refusal);
+        refusals.find(|refusal| refusal.number() == number)
     }
 
-    /// The paper's number, 1 to 14.
+    /// The paper's number, 1 to 14, or 19 or 20 of a certificate.
     pub fn number(self) -> u32 {
         self as u32
     }
@@ -120,8 +126,8 @@ impl TryFrom<u32> for Refusal {
 
 impl fmt::Display for Refusal {
     fn fmt(&self, f: &mut fmt::Formatter<'_>) -> fmt::Result {
-        let (_, meaning) = MEANINGS[*self as usize - 1];
-        f.write_str(meaning)
+        let meaning = MEANINGS.iter().find(|(refusal, _)| refusal == self);
+        f.write_str(meaning.map_or("", |(_, meaning)| meaning))
     }
 }
 
@@ -225,12 +231,12 @@ mod tests {
 
     #[test]
     fn numbers_and_refusals_are_one_for_one() {
-        for number in 1..=14 {
+        for number in (1..=14).chain([19, 20]) {
             let refusal = Refusal::from_number(number).unwrap();
             assert_eq!(refusal.number(), number);
             assert_eq!(Refusal::try_from(u32::from(refusal)), Ok(refusal));
         }
-        for number in [0, 15, 19, u32::MAX] {
+        for number in [0, 15, 18, 21, u32::MAX] {
             assert_eq!(Refusal::from_number(number), None);
             assert_eq!(Refusal::try_from(number), Err(NoRefusal(number)));
         }

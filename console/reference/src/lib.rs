@@ -5,6 +5,7 @@
 
 pub mod ceilings;
 pub mod cells;
+pub mod certificate;
 pub mod changes;
 mod dealing;
 pub mod exchanges;

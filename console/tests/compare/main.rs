@@ -6,6 +6,7 @@
 
 mod ceilings;
 mod cells;
+mod certificates;
 mod changes;
 mod clusters;
 mod counts;

@@ -28,3 +28,17 @@ pub const CAPACITY: u32 = 12;
 pub const PRESENT: u32 = 13;
 // An id to be removed or resized that is not there.
 pub const ABSENT: u32 = 14;
+// The totals of a layout record differ from its rows, or are missing.
+pub const TOTALS: u32 = 15;
+// A cluster whose replication and redundancy are not both 3.
+pub const THREE: u32 = 16;
+// A node with a ceiling, where none may have one.
+pub const CEILING: u32 = 17;
+// A layout to go on from that check refuses at the largest size.
+pub const START: u32 = 18;
+// A layout is valid at a larger size.
+pub const LARGER: u32 = 19;
+// A layout valid at the size sends fewer copies.
+pub const FEWER: u32 = 20;
+// An order in which some partition does not stand just once.
+pub const SEQUENCE: u32 = 21;

@@ -21,7 +21,7 @@ abbrev zeros : List ℕ
 zeros = replicate layoutCells 0
 
 module _ (s : List ℕ) (a z : ℕ) where
-  record-usable : reading s .refusal ≡ 0 → layoutCells ≤ a → scratchCells ≤ z → unusable (reading s .cluster) (formerIn s) a z ≡ 0
+  pub record-usable : reading s .refusal ≡ 0 → layoutCells ≤ a → scratchCells ≤ z → unusable (reading s .cluster) (formerIn s) a z ≡ 0
   unfolding reading formerIn clusterAnswer
   record-usable e long ample =
       let enough : layoutCells ≤ length zeros = omega (arith, length-replicate {A = ℕ} layoutCells 0) in

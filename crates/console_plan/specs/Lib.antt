@@ -1,1 +1,2 @@
 pub mod TermsConsolePlan
+pub mod TermsConsoleCertify

@@ -12,6 +12,8 @@ use cluster::refusal;
 use cluster_record::ReadCluster;
 use planner::Planned;
 
+pub mod certify;
+
 // The cells of the answer: byte (two cells), size, sent, verdict, improvements.
 const ANSWER: usize = 6;
 

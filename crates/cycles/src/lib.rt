@@ -6,7 +6,7 @@ ghost use lib.ListN.{length, getD};
 ghost use Rattle.cells.specs.ModelCells.{put};
 ghost use Rattle.cluster.specs.Terms.{mostNodes};
 ghost use Rattle.sets.specs.ModelBits.{bit, memberOf};
-ghost use Rattle.exchange.specs.ModelLevels.{Potential, outcome, IsPotential};
+ghost use Rattle.exchange.specs.ModelLevels.{Potential, dist, outcome, IsPotential};
 ghost use Rattle.levels.specs.ModelGraph.{arcCells, tableCells, graphOf};
 ghost use Rattle.levels.specs.ModelTurns.{Settled, Nodes};
 ghost use Rattle.cycles.specs.ModelFound.{walkCells, endLength, endWalk, Levelled, foundLength, foundWalk};
@@ -131,7 +131,8 @@ pub fn find(arcs: &[u32], n: u32, walk: &mut [u32]) -> u32
 // The distances of the last level of a search of the graph of arcs on n nodes: a potential, where there is no negative cycle.
 pub fn levels(arcs: &[u32], n: u32) -> [u32; Cluster::NODES]
     requires { ⌜ (1 ≤ n) × (n ≤ mostNodes) × (arcCells ≤ length (now arcs)) ⌝ }
-    ensures { λ r. ⌜ (length r ≡ mostNodes) × ((v : ℕ) → v < n → getD r v 0 ≤ n) × ((k : ℕ) → outcome (graphOf (now (arcs .entry)) n) ≡ Potential k → IsPotential (graphOf (now (arcs .entry)) n) (λ v. getD r v 0)) ⌝ }
+    ensures { λ r. ⌜ (length r ≡ mostNodes) × ((v : ℕ) → v < n → getD r v 0 ≤ n) × ((k : ℕ) → outcome (graphOf (now (arcs .entry)) n) ≡ Potential k → IsPotential (graphOf (now (arcs .entry)) n) (λ v. getD r v 0))
+        × ((k : ℕ) → outcome (graphOf (now (arcs .entry)) n) ≡ Potential k → (v : ℕ) → v < n → getD r v 0 ≡ dist (graphOf (now (arcs .entry)) n) k v) ⌝ }
 {
     let mut walk = [0u32; WALK];
     let searched = search(arcs, n, &mut walk);

@@ -38,7 +38,7 @@ module _ (cells : List ℕ) (whole : layoutCells ≤ length cells) where
   rows-same n l = sym (ap (λ (b : Bool). b && everyTo n (λ p. ltb (rowIds cells p) illFormed)) (le-leb n bufferRows l) ∙ every-cong n (λ p. ltb (rowIds cells p) illFormed) (λ p. formed (rowAt cells p)) (λ p h. one-row p (omega arith)))
 
 -- The same of the former rows of a cluster without fault.
-former-same : (c : Cluster) (former : List ℕ) → layoutCells ≤ length former → faultOf c ≡ 0
+pub former-same : (c : Cluster) (former : List ℕ) → layoutCells ≤ length former → faultOf c ≡ 0
     → everyTo (partitions (topology c)) (λ p. formed (rowAt former p)) ≡ rowsFormed former (partitions (topology c))
 former-same c former whole e = rows-same former whole (partitions (topology c)) (few-partitions (c .bits) (accepted c e .bits))
 

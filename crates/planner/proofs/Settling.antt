@@ -56,7 +56,7 @@ module _ (c : Cluster) (e : faultOf c ≡ 0) where
           ∙ mask-cong (bitsOf (t .nodes) (idsIn (rowAt former p))) (incidence t F p) (nodesOf t)
           (λ b k. ap (λ (r : List ℕ). bitsOf (t .nodes) r b) (sym (row-rowsIn (partitions t) former p l)))
 
-      before-is : before ≡ formerMasks t F
+      pub before-is : before ≡ formerMasks t F
       unfolding masksRead formerMasks
       before-is =
           eb

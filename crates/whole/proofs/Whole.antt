@@ -1,10 +1,11 @@
 -- The operations fit together, of the definitions that the contracts of `plan`, `check`, `write_layout`, `read_layout` and `list` cite: what planning
--- answers passes check, can be written, reads back as it was, asks for moves that can be interrupted, and planned again it stays.
+-- answers passes check, can be written, reads back as it was, asks for moves that can be interrupted, is certified where it is finished, and planned again it stays.
 -- Assumes nothing.
 use Prim.Native.Nat.{ℕ, _+_, _*_, _^_, _≤_, _<_}
 use mathlib.Core.Path.{_≡_, refl, sym, ap, ap₂, _∙_, subst}
-use mathlib.Core.Bool.{true}
+use mathlib.Core.Bool.{true, false, false≢true}
 use mathlib.Core.List.{List, [], _++_}
+use mathlib.Core.Logic.{⊎-elim}
 use native.Mathlib.Nat.{mul-le-mul}
 use native.Mathlib.Omega.{arith}
 use lib.ListN.{length, take, drop, length-append}
@@ -43,6 +44,8 @@ use Rattle.moves.proofs.WideRows.{length-wideCells, cells-formed, wide-read}
 use Rattle.moves.proofs.Promises.{sends-sent, eight-fit}
 use Rattle.move_list.specs.TermsMoveList.{formerIn, newIn}
 use Rattle.move_list.proofs.MovesOrder.{pass-all}
+use Rattle.certificate.specs.TermsCertify.{newIn as Certificate·newIn, certifiedOf, Owed as CertifyOwed}
+use Rattle.certificate.proofs.Owing.{pass-all as certify-pass, answer-owed}
 use Rattle.whole.specs.TermsWhole.{planNumbers, Stays, widened, PlanMoves}
 use Rattle.whole.proofs.Alike.{sent-self, sent-none}
 use Rattle.whole.proofs.Plans.{none-refused, usable-sized, not-refused, plan-answered, plan-laid, one-size, size-below, sent-few, valid-words, plan-rules, few-improvements}
@@ -265,6 +268,40 @@ module _ (c : Cluster) (former : List ℕ) (allowance : ℕ) (assignment scratch
             (subst (λ (x : Layout). FitsSixteen t F x) (sym new-rows)
             (eight-fit t F L few-rows (fo .partition-rows) (fo .ids) (valid .partition-rows) (valid .rows) (fo .few) (acc .replication .1)));
       }
+
+    -- ---- the certificate
+
+    own-rows : Certificate·newIn c cells ≡ L
+    own-rows = ap₂ rowsIn (sym (valid .partition-rows)) laid ∙ rowsIn-written L (drop layoutCells assignment) fits
+
+    -- What certify owes of the plan, at the size that it answers.
+    plan-owed : CertifyOwed t F L (plan .size) (certifiedOf c former cells (plan .size))
+    plan-owed =
+        subst (λ (x : Layout). CertifyOwed t F x (plan .size) (certifiedOf c former cells (plan .size))) own-rows
+        (answer-owed c former cells (plan .size)
+        (certify-pass c former cells (plan .size) (call .former-long)
+        (ap (λ (x : Checked). x .refusal) (ap (λ (x : Planned). checkOf c cells (x .size)) (sym answer) ∙ plan-checks)) (call .rows-formed))
+        low)
+
+    -- A plan that is called finished is certified,
+    pub plan-certified : r .finished ≡ true → certifiedOf c former cells (r .size) .refusal ≡ 0
+    plan-certified e =
+        let f = rules .finished allowance (ap (λ (x : Planned). x .finished) (sym answer) ∙ e) in
+        ap (λ (x : Planned). certifiedOf c former cells (x .size) .refusal) answer
+        ∙ plan-owed .exactly (rules .size allowance) (λ M v. omega (arith, f .nearest M v, rules .measured allowance))
+
+    -- and one that is called stopped is refused: another layout of its size sends fewer.
+    pub plan-uncertified : r .finished ≡ false → certifiedOf c former cells (r .size) .refusal ≡ 20
+    plan-uncertified e =
+        ap (λ (x : Planned). certifiedOf c former cells (x .size) .refusal) answer
+        ∙ ⊎-elim (λ z. absurd (none-nearer (plan-owed .nearest z)))
+        (⊎-elim (λ z. let w = plan-owed .larger z in absurd (omega (arith, w .3, rules .size allowance .largest (w .0) (w .1) (w .2)))) (λ z. z)) (plan-owed .only)
+      where
+        none-nearer : ((M : Layout) → ValidAt t M (plan .size) → sent t L F ≤ sent t M F) → ⊥
+        none-nearer h =
+            false≢true
+            (sym (ap (λ (x : Planned). x .finished) (sym answer) ∙ e)
+            ∙ rules .exactly allowance (λ M v. omega (arith, rules .measured allowance, h M v)))
 
     -- ---- again
 

@@ -16,8 +16,12 @@ returns : tie.Need-returns
 returns c =
     let s = c .before .before in
     let a = s .before .before .before .args in
-    let G = graphOf (a .arcs .now) (a .n) in
-    (search needs, λ v l. omega (arith, s .search .ensures .1 .0 v l), levelled-potential G (omega arith) (s .search .result .levels) (s .search .ensures .1))
+    let G = graphOf (a .arcs .now) (a .n) in (
+      search needs,
+      λ v l. omega (arith, s .search .ensures .1 .0 v l),
+      levelled-potential G (omega arith) (s .search .result .levels) (s .search .ensures .1),
+      s .search .ensures .1 .1,
+    )
 
 pub levels-spec : {M : Type 1} → statement M
 levels-spec = tie.close (tie.spec slice-aggregate-search search-requires returns)

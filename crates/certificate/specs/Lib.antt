@@ -1,0 +1,3 @@
+pub mod TermsCertificate
+pub mod ModelCertificate
+pub mod TermsCertify
