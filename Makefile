@@ -68,5 +68,5 @@ $(PROGRAM): $(CRATES)
 # The C functions, proved and compiled; again only when a crate has changed.
 $(LIBRARY): $(CRATES)
 	@mkdir -p build
-	@echo 'Proving the planner and compiling it: some minutes the first time (see build/library.log).'
-	@sh tools/library.sh >build/library.log 2>&1 || { cat build/library.log; exit 1; }
+	@echo 'Proving the planner and compiling it: some minutes the first time (build/library.log has all that is said).'
+	@sh tools/library.sh
