@@ -30,6 +30,7 @@ use Rattle.certificate.specs.declared.Certified.{Certified}
 use Rattle.certificate.specs.ModelCertificate.{cycleAt, priceCells}
 use Rattle.certificate.specs.TermsCertify.{formerFault, certifyFault, formerIn, newIn, unpriced, priced, certifiedOf, priceIn, Owed}
 use Rattle.certificate.specs.TermsCertificate.{costs}
+use Rattle.certificate.proofs.Larger.{short-next}
 use Rattle.certificate.proofs.Duality.{certified, certificate-same}
 use Rattle.certificate.proofs.Levels.{cycle-fewer, levels-certify, levels-least}
 
@@ -148,6 +149,7 @@ module _ (c : Cluster) (former assignment : List ℕ) (size : ℕ) where
           only = inr (inl refl);
           larger = λ x. (is-size .reached .0, sizeOf t, is-size .reached .1, l);
           largest = λ n. absurd (n refl);
+          short = λ n. absurd (n refl);
           fewer = λ x. absurd (omega (arith, x));
           nearest = λ x. absurd (omega (arith, x));
           exactly = λ i x. absurd (omega (arith, l, i .largest (is-size .reached .0) (sizeOf t) (is-size .reached .1)));
@@ -182,6 +184,7 @@ module _ (c : Cluster) (former assignment : List ℕ) (size : ℕ) where
                     only = inr (inr refl);
                     larger = λ x. absurd (omega (arith, x));
                     largest = λ x. is-size;
+                    short = λ x. short-next t acc (sizeOf t) is-size;
                     fewer = λ x. w;
                     nearest = λ x. absurd (omega (arith, x));
                     exactly = λ i x. absurd (omega (arith, w .2, x (w .0) (w .1)));
@@ -202,6 +205,7 @@ module _ (c : Cluster) (former assignment : List ℕ) (size : ℕ) where
                 only = inl refl;
                 larger = λ x. absurd (omega (arith, x));
                 largest = λ x. is-size;
+                short = λ x. short-next t acc (sizeOf t) is-size;
                 fewer = λ x. absurd (omega (arith, x));
                 nearest = λ x. certified t (acc .ids) F (sizeOf t) L _ _ (levels-certify t acc F L at-size n);
                 exactly = λ i x. refl;

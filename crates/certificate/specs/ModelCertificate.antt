@@ -1,14 +1,10 @@
 -- The prices that a search of the exchange graph of a layout ends with. Nobody has to believe this file: `Owed` of TermsCertify says what they achieve.
 -- Assumes nothing.
-use Prim.Native.Nat.{ℕ, _-_, _*_, _<_, min}
+use Prim.Native.Nat.{ℕ, _-_}
 use mathlib.Core.List.{List}
-use mathlib.Core.Logic.{_⊎_}
-use lib.ListN.{length}
-use Rattle.sums.specs.TermsSums.{sumTo}
 use Rattle.sums.specs.ModelSums.{maxTo}
 use Rattle.cluster.specs.Terms.{Topology, partitions, Layout}
-use Rattle.incidence.specs.ModelIncidence.{zoneIndex, capAt, column}
-use Rattle.dealing.specs.ModelDeal.{inZone}
+use Rattle.incidence.specs.ModelIncidence.{column}
 use Rattle.exchange.specs.ModelLevels.{Graph, Outcome, Potential, Cycle, dist, outcome}
 use Rattle.levels.specs.ModelGraph.{graphOf}
 use Rattle.sizing.specs.ModelSizing.{nodesOf, capCells, sizeOf}
@@ -35,9 +31,3 @@ cycleAt t F L = cycleIn (formerMasks t F) (partitions t) (matesOf t) (capCells t
 -- The prices of the nodes, a cell for each slot.
 unfoldable pub priceCells : Topology → Layout → Layout → List ℕ
 priceCells t F L = column (priceBy (graphAt t F L) (outcome (graphAt t F L))) (nodesOf t)
-
--- The two counts at a size of which one falls short: room for all copies, and for Z copies of each partition, counting at most P in a zone.
-abbrev pub Short : Topology → ℕ → Type 0
-Short t s =
-    (sumTo (length (t .nodes)) (capAt t s) < t .replication * partitions t)
-    ⊎ (sumTo (length (t .nodes)) (λ z. min (partitions t) (inZone (zoneIndex t) (capAt t s) z (length (t .nodes)))) < t .redundancy * partitions t)

@@ -1,6 +1,6 @@
 -- What certify answers of a cluster, its former layout, a layout in hand and a size: the refusals in their order and the prices; and what it owes.
 -- Assumes nothing.
-use Prim.Native.Nat.{ℕ, _≤_, _<_}
+use Prim.Native.Nat.{ℕ, suc, _≤_, _<_}
 use mathlib.Core.Path.{_≡_}
 use mathlib.Core.Bool.{cond}
 use mathlib.Core.List.{List}
@@ -14,7 +14,7 @@ use Rattle.layouts.specs.declared.check.Checked.{Checked}
 use Rattle.layouts.specs.TermsCheck.{fault, orElse, checkOf}
 use Rattle.sizing.specs.ModelSizing.{sizeOf}
 use Rattle.certificate.specs.declared.Certified.{Certified}
-use Rattle.certificate.specs.TermsCertificate.{costs, Certificate}
+use Rattle.certificate.specs.TermsCertificate.{Short, costs, Certificate}
 use Rattle.certificate.specs.ModelCertificate.{cycleAt, priceCells}
 
 -- ---- the answer
@@ -65,6 +65,8 @@ pub record Owed (t : Topology) (F L : Layout) (s : ℕ) (r : Certified) : Type 0
   -- 19 is answered just when a layout is valid at a larger size;
   pub larger : r .refusal ≡ 19 → (M : Layout) × (s′ : ℕ) × ValidAt t M s′ × (s < s′)
   pub largest : (r .refusal ≡ 19 → ⊥) → IsSize t s
+  -- and where it is not answered, one of two sums falls short at the next size;
+  pub short : (r .refusal ≡ 19 → ⊥) → Short t (suc s)
   -- 20 just when the size is the cluster's and a layout valid there sends fewer;
   pub fewer : r .refusal ≡ 20 → (M : Layout) × ValidAt t M s × (sent t M F < sent t L F)
   -- 0 just when the size is the cluster's and no layout valid there sends fewer;
