@@ -14,6 +14,8 @@ use std::collections::BTreeMap;
 pub struct Counts {
     /// Megabytes of a partition.
     pub size: u64,
+    /// Copies that each node can take, in the order of the nodes.
+    pub rooms: Vec<u64>,
     /// Copies that the nodes can take, each partition once at most on each node, and no more than its
     /// ceiling.
     pub room: u64,
@@ -24,6 +26,8 @@ pub struct Counts {
     /// Nodes, by id, whose disks have room for more copies than their ceilings allow: a larger disk of
     /// theirs changes nothing either.
     pub ceiling_nodes: Vec<u32>,
+    /// The zones, each with the partitions that can have a copy in it.
+    pub zone_rooms: Vec<(u16, u64)>,
     /// Pairs of a partition and a zone that can have a copy of it.
     pub zone_room: u64,
     /// Pairs that are wanted of all partitions together.
@@ -85,26 +89,38 @@ impl Cluster {
             let nodes = self.nodes.iter().filter(|node| is_one(node));
             nodes.map(|node| node.id).collect()
         };
-        let mut zones: BTreeMap<u16, u64> = BTreeMap::new();
-        for node in &self.nodes {
-            *zones.entry(node.zone).or_default() += most(node);
-        }
+        let rooms: Vec<u64> = self.nodes.iter().map(most).collect();
+        let zone_rooms = self.zone_rooms(&rooms);
         let zones_where = |is_whole: bool| {
-            let zones = zones.iter();
-            let zones = zones.filter(move |(_, room)| (**room >= partitions) == is_whole);
+            let zones = zone_rooms.iter();
+            let zones = zones.filter(|(_, room)| (*room == partitions) == is_whole);
             zones.map(|(zone, _)| *zone).collect()
         };
         Counts {
             size,
-            room: zones.values().sum(),
+            room: rooms.iter().sum(),
             wanted: u64::from(self.replication) * partitions,
             whole_nodes: ids_where(&|node| most(node) == partitions),
             ceiling_nodes: ids_where(&|node| most(node) < disk_room(node, partitions, size)),
-            zone_room: zones.values().map(|room| partitions.min(*room)).sum(),
+            zone_room: zone_rooms.iter().map(|(_, room)| room).sum(),
             zone_wanted: u64::from(self.redundancy) * partitions,
             whole_zones: zones_where(true),
             part_zones: zones_where(false),
+            rooms,
+            zone_rooms,
         }
+    }
+
+    /// The zones, each with the partitions that can have a copy in it where its nodes have these rooms.
+    fn zone_rooms(&self, rooms: &[u64]) -> Vec<(u16, u64)> {
+        let mut zones: BTreeMap<u16, u64> = BTreeMap::new();
+        for (node, room) in self.nodes.iter().zip(rooms) {
+            *zones.entry(node.zone).or_default() += room;
+        }
+        let zones = zones.into_iter();
+        zones
+            .map(|(zone, room)| (zone, room.min(self.partitions())))
+            .collect()
     }
 
     /// The nodes that hold nothing in a layout of the size, by id, each with the reason.
@@ -141,7 +157,7 @@ impl Cluster {
 }
 
 /// The most copies that a node can hold at a size.
-pub(crate) fn most_copies(node: &Node, partitions: u64, size: u64) -> u64 {
+fn most_copies(node: &Node, partitions: u64, size: u64) -> u64 {
     disk_room(node, partitions, size).min(node.ceiling.into())
 }
 

@@ -15,7 +15,10 @@
 //! After planning, [`Cluster::moves`] lists the transfers one after another, from what the nodes hold
 //! ([`Held`]) to the new layout: power may go after any of these steps, and a list made afresh goes on.
 //!
-//! Plans, checks, figures, changes, moves and records are the work of the C functions of
+//! Of a layout in hand, whoever planned it, [`Cluster::certify`] tells why none has a larger size and none
+//! of its size sends fewer copies: a price for each node, from which anybody can check it with sums alone.
+//!
+//! Plans, checks, figures, prices, changes, moves and records are the work of the C functions of
 //! `include/dezghuri.h`, whose contracts are proved; this library lends them their buffers and names
 //! their answers. [`ffi`] has them one for one.
 //!
@@ -66,7 +69,7 @@ mod refusal;
 mod rewrite;
 pub mod units;
 
-pub use certificate::{Certificate, Class};
+pub use certificate::{Certificate, Group, Line};
 pub use change::{Change, Changed, Staged};
 pub use check::Figures;
 pub use cluster::{Cluster, Node};

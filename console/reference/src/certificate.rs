@@ -57,6 +57,21 @@ pub fn cheapest(c: &Cluster, costs: &[u64]) -> Option<u64> {
     full.then(|| first.iter().chain(&rest[..more]).sum())
 }
 
+/// What the cheapest nodes cost at least, zones forgotten, for a partition whose former nodes have these
+/// prices: which nodes they are plays no part. Nothing where no nodes have these prices, or where there are
+/// too few.
+pub fn cheapest_by_prices(c: &Cluster, prices: &[u64], held: &[u64]) -> Option<u64> {
+    let mut others = prices.to_vec();
+    for price in held {
+        let place = others.iter().position(|other| other == price)?;
+        others.remove(place);
+    }
+    let others = others.iter().map(|price| price + 1);
+    let mut costs: Vec<u64> = held.iter().copied().chain(others).collect();
+    costs.sort_unstable();
+    costs.get(..c.replication).map(|costs| costs.iter().sum())
+}
+
 /// What every layout of the size sends at least, by the prices.
 pub fn proved(c: &Cluster, former: &Layout, size: u64, prices: &[u64]) -> Option<i64> {
     let mut low = 0;
@@ -134,6 +149,17 @@ mod tests {
         let (old, new) = (vec![vec![1, 2, 3]], vec![vec![1, 2, 4]]);
         assert_eq!(check(&k, &old, &new, 1, &[0; 4]), Ok(()));
         assert_eq!(check(&k, &old, &old, 1, &[0; 4]), Err(Fault::Form));
+    }
+
+    /// Nodes of prices 0, 1 and 2 held a partition, those of 2, 0 and 3 did not: 0, 1, 2, 3, 1 and 4.
+    #[test]
+    fn a_row_by_prices() {
+        let c = cluster(0, 4, 2, &[(1, 1); 6]);
+        let prices = [1, 2, 0, 2, 0, 3];
+        assert_eq!(cheapest_by_prices(&c, &prices, &[0, 1, 2]), Some(1 + 1 + 2));
+        assert_eq!(cheapest_by_prices(&c, &prices, &[]), Some(1 + 1 + 2 + 3));
+        assert_eq!(cheapest_by_prices(&c, &prices, &[1, 1]), None);
+        assert_eq!(cheapest_by_prices(&c, &prices[..3], &[]), None);
     }
 
     /// The rule of the cheapest row against all rows.

@@ -1,7 +1,7 @@
 //! Unverified programs that the proved planner is compared with, each written from the papers and
 //! from nothing else: a listing of all layouts, a planner by the report's own method, a planner by
-//! the method of exchanges, a parser, changes of the nodes, the list of moves, and what the papers say of
-//! lent cells.
+//! the method of exchanges, a parser, changes of the nodes, the list of moves, what the papers say of
+//! lent cells, and a stranger's check of certificates.
 
 pub mod ceilings;
 pub mod cells;

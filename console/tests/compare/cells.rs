@@ -1,10 +1,11 @@
-//! Check, figures, showing a row, and short slices, against what document 01 says of lent cells.
+//! Check, figures, certify, showing a row, and short slices, against what document 01 says of lent cells.
 
 use crate::clusters::{self, MEDIUM, SMALL};
 use crate::lent;
 use crate::{soak_factor, soak_seed};
 use dezghuri::ffi;
-use reference::cells::{cells_of, check, figures, hope, CELLS};
+use reference::cells::{cells_of, check, figures, hope, layout_of, CELLS};
+use reference::certificate::{self, Fault};
 use reference::random::Random;
 use reference::records::cluster_record;
 use reference::{report, Cluster, Layout, Node};
@@ -51,7 +52,23 @@ fn only_ceiling_passed(c: &Cluster, cells: &[u32], size: u32, id: u32) -> bool {
     held * u64::from(size) <= node.usable().into()
 }
 
-/// Check and figures answer as laid down.
+/// What certify answers of a layout that nothing was before: all layouts of a size send as many copies, so the
+/// prices are 0, and only the size can fail.
+fn certified(c: &Cluster, cells: &[u32], size: u32) -> Result<Vec<u32>, (u32, u64, u32)> {
+    let (none, layout) = (
+        vec![vec![]; c.partitions()],
+        layout_of(cells, c.partitions()),
+    );
+    let prices = vec![0; c.nodes.len()];
+    match certificate::check(c, &none, &layout, size.into(), &prices) {
+        Err(Fault::LargerSize) => Err((19, 0, 0)),
+        checked => checked
+            .map(|()| vec![0; 32])
+            .map_err(|fault| panic!("{fault:?}")),
+    }
+}
+
+/// Check, figures and certify answer as laid down.
 fn agrees(c: &Cluster, cells: &[u32], size: u32, r: &mut Random) -> u32 {
     let record = cluster_record(c, &vec![]);
     let (refusal, place) = check(c, cells, size);
@@ -65,6 +82,11 @@ fn agrees(c: &Cluster, cells: &[u32], size: u32, r: &mut Random) -> u32 {
         _ => Err((refusal, 0, place)),
     };
     assert_eq!(lent::figures(&record, cells, size, r), expected, "{c:?}");
+    let expected = match refusal {
+        0 => certified(c, cells, size),
+        _ => Err((refusal, 0, place)),
+    };
+    assert_eq!(lent::certify(&record, cells, size, r), expected, "{c:?}");
     refusal
 }
 
@@ -239,6 +261,9 @@ fn short_cells_are_refused_and_nothing_is_touched() {
     let mut answer = [7; 6];
     assert_eq!(ffi::check(&record, &cells, 0, &mut answer[..3]), 8);
     assert_eq!(answer, [0, 0, 0, 7, 7, 7]);
+    let mut prices = [7; ffi::CERTIFY_ANSWER];
+    assert_eq!(ffi::certify(&record, &cells, 0, &mut prices), 8);
+    assert_eq!(prices, [0; ffi::CERTIFY_ANSWER]);
     let mut counts = [5; 64];
     assert_eq!(
         ffi::figures(&record, &cells, 0, &mut counts, &mut answer[..5]),
@@ -280,6 +305,7 @@ fn a_short_answer_is_refused_before_all_and_nothing_is_touched() {
     assert_eq!(ffi::read_layout(&record, &mut a, &mut lent[..7]), 8);
     assert_eq!(ffi::plan(&record, 0, &mut a, &mut s, &mut lent[..5]), 8);
     assert_eq!(ffi::check(&record, &a, 0, &mut lent[..2]), 8);
+    assert_eq!(ffi::certify(&record, &a, 0, &mut lent[..34]), 8);
     assert_eq!(ffi::figures(&record, &a, 0, &mut f, &mut lent[..4]), 8);
     assert_eq!(ffi::write_layout(numbers, &a, &mut out, &mut lent[..1]), 8);
     assert_eq!(ffi::plan(&record, 0, &mut [], &mut [], &mut []), 8);

@@ -1,6 +1,7 @@
 //! Calls with lent buffers that are filled with a pattern and longer than they need to be: each
 //! call here checks that every cell comes back as laid down for the outcome.
 
+use crate::certificates;
 use dezghuri::ffi;
 use reference::cells::{layout_of, CELLS};
 use reference::random::Random;
@@ -40,7 +41,7 @@ pub struct Planned {
     pub layout: Layout,
 }
 
-/// Plans; refused, the refusal and the byte.
+/// Plans, and has the plan judged by the stranger's check; refused, the refusal and the byte.
 pub fn plan(record: &[u8], allowance: u16, r: &mut Random) -> Result<Planned, (u32, u64)> {
     let lent = (
         lend(CELLS, r),
@@ -70,7 +71,9 @@ pub fn plan(record: &[u8], allowance: u16, r: &mut Random) -> Result<Planned, (u
         assert_eq!(answer[2..ffi::PLAN_ANSWER], [0; 4], "numbers of a refusal");
         return Err((refusal, byte(&answer)));
     }
-    Ok(planned(1 << record[3], &assignment, &answer))
+    let planned = planned(1 << record[3], &assignment, &answer);
+    certificates::judge(record, &planned);
+    Ok(planned)
 }
 
 /// The answer to an accepted record of so many partitions.
@@ -166,6 +169,26 @@ pub fn check(record: &[u8], assignment: &[u32], size: u32, r: &mut Random) -> (u
     let refusal = ffi::check(record, assignment, size, &mut answer);
     kept(&answer, &lent, ffi::CHECK_ANSWER);
     (refusal, byte(&answer), answer[2])
+}
+
+/// The prices that certify an assignment, one for each of 32 nodes; refused, the refusal, byte and place.
+pub fn certify(
+    record: &[u8],
+    assignment: &[u32],
+    size: u32,
+    r: &mut Random,
+) -> Result<Vec<u32>, (u32, u64, u32)> {
+    let lent = lend(ffi::CERTIFY_ANSWER, r);
+    let mut answer = lent.clone();
+    let refusal = ffi::certify(record, assignment, size, &mut answer);
+    kept(&answer, &lent, ffi::CERTIFY_ANSWER);
+    let prices = answer[3..ffi::CERTIFY_ANSWER].to_vec();
+    if refusal != 0 {
+        assert_eq!(prices, [0; 32], "prices of a refusal");
+        return Err((refusal, byte(&answer), answer[2]));
+    }
+    assert_eq!(answer[..3], [0; 3], "byte and place without a refusal");
+    Ok(prices)
 }
 
 /// The 64 figures and the size to hope for; refused, the refusal, byte and place.

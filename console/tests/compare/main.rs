@@ -1,6 +1,6 @@
 //! The C functions compared with unverified programs, each written from the papers alone: a listing
-//! of all layouts, the report's method, a parser, changes of the nodes, the list of moves, and what the
-//! papers say of lent cells.
+//! of all layouts, the report's method, a parser, changes of the nodes, the list of moves, what the
+//! papers say of lent cells, and a stranger's check of certificates, which judges every plan.
 //!
 //! Every run tries the same cases. `make soak` tries many more: the tests that are ignored here.
 

@@ -173,10 +173,9 @@ fn cluster_reading_agrees(record: &[u8], r: &mut Random) -> u32 {
             let cells = lent::pattern(CELLS, r);
             let size = r.below(3) as u32;
             assert_eq!(lent::check(record, &cells, size, r), (refusal, byte, 0));
-            assert_eq!(
-                lent::figures(record, &cells, size, r),
-                Err((refusal, byte, 0))
-            );
+            let refused = (refusal, byte, 0);
+            assert_eq!(lent::figures(record, &cells, size, r), Err(refused));
+            assert_eq!(lent::certify(record, &cells, size, r), Err(refused));
             refusal
         }
     }
