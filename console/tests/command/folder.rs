@@ -3,7 +3,7 @@
 use dezghuri::{Layout, Plan, Verdict};
 use std::fs;
 use std::path::{Path, PathBuf};
-use std::process::{Command, Stdio};
+use std::process::{Child, Command, Output, Stdio};
 
 const BINARY: &str = env!("CARGO_BIN_EXE_dezghuri");
 
@@ -96,6 +96,24 @@ impl Folder {
         output.status.code().is_some()
     }
 
+    /// Starts all calls before it waits for the first; what each came to.
+    pub fn call_at_once<'a>(&self, lines: impl IntoIterator<Item = &'a String>) -> Vec<Done> {
+        let started = lines
+            .into_iter()
+            .map(|line| self.start(line, Stdio::piped()));
+        let started: Vec<Child> = started.collect();
+        let end = |child: Child| child.wait_with_output().expect("it was started").into();
+        started.into_iter().map(end).collect()
+    }
+
+    /// Starts a call, and does not wait for its end.
+    pub fn start(&self, words: &str, out: Stdio) -> Child {
+        let mut command = self.command();
+        command.args(words.split_whitespace());
+        command.stdout(out).stderr(Stdio::piped());
+        command.spawn().expect("the command is built")
+    }
+
     fn command(&self) -> Command {
         let mut command = Command::new(BINARY);
         command.current_dir(&self.0);
@@ -104,12 +122,17 @@ impl Folder {
 }
 
 fn finish(command: &mut Command) -> Done {
-    let output = command.output().expect("the command is built");
-    Done {
-        status: output.status.code().expect("it ends by itself"),
-        out: String::from_utf8_lossy(&output.stdout).into_owned(),
-        err: String::from_utf8_lossy(&output.stderr).into_owned(),
-        bytes: output.stdout,
+    command.output().expect("the command is built").into()
+}
+
+impl From<Output> for Done {
+    fn from(output: Output) -> Done {
+        Done {
+            status: output.status.code().expect("it ends by itself"),
+            out: String::from_utf8_lossy(&output.stdout).into_owned(),
+            err: String::from_utf8_lossy(&output.stderr).into_owned(),
+            bytes: output.stdout,
+        }
     }
 }
 

@@ -1,5 +1,6 @@
 //! The command as its owner calls it: whole outputs, exit status, and what is in the folder after.
 
+mod at_once;
 mod ceilings;
 mod compared;
 mod folder;

@@ -1,6 +1,7 @@
 //! The words that the command is called with.
 
 mod staging;
+mod writes;
 
 use crate::units;
 use dezghuri::Node;

@@ -13,6 +13,7 @@ mod files;
 mod help;
 mod json;
 mod labels;
+mod lock;
 mod losses;
 mod output;
 mod overview;
@@ -27,6 +28,7 @@ use commands::Answer;
 use dezghuri::units;
 use failure::{Failure, BAD};
 use json::Json;
+use lock::Lock;
 use std::ffi::OsString;
 use std::io::{self, IsTerminal, Write};
 use std::process::ExitCode;
@@ -52,11 +54,13 @@ fn called(words: &[OsString], warnings: &mut Vec<String>) -> Result<u8, Failure>
             "a record is not for the screen: use --out RECORD, or `dezghuri record FILE | plan`";
         return Err(Failure::Usage(what.into()));
     }
-    let answer = commands::run(&command, warnings);
+    let lock = Lock::take(&command.writes(), warnings);
+    let answer = lock.and_then(|lock| Ok((lock, commands::run(&command, warnings)?)));
     for warning in &*warnings {
         tell(&format!("warning: {warning}"));
     }
-    let mut answer = answer?;
+    // Held to the end: what the call has read stays as it is until its deeds are done.
+    let (_lock, mut answer) = answer?;
     answer.told.iter().for_each(|line| tell(line));
     let object = answer.json.take().filter(|_| json);
     match object {

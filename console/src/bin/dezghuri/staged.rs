@@ -32,6 +32,11 @@ pub struct Staged {
     pub was_applied: bool,
 }
 
+/// The file of what is staged for a text file.
+pub fn path_of(file: &Path) -> PathBuf {
+    output::with_ending(file, ".staged")
+}
+
 /// Whether the bytes are those of a file of staged changes.
 pub fn is_staged(bytes: &[u8]) -> bool {
     file::parse(bytes).is_ok()
@@ -42,7 +47,7 @@ impl Staged {
     /// A text that may have all of it already goes to the warnings.
     pub fn read(file: &Path, warnings: &mut Vec<String>) -> Result<Staged, Failure> {
         let text = files::read_text(file)?;
-        let path = output::with_ending(file, ".staged");
+        let path = path_of(file);
         let mut staged = Staged {
             file: file.into(),
             found: files::read_staged(&path)?,
