@@ -129,6 +129,21 @@ fn the_plan_after_a_box_was_replaced_has_the_first_rows() {
     assert_eq!(row_groups(&folder.read("next")), known);
 }
 
+/// The former layout is called as it will be kept; what is staged counts as it did for the plan.
+#[test]
+fn the_call_that_shows_why_has_the_names_of_the_files() {
+    let folder = planned_home("certified");
+    let planned = |line: &str| folder.call(line).out;
+    let told = "transfers.\n`dezghuri certify next.txt --former last.old last` shows why.\nWritten to last.\n";
+    let out = planned("plan next.txt --former last --out last");
+    assert!(out.contains(told), "{out}");
+    folder.call("stage home.txt resize 5 4T");
+    let told = "\n`dezghuri certify home.txt --staged --former last.old x` shows why.\n";
+    let out = planned("plan home.txt --staged --former last.old --out x");
+    assert!(out.contains(told), "{out}");
+    assert!(!planned("plan next.txt --former last").contains("certify"));
+}
+
 /// The README's sample is that plan, under other names.
 #[test]
 fn the_readme_shows_what_is_printed() {

@@ -49,7 +49,11 @@ fn a_plan_after_a_loss_is_an_object() {
     assert_eq!((done.status, done.err.as_str()), (0, ""));
     let object = read(&done.out);
     assert_eq!(object.get("rows").list().len(), 256);
-    assert_eq!(object.get("gone").line(), r#"[{"copies":154,"id":5}]"#);
+    assert_eq!(object.get("gone").line(), "154");
+    assert_eq!(
+        object.get("gone_boxes").line(),
+        r#"[{"copies":154,"id":5}]"#
+    );
     assert_eq!(object.get("sent").line(), "198");
     assert_eq!(object.get("sent_mb").line(), "3867138");
     assert_eq!(object.get("out"), &Value::Null);

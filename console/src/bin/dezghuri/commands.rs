@@ -17,6 +17,7 @@ use crate::failure::Failure;
 use crate::files;
 use crate::help::{HELP, VERSION};
 use crate::json::Json;
+use crate::labels;
 use crate::losses;
 use crate::output::{Kind, Output};
 use crate::report;
@@ -24,6 +25,7 @@ use crate::staged::Staged;
 use crate::units::count;
 use dezghuri::{Cluster, Description, Plan, Refused};
 use std::collections::BTreeSet;
+use std::mem;
 use std::path::Path;
 
 /// What a call comes to.
@@ -114,6 +116,8 @@ pub struct Known {
     pub name: String,
     /// The number of staged changes, where they were asked for.
     pub staged: Option<usize>,
+    /// The boxes before the staged changes: what a box was called that these take away.
+    before: Option<Description>,
 }
 
 /// The cluster of the file, with what is staged where that is asked for, and with the layout of the
@@ -135,6 +139,7 @@ pub fn describe(
         },
         name: file.display().to_string(),
         staged: None,
+        before: None,
     };
     let slips = known.described.warnings.iter();
     warnings.extend(slips.map(|slip| slip.told_of(file)));
@@ -155,9 +160,32 @@ impl Known {
             warnings.push(format!("nothing is staged for {}", self.name));
             return Ok(());
         }
-        self.described = staged.made(&self.described)?.described;
+        let made = staged.made(&self.described)?.described;
+        self.before = Some(mem::replace(&mut self.described, made));
         self.name += &format!(" with {}", staged.count());
         Ok(())
+    }
+
+    /// What it means for the data that boxes of the former layout are missing; nothing where none is.
+    pub fn missing(&self) -> String {
+        let named = |id: u32| {
+            let label = self.before.as_ref().and_then(|before| before.label(id));
+            labels::numbered(id, label.map_or("", |label| &label.name))
+        };
+        losses::missing(&self.described.cluster, named)
+    }
+
+    /// The answer. A failure comes in the place of the report, but not of what is lost or at risk: that
+    /// is told as warnings then.
+    pub fn with_losses(
+        &self,
+        answer: Result<Answer, Failure>,
+        warnings: &mut Vec<String>,
+    ) -> Result<Answer, Failure> {
+        if answer.is_err() {
+            warnings.extend(losses::in_words(&self.described.cluster));
+        }
+        answer
     }
 }
 
