@@ -14,6 +14,7 @@ mod read_json;
 mod record_lines;
 mod replaced;
 mod report;
+mod schema;
 mod sent;
 mod shown;
 mod staged;
