@@ -488,25 +488,38 @@ fn faulty_calls_end_with_status_2() {
     assert_eq!(folder.call("").status, 2);
 }
 
+/// A file may have a name that looks like an option.
+#[test]
+fn words_after_two_dashes_are_names() {
+    let folder = Folder::new("dashes");
+    folder.write("--json", THREE);
+    let done = folder.call("plan --out=-x -- --json");
+    assert_eq!((done.status, done.err.as_str()), (0, ""));
+    assert!(done.out.starts_with("--json: 3 copies"), "{}", done.out);
+    let done = folder.call("check -- --json -x");
+    let valid = "-x is valid for --json, each partition up to 23 MB.\n";
+    assert_eq!((done.status, done.out.as_str()), (0, valid));
+    let done = folder.call("check -- -x --json");
+    assert_eq!((done.status, done.out.as_str()), (2, ""));
+    assert!(folder.call("check --json -- -x -x").out.starts_with('{'));
+}
+
 #[test]
 fn help_and_version_are_printed() {
     let folder = Folder::new("help");
-    for line in [
-        "help",
-        "--help",
-        "-h",
-        "plan --help",
-        "plan home.txt -h",
-        "check -h",
-        "show home.txt last --help",
-        "record -h",
-        "diff --help",
-        "moves -h",
-        "what-if -h",
+    let (all, moves) = (include_str!("help.txt"), include_str!("help-moves.txt"));
+    for (line, told) in [
+        ("help", all),
+        ("--help", all),
+        ("-h", all),
+        ("help help", all),
+        ("help moves", moves),
+        ("moves --help", moves),
+        ("moves home.txt -h --speed", moves),
     ] {
         let help = folder.call(line);
         assert_eq!((help.status, help.err.as_str()), (0, ""), "{line}");
-        assert_eq!(help.out, include_str!("help.txt"), "{line}");
+        assert_eq!(help.out, told, "{line}");
     }
     for line in ["--version", "-V", "version"] {
         let version = folder.call(line);

@@ -15,7 +15,8 @@ use crate::args::{Command, Source};
 use crate::deeds::Deed;
 use crate::failure::Failure;
 use crate::files;
-use crate::help::{HELP, VERSION};
+use crate::grammar;
+use crate::help;
 use crate::json::Json;
 use crate::labels;
 use crate::losses;
@@ -71,8 +72,11 @@ impl Answer {
 /// Does what the command says; what looks like a slip goes to the warnings.
 pub fn run(command: &Command, warnings: &mut Vec<String>) -> Result<Answer, Failure> {
     match command {
-        Command::Help => Ok(Answer::report(HELP)),
-        Command::Version => Ok(Answer::report(VERSION)),
+        Command::Help(name) => Ok(Answer::report(match name.and_then(grammar::command) {
+            Some(command) => help::of_one(command),
+            None => help::of_all(),
+        })),
+        Command::Version => Ok(Answer::report(help::VERSION)),
         Command::Plan(call) => plan::run(call, warnings),
         Command::PlanRecord { record } => record::plan(record),
         Command::Check { source, layout } => check::run(source, layout, warnings),

@@ -84,10 +84,18 @@ pub const NAMED: usize = 8;
 pub fn listed<T: ToString>(items: impl ExactSizeIterator<Item = T>) -> String {
     let more = items.len().saturating_sub(NAMED);
     let named: Vec<String> = items.take(NAMED).map(|item| item.to_string()).collect();
-    match (more, &named[..]) {
-        (0, [rest @ .., last]) if !rest.is_empty() => format!("{} and {last}", rest.join(", ")),
-        (0, _) => named.concat(),
+    match more {
+        0 => joined(&named, "and"),
         _ => format!("{} and {more} more", named.join(", ")),
+    }
+}
+
+/// All in a list with commas, but with this word before the last.
+pub fn joined<T: AsRef<str>>(items: &[T], word: &str) -> String {
+    let items: Vec<&str> = items.iter().map(AsRef::as_ref).collect();
+    match &items[..] {
+        [rest @ .., last] if !rest.is_empty() => format!("{} {word} {last}", rest.join(", ")),
+        _ => items.concat(),
     }
 }
 

@@ -10,6 +10,7 @@ mod deeds;
 mod explain;
 mod failure;
 mod files;
+mod grammar;
 mod help;
 mod json;
 mod labels;
@@ -41,8 +42,7 @@ fn main() -> ExitCode {
     let mut warnings = Vec::new();
     let status = called(&words, &mut warnings).unwrap_or_else(|failure| {
         failure.lines().iter().for_each(|line| tell(line));
-        let wants_json = words.iter().any(|word| word == args::JSON);
-        match wants_json && !failure.is_late() {
+        match args::asks_for_json(&words) && !failure.is_late() {
             true => print_error(&words, &failure, &warnings),
             false => failure.status(),
         }
