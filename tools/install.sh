@@ -26,6 +26,7 @@ files() {
 644 console/completions/dezghuri.bash share/bash-completion/completions/dezghuri
 644 console/completions/_dezghuri share/zsh/site-functions/_dezghuri
 644 console/completions/dezghuri.fish share/fish/vendor_completions.d/dezghuri.fish
+644 docs/dezghuri.schema.json share/doc/dezghuri/dezghuri.schema.json
 END
 }
 

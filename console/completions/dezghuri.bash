@@ -15,6 +15,10 @@ _dezghuri() {
         [ "$COMP_CWORD" -ne 3 ] || mapfile -t COMPREPLY < <(compgen -W 'add remove resize show' -- "$word")
         return
     fi
+    if [ "${COMP_WORDS[1]}" = help ]; then
+        mapfile -t COMPREPLY < <(compgen -W 'plan check show diff moves what-if stage undo apply report record' -- "$word")
+        return
+    fi
     case ${COMP_WORDS[1]} in
         plan) options='--staged --former --out --allowance --replace --record --json --help' ;;
         check | diff) options='--staged --json --help' ;;

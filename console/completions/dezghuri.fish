@@ -8,6 +8,7 @@ end
 set -l commands plan check show diff moves what-if stage undo apply report record help
 complete -c dezghuri -n "not __dezghuri_in $commands" -f -a "$commands"
 complete -c dezghuri -n "not __dezghuri_in $commands" -l version -d 'tell the version'
+complete -c dezghuri -n '__dezghuri_in help' -f -a "$commands"
 complete -c dezghuri -n '__dezghuri_in stage; and test (count (commandline -opc)) -eq 3' -f -a 'add remove resize show'
 complete -c dezghuri -n '__dezghuri_in plan check show diff moves report' -l staged -d 'with all staged changes made'
 complete -c dezghuri -n '__dezghuri_in plan what-if report record' -l former -r -d 'the layout to start from'

@@ -60,7 +60,8 @@ fn without_a_ceiling_nothing_is_said_of_them() {
     folder.write("high.txt", HOME.to_owned() + &ceilings);
     let high = done(&folder, "plan high.txt --out high");
     let expected = include_str!("first.txt").replace("home.txt", "high.txt");
-    assert_eq!(high, expected.replace("to last", "to high"));
+    let expected = expected.replace("to last", "to high");
+    assert_eq!(high, expected.replace("high.txt last", "high.txt high"));
     assert_eq!(folder.read("last"), folder.read("high"));
     for line in [
         "show {}.txt last",
@@ -103,15 +104,16 @@ fn what_binds_is_named() {
     let why =
         "Why not more: each partition lies in at least 2 zones, and besides home the other zone, \
                shop, has no room for 1 more copy of each above 19 MB.\n\
-               The ceiling of box 2 (3) keeps copies off a disk that has room for them.\n\
+               The ceiling of box 2 (at most 3 copies) keeps copies off a disk that has room for them.\n\
                More disk in home would not help.\n";
     let told = planned(zones);
     assert!(told.contains(why), "{told}");
     // Boxes 1 and 2 may hold one copy of each of 3 partitions, box 3 then 2, and at 20 MB one.
     let two = LIMITED.replace("ceiling 1 2", "ceiling 2 3\nceiling 1 3");
     let why = "at 20 MB a partition the boxes have room for 7 copies, and 8 are wanted.\n\
-               The ceilings of boxes 1 (3) and 2 (3) keep copies off disks that have room for them.\n\
-               Larger disks in boxes 1 and 2 would not help.\n";
+               The ceilings of boxes 1 (study, at most 3 copies) and 2 (at most 3 copies) keep copies off disks that \
+               have room for them.\n\
+               Larger disks in boxes 1 (study) and 2 would not help.\n";
     let told = planned(&two);
     assert!(told.contains(why), "{told}");
     let tried = done(&limited("tried", &two), "what-if home.txt --resize 1=9T");
@@ -130,7 +132,7 @@ fn a_box_of_ceiling_0_holds_nothing() {
     assert!(!planned.contains("Unused"), "{planned}");
     let why =
         "Why not more: at 10 MB a partition the boxes have room for 0 copies, and 1 is wanted.\n\
-               The ceiling of box 2 (0) keeps copies off a disk that has room for them.\n\
+               The ceiling of box 2 (at most 0 copies) keeps copies off a disk that has room for them.\n\
                A larger disk in box 2 would not help.\n";
     assert!(planned.contains(why), "{planned}");
     let object = read(&done(&folder, "plan home.txt --json"));
@@ -179,7 +181,7 @@ fn a_ceiling_that_is_passed_is_told() {
         assert!(shown.contains(&heading), "{shown}");
     };
     not_valid(
-        "box 1 is to hold 4 copies, and its ceiling is 2: plan again, with this layout as --former",
+        "box 1 (study) is to hold 4 copies, and its ceiling is 2: plan again, with this layout as --former",
     );
     let planned = done(&folder, "plan home.txt --former last --out last");
     let sent = "Transfers: 2 copies are to be sent, 2 copies are to be dropped.\n";
@@ -187,7 +189,7 @@ fn a_ceiling_that_is_passed_is_told() {
     done(&folder, "check home.txt last");
     folder.write("last", layout_record(2, 30, &rows));
     let disk =
-        "box 1 is to hold 4 copies of 30 MB, 120 MB together, and may hold 94 MB of its 100 MB, \
+        "box 1 (study) is to hold 4 copies of 30 MB, 120 MB together, and may hold 94 MB of its 100 MB, \
                 since a sixteenth stays free";
     not_valid(&format!("{disk}, and its ceiling is 2"));
     folder.write("home.txt", LIMITED.replace("ceiling 1 2", "ceiling 1 4"));
@@ -209,6 +211,7 @@ fn layouts_are_compared_beside_the_ceilings() {
 
 fn ceilings(object: &Value) -> Vec<String> {
     let boxes = object.get("boxes").list().iter();
+    let boxes = boxes.filter(|line| line.get("present") == &Value::Bool(true));
     boxes.map(|line| line.get("ceiling").line()).collect()
 }
 
@@ -216,14 +219,16 @@ fn ceilings(object: &Value) -> Vec<String> {
 fn objects_have_the_ceilings() {
     let folder = limited("objects", LIMITED);
     let planned = done(&folder, "plan home.txt --out last --json");
-    assert_eq!(ceilings(&read(&planned)), ["2", "256", "256"]);
+    assert_eq!(ceilings(&read(&planned)), ["2", "null", "null"]);
     let first = r#"{"id": 1, "name": "study", "zone": "home", "present": true, "capacity_mb": 100, "ceiling": 2, "usable_mb": 94, "copies": 2, "used_mb": 38, "received": 2, "dropped": 0}"#;
     assert!(planned.contains(first), "{planned}");
     let shown = read(&done(&folder, "show home.txt last --json"));
-    assert_eq!(ceilings(&shown), ["2", "256", "256"]);
+    assert_eq!(ceilings(&shown), ["2", "null", "null"]);
     folder.write("home.txt", LIMITED.replace("box 3", "box 4"));
     let shown = read(&done(&folder, "show home.txt last --json"));
-    assert_eq!(ceilings(&shown), ["2", "256", "null", "256"]);
+    assert_eq!(ceilings(&shown), ["2", "null", "null"]);
+    let gone = r#"{"capacity_mb":null,"copies":2,"id":3,"name":"","present":false,"usable_mb":null,"used_mb":38,"zone":null}"#;
+    assert_eq!(shown.get("boxes").list()[2].line(), gone);
 }
 
 #[test]
@@ -298,8 +303,8 @@ fn the_page_shows_ceilings() {
     assert_eq!(cells, ["study", "home", "100", "2", "2", "38", "38.0 %"]);
     let why = page.with_id("why").text();
     for told in [
-        "The ceiling of box 1 (2) keeps copies off a disk that has room for them.",
-        "With nothing lost to rounding, zones and ceilings it would be 28 MB a partition.",
+        "The ceiling of box 1 (study, at most 2 copies) keeps copies off a disk that has room for them.",
+        "Upper bound: with nothing lost to rounding, zones and ceilings it would be 28 MB a partition.",
     ] {
         assert!(why.contains(told), "{why}");
     }

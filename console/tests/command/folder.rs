@@ -1,5 +1,6 @@
 //! A folder of its own for each test, in which the command is called.
 
+use crate::schema;
 use dezghuri::{Layout, Plan, Verdict};
 use std::fs;
 use std::path::{Path, PathBuf};
@@ -126,13 +127,18 @@ fn finish(command: &mut Command) -> Done {
 }
 
 impl From<Output> for Done {
+    /// What the call came to; an object is one of the schema, whatever the test asks of it.
     fn from(output: Output) -> Done {
-        Done {
+        let done = Done {
             status: output.status.code().expect("it ends by itself"),
             out: String::from_utf8_lossy(&output.stdout).into_owned(),
             err: String::from_utf8_lossy(&output.stderr).into_owned(),
             bytes: output.stdout,
+        };
+        if done.out.starts_with('{') {
+            schema::hold(&done.out);
         }
+        done
     }
 }
 

@@ -1,6 +1,7 @@
 //! Partitions whose former copies are gone.
 
 use crate::folder::{layout_record, Folder};
+use crate::read_json::read;
 
 /// Three boxes hold two copies of each partition; box 3 is left, boxes 4 and 5 are new.
 const NEW: &str = "copies 2\nzones 1\nbox 3 home 1.7T study\nbox 4 shop 1.71T\nbox 5 shop 1.71T\n";
@@ -39,6 +40,75 @@ fn a_record_is_written_with_a_warning_of_what_is_lost() {
         done.err,
         format!("warning: {lost}\n{hint}\nwarning: {risk}\n")
     );
+}
+
+/// Whatever keeps a plan from being printed, what is lost and at risk is told before it.
+#[test]
+fn what_is_lost_is_told_where_nothing_is_printed() {
+    let folder = two_of_three_replaced("lost-unwritten");
+    folder.write("small.txt", NEW.replace("copies 2", "copies 4"));
+    let told: Vec<&str> = include_str!("lost.txt").lines().take(3).collect();
+    let lost = format!("warning: {}\n{}\nwarning: {}\n", told[0], told[1], told[2]);
+    for (line, status, failure) in [
+        (
+            "plan new.txt --former last --out no/such/x",
+            2,
+            "no/such/x: not written: No such file or directory (os error 2)\n",
+        ),
+        (
+            "plan small.txt --former last",
+            1,
+            "there is no layout: 4 copies need 4 boxes with disk space, and 3 have any (refused 9)\n",
+        ),
+    ] {
+        let done = folder.call(line);
+        assert_eq!((done.status, done.err), (status, lost.clone() + failure));
+        let object = read(&folder.call(&format!("{line} --json")).out);
+        assert_eq!(object.get("warnings").list().len(), 2, "{line}");
+    }
+    assert_eq!(folder.names(), ["last", "new.txt", "small.txt"]);
+}
+
+/// Boxes 4 and 5 are missing. Of the partitions that they held, 0 has boxes 1 and 2 left, in two zones;
+/// 1 and 2 have boxes 1 and 3, in one; 3 has box 1 left; 4 has none; 5 has lost nothing.
+#[test]
+fn missing_boxes_are_told_by_what_is_left() {
+    let folder = Folder::new("lost-missing");
+    let text = "copies 3\nzones 2\nbits 3\nbox 1 a 900\nbox 2 b 900\nbox 3 a 900\n";
+    folder.write("new.txt", text);
+    let whole: &[u32] = &[1, 2, 3];
+    let lost: [&[u32]; 5] = [&[1, 2, 4], &[1, 3, 4], &[1, 3, 5], &[1, 4, 5], &[4, 5, 6]];
+    let rows = [&lost[..], &[whole; 3]].concat();
+    let missing = |file: &str, rows: &[&[u32]]| {
+        folder.write("last", layout_record(3, 9, rows));
+        let out = folder.call(&format!("plan {file} --former last")).out;
+        let mut lines = out.lines().filter(|line| line.contains("missing"));
+        let line = lines.next().map(String::from);
+        assert_eq!(lines.next(), None);
+        line
+    };
+    let told =
+        "Boxes 4, 5 and 6 are missing: 3 partitions have 2 of 3 copies, 2 of them in one zone \
+                only; 1 partition has 1 of 3 copies; 1 partition has no copy.";
+    assert_eq!(missing("new.txt", &rows).as_deref(), Some(told));
+    let rows = [&lost[1..3], &[whole; 6]].concat();
+    let told =
+        "Boxes 4 and 5 are missing: 2 partitions have 2 of 3 copies, all of them in one zone \
+                only.";
+    assert_eq!(missing("new.txt", &rows).as_deref(), Some(told));
+    let rows = [&lost[1..2], &[whole; 7]].concat();
+    let told = "Box 4 is missing: 1 partition has 2 of 3 copies, in one zone only.";
+    assert_eq!(missing("new.txt", &rows).as_deref(), Some(told));
+    assert_eq!(missing("new.txt", &[whole; 8]), None);
+    // Who wants no second zone is told nothing of zones.
+    folder.write("one.txt", text.replace("zones 2", "zones 1"));
+    let told = "Box 4 is missing: 1 partition has 2 of 3 copies.";
+    assert_eq!(missing("one.txt", &rows).as_deref(), Some(told));
+    // A box that is taken away by a staged change is called as the text calls it.
+    folder.write("old.txt", text.to_owned() + "box 4 b 900 cellar two\n");
+    assert_eq!(folder.call("stage old.txt remove 4").status, 0);
+    let told = "Box 4 (cellar two) is missing: 1 partition has 2 of 3 copies, in one zone only.";
+    assert_eq!(missing("old.txt --staged", &rows).as_deref(), Some(told));
 }
 
 #[test]

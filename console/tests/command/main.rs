@@ -14,6 +14,7 @@ mod read_json;
 mod record_lines;
 mod replaced;
 mod report;
+mod schema;
 mod sent;
 mod shown;
 mod staged;
@@ -127,6 +128,21 @@ fn the_plan_after_a_box_was_replaced_has_the_first_rows() {
         (vec![3, 4, 6], 256),
     ];
     assert_eq!(row_groups(&folder.read("next")), known);
+}
+
+/// The former layout is called as it will be kept; what is staged counts as it did for the plan.
+#[test]
+fn the_call_that_shows_why_has_the_names_of_the_files() {
+    let folder = planned_home("certified");
+    let planned = |line: &str| folder.call(line).out;
+    let told = "transfers.\n`dezghuri certify next.txt --former last.old last` shows why.\nWritten to last.\n";
+    let out = planned("plan next.txt --former last --out last");
+    assert!(out.contains(told), "{out}");
+    folder.call("stage home.txt resize 5 4T");
+    let told = "\n`dezghuri certify home.txt --staged --former last.old x` shows why.\n";
+    let out = planned("plan home.txt --staged --former last.old --out x");
+    assert!(out.contains(told), "{out}");
+    assert!(!planned("plan next.txt --former last").contains("certify"));
 }
 
 /// The README's sample is that plan, under other names.
@@ -472,25 +488,38 @@ fn faulty_calls_end_with_status_2() {
     assert_eq!(folder.call("").status, 2);
 }
 
+/// A file may have a name that looks like an option.
+#[test]
+fn words_after_two_dashes_are_names() {
+    let folder = Folder::new("dashes");
+    folder.write("--json", THREE);
+    let done = folder.call("plan --out=-x -- --json");
+    assert_eq!((done.status, done.err.as_str()), (0, ""));
+    assert!(done.out.starts_with("--json: 3 copies"), "{}", done.out);
+    let done = folder.call("check -- --json -x");
+    let valid = "-x is valid for --json, each partition up to 23 MB.\n";
+    assert_eq!((done.status, done.out.as_str()), (0, valid));
+    let done = folder.call("check -- -x --json");
+    assert_eq!((done.status, done.out.as_str()), (2, ""));
+    assert!(folder.call("check --json -- -x -x").out.starts_with('{'));
+}
+
 #[test]
 fn help_and_version_are_printed() {
     let folder = Folder::new("help");
-    for line in [
-        "help",
-        "--help",
-        "-h",
-        "plan --help",
-        "plan home.txt -h",
-        "check -h",
-        "show home.txt last --help",
-        "record -h",
-        "diff --help",
-        "moves -h",
-        "what-if -h",
+    let (all, moves) = (include_str!("help.txt"), include_str!("help-moves.txt"));
+    for (line, told) in [
+        ("help", all),
+        ("--help", all),
+        ("-h", all),
+        ("help help", all),
+        ("help moves", moves),
+        ("moves --help", moves),
+        ("moves home.txt -h --speed", moves),
     ] {
         let help = folder.call(line);
         assert_eq!((help.status, help.err.as_str()), (0, ""), "{line}");
-        assert_eq!(help.out, include_str!("help.txt"), "{line}");
+        assert_eq!(help.out, told, "{line}");
     }
     for line in ["--version", "-V", "version"] {
         let version = folder.call(line);

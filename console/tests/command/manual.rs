@@ -22,10 +22,44 @@ fn of_help(folder: &str) -> (BTreeSet<String>, BTreeSet<String>) {
     let calls = help.split("dezghuri ").skip(1);
     let commands = calls.filter_map(|call| call.split_whitespace().next());
     let commands = commands.map(|word| word.trim_end_matches(',').to_string());
-    let options = words(&help)
-        .into_iter()
-        .filter(|word| word.starts_with("--"));
+    let is_option = |word: &String| word.starts_with("--") && word != "--";
+    let options = words(&help).into_iter().filter(is_option);
     (commands.collect(), options.collect())
+}
+
+/// What is told of one command is what all is told of it, with its options and an example.
+#[test]
+fn each_command_has_a_help_of_its_own() {
+    let folder = Folder::new("help-of-one");
+    let all = folder.call("help").out;
+    let (commands, options) = of_help("help-of-all");
+    let mut named = BTreeSet::new();
+    for command in &commands {
+        if ["help", "--version"].contains(&command.as_str()) {
+            continue;
+        }
+        let one = folder.call(&format!("help {command}")).out;
+        assert_eq!(folder.call(&format!("{command} --help")).out, one);
+        let (calls, rest) = one.split_once("\nOptions:\n").expect(command);
+        assert!(
+            calls.starts_with(&format!("  dezghuri {command} ")),
+            "{one}"
+        );
+        assert!(all.contains(calls), "{calls}");
+        let (listed, example) = rest.split_once("\nExample:\n").expect(command);
+        assert!(
+            example.starts_with(&format!("  dezghuri {command} ")),
+            "{one}"
+        );
+        named.extend(
+            words(listed)
+                .into_iter()
+                .filter(|word| word.starts_with("--")),
+        );
+    }
+    assert!(commands.len() > 10);
+    named.insert("--version".into());
+    assert_eq!(named, options);
 }
 
 #[test]

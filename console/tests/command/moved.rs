@@ -48,7 +48,8 @@ fn what_is_left_is_made_afresh() {
     let left = printed(&folder, "--done 5");
     assert_eq!(left, include_str!("moves-done.txt"));
     let by_box = printed(&folder, "--done 5 --by-box");
-    let told = "     6  receive partition 3 from box 3\n\nNothing to do at boxes 1 and 3.\n";
+    let told =
+        "     6  receive partition 3 from box 3\n\nNothing to do at boxes 1 (tower) and 3.\n";
     assert!(by_box.contains(told), "{by_box}");
     assert!(!by_box.contains("Lost"), "{by_box}");
 }
@@ -133,7 +134,7 @@ fn a_layout_that_does_not_fit_is_none_to_go_to() {
     );
     assert_eq!(
         told([&[1, 4], &[3, 4], &[1, 4], &[3, 4]], 24),
-        "box 4 is to hold 4 copies of 24 MB, 96 MB together, and may hold 94 MB of its 100 MB, since a sixteenth \
+        "box 4 (new box) is to hold 4 copies of 24 MB, 96 MB together, and may hold 94 MB of its 100 MB, since a sixteenth \
          stays free: plan again, with this layout as --former (refused 12)\n"
     );
     let object = read(&folder.call("moves home.txt old new --json").out);

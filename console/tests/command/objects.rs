@@ -3,9 +3,9 @@
 use crate::compared::two_layouts;
 use crate::folder::{layout_record, Done, Folder};
 use crate::read_json::{read, Value};
+use crate::schema;
 use crate::tried::{two_boxes, CHANGES};
 use crate::{planned_home, THREE};
-use std::collections::BTreeSet;
 use std::fs::File;
 use std::process::Command;
 
@@ -49,7 +49,11 @@ fn a_plan_after_a_loss_is_an_object() {
     assert_eq!((done.status, done.err.as_str()), (0, ""));
     let object = read(&done.out);
     assert_eq!(object.get("rows").list().len(), 256);
-    assert_eq!(object.get("gone").line(), r#"[{"copies":154,"id":5}]"#);
+    assert_eq!(object.get("gone").line(), "154");
+    assert_eq!(
+        object.get("gone_boxes").line(),
+        r#"[{"copies":154,"id":5}]"#
+    );
     assert_eq!(object.get("sent").line(), "198");
     assert_eq!(object.get("sent_mb").line(), "3867138");
     assert_eq!(object.get("out"), &Value::Null);
@@ -124,47 +128,13 @@ fn tried_changes_are_an_object() {
     assert_eq!(last.get("size_mb").line(), "2");
 }
 
-/// The names of all members, those of inner objects included.
-fn names(value: &Value, found: &mut BTreeSet<String>) {
-    match value {
-        Value::List(items) => items.iter().for_each(|item| names(item, found)),
-        Value::Object(members) => {
-            for (name, value) in members {
-                found.insert(name.clone());
-                names(value, found);
-            }
-        }
-        _ => (),
-    }
-}
-
 #[test]
 fn every_name_is_in_the_document() {
     let document = include_str!("../../../docs/FORMATS.md");
     let (_, document) = document.split_once("## The objects of `--json`").unwrap();
-    let mut found = BTreeSet::new();
-    for stored in [
-        include_str!("plan.json"),
-        include_str!("check.json"),
-        include_str!("show.json"),
-        include_str!("show-partition.json"),
-        include_str!("show-box.json"),
-        include_str!("show-all.json"),
-        include_str!("diff.json"),
-        include_str!("moves.json"),
-        include_str!("what-if.json"),
-        include_str!("staged/stage.json"),
-        include_str!("staged/undo.json"),
-        include_str!("staged/apply.json"),
-    ] {
-        names(&read(stored), &mut found);
-    }
-    names(
-        &read(&Folder::new("object-names").call("plan --json").out),
-        &mut found,
-    );
-    assert!(found.len() > 50, "{found:?}");
-    for name in found {
+    let names = schema::names();
+    assert!(names.len() > 50, "{names:?}");
+    for name in names {
         assert!(document.contains(&format!("`{name}`")), "{name}");
     }
 }

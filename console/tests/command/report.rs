@@ -423,8 +423,9 @@ fn bars_and_map_agree_with_the_tables() {
     let folded = page.with_id("steps").named("summary");
     assert_eq!(folded[0].text(), "192 partitions, 242 steps");
     let told = "3 copies of everything, in at least 2 zones. Each partition may grow to 19,531 MB: \
-                4,999 GB in all. 198 copies (up to 3,867 GB) have to be sent, 44 dropped. No layout \
-                of this size needs fewer.";
+                4,999 GB in all. 198 copies (up to 3,867 GB) have to be sent, 44 dropped. Box 5 is \
+                missing: 154 partitions have 2 of 3 copies, 51 of them in one zone only. Optimal: no \
+                layout of this size needs fewer transfers.";
     assert_eq!(lead(&page), told);
 }
 
@@ -673,19 +674,23 @@ fn only_what_holds_from_the_former_layout_is_told() {
         )
     };
     let best: [&[u32]; 4] = [&[1, 4], &[1, 3], &[1, 3], &[1, 4]];
-    let sent = "4 copies (up to 104 MB) have to be sent, none dropped.";
-    let fewest = format!("{} {sent} No layout of this size needs fewer.", start(26));
+    // Partitions 0 and 2 had a copy on box 2, partition 3 on boxes 2 and 9.
+    let missing =
+        "Boxes 2 and 9 are missing: 2 partitions have 1 of 2 copies; 1 partition has no copy.";
+    let sent = format!("4 copies (up to 104 MB) have to be sent, none dropped. {missing}");
+    let optimal = "Optimal: no layout of this size needs fewer transfers.";
+    let fewest = format!("{} {sent} {optimal}", start(26));
     assert_eq!(leads(&folder, 26, best), [fewest, start(26)]);
 
     let swapped: [&[u32]; 4] = [&[1, 3], &[1, 3], &[1, 4], &[1, 4]];
     let sent = "5 copies (up to 130 MB) have to be sent, 1 dropped.";
     let [with, _] = leads(&folder, 26, swapped);
     let more = "Another layout of this size needs 1 fewer.";
-    assert_eq!(with, format!("{} {sent} {more}", start(26)));
+    assert_eq!(with, format!("{} {sent} {missing} {more}", start(26)));
 
     let sent = "4 copies (up to 100 MB) have to be sent, none dropped.";
     let larger = "The disks allow 26 MB a partition: a new plan has more.";
-    let with = format!("{} {sent} {larger}", start(25));
+    let with = format!("{} {sent} {missing} {larger}", start(25));
     let without = format!("{} {larger}", start(25));
     assert_eq!(leads(&folder, 25, best), [with, without]);
 }
@@ -760,6 +765,15 @@ fn a_refusal_has_its_page_too() {
     }
 }
 
+/// What the page begins with, as it is told where no page is written.
+fn what_is_lost() -> String {
+    let lines: Vec<&str> = include_str!("report.txt").lines().take(3).collect();
+    format!(
+        "warning: {}\n{}\nwarning: {}\n",
+        lines[0], lines[1], lines[2]
+    )
+}
+
 #[test]
 fn only_a_page_is_replaced_by_a_page_and_it_is_kept() {
     let folder = small("report-replaced");
@@ -773,6 +787,7 @@ fn only_a_page_is_replaced_by_a_page_and_it_is_kept() {
             "{file}: not written: there is a file there that is not a report page, and nothing else \
              is replaced\n"
         );
+        let told = format!("{}{told}", what_is_lost());
         assert_eq!((done.status, done.err, done.out.as_str()), (2, told, ""));
         assert!(folder.read(file) == before);
     }

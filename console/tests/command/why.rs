@@ -36,9 +36,9 @@ fn both_are_named_where_both_fall_short() {
     let why = "Why not more: each partition lies in at least 2 zones, and besides shop the other \
                zone, home, has no room for 1 more copy of each above 23 MB.\n\
                More disk in shop would not help.\n\
-               Also, a box holds each partition once at most, and besides boxes 1 and 2 the other \
-               box has no room for 1 more copy of each above 23 MB.\n\
-               Larger disks in boxes 1 and 2 would not help.\n";
+               Also, a box holds each partition once at most, and besides boxes 1 and 2 (tower) \
+               the other box has no room for 1 more copy of each above 23 MB.\n\
+               Larger disks in boxes 1 and 2 (tower) would not help.\n";
     assert!(told.contains(why), "{told}");
 }
 
@@ -49,7 +49,7 @@ fn disks_that_fall_short_together_are_told_by_number() {
         "why-disks",
         "copies 1\nzones 1\nbits 0\nbox 1 a 5\nbox 2 a 9\n",
     );
-    let why = "Hope: with nothing lost to rounding and zones it would be 14 MB a partition.\n\
+    let why = "Upper bound: with nothing lost to rounding and zones it would be 14 MB a partition.\n\
                Why not more: at 10 MB a partition the disks together have room for 0 copies, and 1 \
                is wanted.\n\
                Unused: box 1 (a): what may be filled of its disk is smaller than one partition of 9 \

@@ -3,6 +3,8 @@
 mod staging;
 mod writes;
 
+use crate::grammar::{self, Grammar, Opt, CEILING, END, JSON, STAGED};
+use crate::labels;
 use crate::units;
 use dezghuri::Node;
 use std::ffi::OsString;
@@ -19,7 +21,8 @@ pub struct Call {
 /// What is to be done.
 #[derive(Debug, PartialEq, Eq)]
 pub enum Command {
-    Help,
+    /// Of all commands, or of this one.
+    Help(Option<&'static str>),
     Version,
     Plan(Plan),
     PlanRecord {
@@ -135,128 +138,49 @@ pub enum Change {
     Ceiling(u32, u16),
 }
 
-/// What the words after a command may be.
-#[derive(Clone, Copy)]
-struct Grammar {
-    /// Options with a word after them.
-    options: &'static [&'static str],
-    /// Those that may come several times.
-    repeated: &'static [&'static str],
-    flags: &'static [&'static str],
-}
-
-/// The commands that take words, each with what they may be.
-const GRAMMARS: [(&str, Grammar); 11] = [
-    (
-        "plan",
-        Grammar {
-            options: &["--former", "--out", "--allowance", "--record"],
-            repeated: &[],
-            flags: &["--replace", STAGED, JSON],
-        },
-    ),
-    ("check", OF_A_LAYOUT),
-    (
-        "show",
-        Grammar {
-            options: &["--box"],
-            repeated: &[],
-            flags: &["--all", STAGED, JSON],
-        },
-    ),
-    ("diff", OF_A_LAYOUT),
-    (
-        "moves",
-        Grammar {
-            options: &["--done"],
-            repeated: &[],
-            flags: &["--by-box", STAGED, JSON],
-        },
-    ),
-    (
-        "what-if",
-        Grammar {
-            options: &["--former", "--add", "--remove", "--resize", CEILING],
-            repeated: &["--add", "--remove", "--resize", CEILING],
-            flags: &[JSON],
-        },
-    ),
-    (
-        "report",
-        Grammar {
-            options: &["--former", "--out"],
-            repeated: &[],
-            flags: &[STAGED],
-        },
-    ),
-    (
-        "record",
-        Grammar {
-            options: &["--former", "--out"],
-            repeated: &[],
-            flags: &[],
-        },
-    ),
-    (
-        "stage",
-        Grammar {
-            options: &[CEILING],
-            repeated: &[],
-            flags: &[JSON],
-        },
-    ),
-    ("undo", NO_OPTIONS),
-    ("apply", NO_OPTIONS),
-];
-
-const OF_A_LAYOUT: Grammar = Grammar {
-    options: &[],
-    repeated: &[],
-    flags: &[STAGED, JSON],
-};
-
-const NO_OPTIONS: Grammar = Grammar {
-    options: &[],
-    repeated: &[],
-    flags: &[JSON],
-};
-
-/// Asks for an object in the place of a text.
-pub const JSON: &str = "--json";
-
-/// Asks for the boxes with the staged changes.
-const STAGED: &str = "--staged";
-
-/// Gives a box its ceiling: a new one that is staged, or one of the file for a try.
-const CEILING: &str = "--ceiling";
-
 /// The name of a command that takes words, if the word is one.
 pub fn command_name(word: &OsString) -> Option<&'static str> {
-    let mut names = GRAMMARS.iter().map(|(name, _)| *name);
-    names.find(|name| word == *name)
+    Some(known(word)?.name)
+}
+
+/// The command that takes words, if the word names one.
+fn known(word: &OsString) -> Option<&'static Grammar> {
+    word.to_str().and_then(grammar::command)
+}
+
+/// The words that may be options: those before the first `--`.
+fn before_the_end(words: &[OsString]) -> &[OsString] {
+    let end = words.iter().position(|word| word == END);
+    &words[..end.unwrap_or(words.len())]
+}
+
+/// Whether an object is asked for, whatever else is wrong with the words.
+pub fn asks_for_json(words: &[OsString]) -> bool {
+    before_the_end(words).iter().any(|word| word == JSON)
 }
 
 /// What is told where no command is named.
-const NOTHING_TO_DO: &str =
-    "say what to do: plan, check, show, diff, moves, what-if, stage, undo, apply, report, record or help";
+fn nothing_to_do() -> String {
+    let names = grammar::COMMANDS.iter().map(|command| command.name);
+    let names: Vec<&str> = names.chain(["help"]).collect();
+    format!("say what to do: {}", labels::joined(&names, "or"))
+}
 
 /// The call that the words make, or what is wrong with them.
 pub fn parse(words: impl IntoIterator<Item = OsString>) -> Result<Call, String> {
     let mut words = words.into_iter();
     let Some(first) = words.next() else {
-        return Err(NOTHING_TO_DO.into());
+        return Err(nothing_to_do());
     };
     let words: Vec<OsString> = words.collect();
-    if let Some(command) = about_itself(&first, &words) {
+    if let Some(command) = about_itself(&first, &words)? {
         let json = false;
         return Ok(Call { command, json });
     }
-    let Some((name, grammar)) = GRAMMARS.iter().find(|(name, _)| first == *name) else {
-        return Err(format!("there is no command {first:?}"));
-    };
+    let grammar = known(&first).ok_or_else(|| no_command(&first))?;
     let words = Words::sort(words, grammar)?;
     let json = words.flag(JSON);
-    let command = match *name {
+    let command = match grammar.name {
         "plan" => plan(words),
         "check" => check(words),
         "show" => show(words),
@@ -273,15 +197,28 @@ pub fn parse(words: impl IntoIterator<Item = OsString>) -> Result<Call, String> 
     Ok(Call { command, json })
 }
 
+fn no_command(word: &OsString) -> String {
+    format!("there is no command {word:?}")
+}
+
 /// Help may be asked for after every command too, whatever its other words are.
-fn about_itself(first: &OsString, words: &[OsString]) -> Option<Command> {
+fn about_itself(first: &OsString, words: &[OsString]) -> Result<Option<Command>, String> {
     let asks_for_help = |word: &OsString| word == "--help" || word == "-h";
-    match first.to_str() {
-        Some("help" | "--help" | "-h") => Some(Command::Help),
+    Ok(match first.to_str() {
+        Some("help" | "--help" | "-h") => Some(Command::Help(help_on(words)?)),
         Some("--version" | "-V" | "version") => Some(Command::Version),
-        _ if command_name(first).is_none() => None,
-        _ => words.iter().any(asks_for_help).then_some(Command::Help),
-    }
+        _ => known(first)
+            .filter(|_| before_the_end(words).iter().any(asks_for_help))
+            .map(|command| Command::Help(Some(command.name))),
+    })
+}
+
+/// The command that help is asked for; without one it is all of them.
+fn help_on(words: &[OsString]) -> Result<Option<&'static str>, String> {
+    let named = words.iter().find(|word| !is_option(word));
+    let named = named.filter(|word| *word != "help");
+    let found = named.map(|word| command_name(word).ok_or_else(|| no_command(word)));
+    found.transpose()
 }
 
 fn plan(mut words: Words) -> Result<Command, String> {
@@ -486,6 +423,10 @@ impl Words {
         };
         let mut words = words.into_iter().peekable();
         while let Some(word) = words.next() {
+            if word == END {
+                sorted.places.extend(words);
+                break;
+            }
             let Some(text) = word.to_str().filter(|text| text.starts_with('-')) else {
                 sorted.places.push(word);
                 continue;
@@ -494,13 +435,14 @@ impl Words {
                 Some((name, value)) => (name, Some(OsString::from(value))),
                 None => (text, None),
             };
-            if let Some(flag) = grammar.flags.iter().find(|flag| **flag == name) {
-                sorted.add_flag(flag, value)?;
-            } else if let Some(option) = grammar.options.iter().find(|option| **option == name) {
-                let value = value.or_else(|| words.next_if(|next| !is_option(next)));
-                sorted.add_option(option, value, grammar.repeated.contains(option))?;
-            } else {
-                return Err(format!("{name} is not an option here"));
+            let not_here = || format!("{name} is not an option here");
+            let option = grammar.option(name).ok_or_else(not_here)?;
+            match option.word {
+                None => sorted.add_flag(option.name, value)?,
+                Some(_) => {
+                    let value = value.or_else(|| words.next_if(|next| !is_option(next)));
+                    sorted.add_option(option, value)?;
+                }
             }
         }
         Ok(sorted)
@@ -514,13 +456,9 @@ impl Words {
         Ok(())
     }
 
-    fn add_option(
-        &mut self,
-        name: &'static str,
-        value: Option<OsString>,
-        may_repeat: bool,
-    ) -> Result<(), String> {
-        if !may_repeat && self.options.iter().any(|(earlier, _)| *earlier == name) {
+    fn add_option(&mut self, option: &Opt, value: Option<OsString>) -> Result<(), String> {
+        let name = option.name;
+        if !option.may_repeat && self.options.iter().any(|(earlier, _)| *earlier == name) {
             return Err(format!("{name} is given twice"));
         }
         let Some(value) = value else {
@@ -587,6 +525,32 @@ mod tests {
     }
 
     #[test]
+    fn words_after_the_end_of_the_options_are_plain() {
+        let check = |file: &str, layout: &str| {
+            let source = source(file.into(), false);
+            let layout = layout.into();
+            Ok(Command::Check { source, layout })
+        };
+        assert_eq!(called("check -- -x --json"), check("-x", "--json"));
+        assert_eq!(called("check a -- --help"), check("a", "--help"));
+        assert_eq!(called("check -- a --"), check("a", "--"));
+        assert_eq!(called("check a b --"), check("a", "b"));
+        assert_eq!(called("check -x b"), Err("-x is not an option here".into()));
+        let told = "--out needs a word after it";
+        assert_eq!(called("plan a --out -- b"), Err(told.into()));
+        let staging = Staging::Add("7 attic 4T --odd name".into(), 256);
+        let file = "a".into();
+        let staged = Ok(Command::Stage { file, staging });
+        assert_eq!(called("stage a add 7 attic 4T -- --odd name"), staged);
+        let asked = |line: &str| {
+            let words = line.split_whitespace().map(OsString::from);
+            asks_for_json(&words.collect::<Vec<_>>())
+        };
+        assert!(asked("plan --json -- a"));
+        assert!(!asked("plan -- --json"));
+    }
+
+    #[test]
     fn a_record_is_planned_by_itself() {
         let planned = |record: &str| {
             let record = record.into();
@@ -611,22 +575,23 @@ mod tests {
 
     #[test]
     fn help_may_be_asked_for_anywhere() {
-        for line in [
-            "help",
-            "-h",
-            "--help",
-            "plan -h",
-            "plan home.txt --help",
-            "check --help",
-            "show --speed 7 -h",
-            "record home.txt --out --help",
-            "diff -h",
-            "moves home.txt --done -h",
-            "what-if --help",
-            "report home.txt -h",
-        ] {
-            assert_eq!(called(line), Ok(Command::Help), "{line}");
+        for line in ["help", "-h", "--help", "help help", "help --all"] {
+            assert_eq!(called(line), Ok(Command::Help(None)), "{line}");
         }
+        for (line, name) in [
+            ("help what-if", "what-if"),
+            ("--help plan", "plan"),
+            ("plan -h", "plan"),
+            ("plan home.txt --help", "plan"),
+            ("show --speed 7 -h", "show"),
+            ("record home.txt --out --help", "record"),
+            ("moves home.txt --done -h", "moves"),
+        ] {
+            assert_eq!(called(line), Ok(Command::Help(Some(name))), "{line}");
+        }
+        let none = Err("there is no command \"plam\"".into());
+        assert_eq!(called("help plam"), none);
+        assert_eq!(called("plam --help"), none);
         for line in ["--version", "-V", "version"] {
             assert_eq!(called(line), Ok(Command::Version), "{line}");
         }

@@ -180,7 +180,7 @@ impl Step {
                 .with("capacity_mb", node.capacity),
             Step::Remove(_) => members,
             Step::Resize(_, capacity) => members.with("capacity_mb", *capacity),
-            Step::Ceiling(_, ceiling) => members.with("ceiling", *ceiling),
+            Step::Ceiling(_, ceiling) => members.with("ceiling", labels::own_ceiling(*ceiling)),
         }
     }
 }

@@ -15,8 +15,10 @@ use crate::args::{Command, Source};
 use crate::deeds::Deed;
 use crate::failure::Failure;
 use crate::files;
-use crate::help::{HELP, VERSION};
+use crate::grammar;
+use crate::help;
 use crate::json::Json;
+use crate::labels;
 use crate::losses;
 use crate::output::{Kind, Output};
 use crate::report;
@@ -24,6 +26,7 @@ use crate::staged::Staged;
 use crate::units::count;
 use dezghuri::{Cluster, Description, Plan, Refused};
 use std::collections::BTreeSet;
+use std::mem;
 use std::path::Path;
 
 /// What a call comes to.
@@ -69,8 +72,11 @@ impl Answer {
 /// Does what the command says; what looks like a slip goes to the warnings.
 pub fn run(command: &Command, warnings: &mut Vec<String>) -> Result<Answer, Failure> {
     match command {
-        Command::Help => Ok(Answer::report(HELP)),
-        Command::Version => Ok(Answer::report(VERSION)),
+        Command::Help(name) => Ok(Answer::report(match name.and_then(grammar::command) {
+            Some(command) => help::of_one(command),
+            None => help::of_all(),
+        })),
+        Command::Version => Ok(Answer::report(help::VERSION)),
         Command::Plan(call) => plan::run(call, warnings),
         Command::PlanRecord { record } => record::plan(record),
         Command::Check { source, layout } => check::run(source, layout, warnings),
@@ -114,6 +120,8 @@ pub struct Known {
     pub name: String,
     /// The number of staged changes, where they were asked for.
     pub staged: Option<usize>,
+    /// The boxes before the staged changes: what a box was called that these take away.
+    before: Option<Description>,
 }
 
 /// The cluster of the file, with what is staged where that is asked for, and with the layout of the
@@ -135,6 +143,7 @@ pub fn describe(
         },
         name: file.display().to_string(),
         staged: None,
+        before: None,
     };
     let slips = known.described.warnings.iter();
     warnings.extend(slips.map(|slip| slip.told_of(file)));
@@ -155,9 +164,32 @@ impl Known {
             warnings.push(format!("nothing is staged for {}", self.name));
             return Ok(());
         }
-        self.described = staged.made(&self.described)?.described;
+        let made = staged.made(&self.described)?.described;
+        self.before = Some(mem::replace(&mut self.described, made));
         self.name += &format!(" with {}", staged.count());
         Ok(())
+    }
+
+    /// What it means for the data that boxes of the former layout are missing; nothing where none is.
+    pub fn missing(&self) -> String {
+        let named = |id: u32| {
+            let label = self.before.as_ref().and_then(|before| before.label(id));
+            labels::numbered(id, label.map_or("", |label| &label.name))
+        };
+        losses::missing(&self.described.cluster, named)
+    }
+
+    /// The answer. A failure comes in the place of the report, but not of what is lost or at risk: that
+    /// is told as warnings then.
+    pub fn with_losses(
+        &self,
+        answer: Result<Answer, Failure>,
+        warnings: &mut Vec<String>,
+    ) -> Result<Answer, Failure> {
+        if answer.is_err() {
+            warnings.extend(losses::in_words(&self.described.cluster));
+        }
+        answer
     }
 }
 

@@ -1,5 +1,6 @@
 //! Refusals in the words of the owner.
 
+use crate::labels;
 use crate::units::{count, thousands};
 use dezghuri::{Cluster, Description, Node, Place, Plan, Refusal, Refused};
 use std::collections::BTreeSet;
@@ -159,7 +160,8 @@ fn too_full(described: &Description, plan: &Plan, id: u32) -> String {
         true => ": plan again, with this layout as --former",
         false => "",
     };
-    let to_hold = format!("box {id} is to hold {}", count(copies, "copy", "copies"));
+    let named = labels::named(described, id);
+    let to_hold = format!("{named} is to hold {}", count(copies, "copy", "copies"));
     if together <= node.usable().into() {
         return format!("{to_hold}, and its ceiling is {}{advice}", node.ceiling);
     }

@@ -29,6 +29,17 @@ impl Json {
         }
     }
 
+    /// An object with these members before its own; of anything else, itself.
+    pub fn headed(self, mut head: Vec<(&'static str, Json)>) -> Json {
+        match self {
+            Json::Object(members) => {
+                head.extend(members);
+                Json::Object(head)
+            }
+            other => other,
+        }
+    }
+
     /// Whether it stands on one line: nothing in it holds anything.
     fn is_flat(&self) -> bool {
         let holds_nothing = |item: &Json| !matches!(item, Json::List(_) | Json::Object(_));
@@ -218,6 +229,9 @@ mod tests {
     fn only_an_object_takes_members() {
         let object = Json::Object(Vec::new()).with("n", 1u8);
         assert_eq!(object.to_string(), "{\n  \"n\": 1\n}");
+        let object = object.headed(vec![("m", 2u8.into())]);
+        assert_eq!(object.to_string(), "{\n  \"m\": 2,\n  \"n\": 1\n}");
         assert_eq!(Json::Null.with("n", 1u8), Json::Null);
+        assert_eq!(Json::Null.headed(vec![("m", 2u8.into())]), Json::Null);
     }
 }

@@ -27,9 +27,14 @@ pub fn in_words(described: &Description, id: u32) -> String {
 
 /// A box among many: its id, with its name in brackets where it has one.
 pub fn named(described: &Description, id: u32) -> String {
-    match of(described, id).name {
-        name if name.is_empty() => format!("box {id}"),
-        name => format!("box {id} ({name})"),
+    format!("box {}", numbered(id, &of(described, id).name))
+}
+
+/// The same without the word for it.
+pub fn numbered(id: u32, name: &str) -> String {
+    match name {
+        "" => id.to_string(),
+        _ => format!("{id} ({name})"),
     }
 }
 
@@ -65,10 +70,11 @@ pub fn has_ceilings(cluster: &Cluster) -> bool {
     cluster.nodes.iter().any(|node| ceiling(node).is_some())
 }
 
-/// A box in a sentence, or several: the word for it, and the ids.
-pub fn boxes(ids: &[u32]) -> String {
+/// A box in a sentence, or several: the word for it, and the ids with their names.
+pub fn boxes(described: &Description, ids: &[u32]) -> String {
     let word = if ids.len() == 1 { "box" } else { "boxes" };
-    format!("{word} {}", listed(ids.iter()))
+    let numbered = ids.iter().map(|id| numbered(*id, &of(described, *id).name));
+    format!("{word} {}", listed(numbered))
 }
 
 /// So many are named in a sentence; of more, only the number is told.
@@ -78,10 +84,18 @@ pub const NAMED: usize = 8;
 pub fn listed<T: ToString>(items: impl ExactSizeIterator<Item = T>) -> String {
     let more = items.len().saturating_sub(NAMED);
     let named: Vec<String> = items.take(NAMED).map(|item| item.to_string()).collect();
-    match (more, &named[..]) {
-        (0, [rest @ .., last]) if !rest.is_empty() => format!("{} and {last}", rest.join(", ")),
-        (0, _) => named.concat(),
+    match more {
+        0 => joined(&named, "and"),
         _ => format!("{} and {more} more", named.join(", ")),
+    }
+}
+
+/// All in a list with commas, but with this word before the last.
+pub fn joined<T: AsRef<str>>(items: &[T], word: &str) -> String {
+    let items: Vec<&str> = items.iter().map(AsRef::as_ref).collect();
+    match &items[..] {
+        [rest @ .., last] if !rest.is_empty() => format!("{} {word} {last}", rest.join(", ")),
+        _ => items.concat(),
     }
 }
 
@@ -126,5 +140,7 @@ mod tests {
         assert_eq!(in_words(&described, 3), "3 (not there any more)");
         let named = [1, 2, 3].map(|id| named(&described, id));
         assert_eq!(named, ["box 1 (study)", "box 2", "box 3"]);
+        assert_eq!(boxes(&described, &[1]), "box 1 (study)");
+        assert_eq!(boxes(&described, &[1, 2, 3]), "boxes 1 (study), 2 and 3");
     }
 }

@@ -1,8 +1,10 @@
 //! Lost copies in the words of the owner.
 
-use crate::labels::NAMED;
-use crate::units::count;
+use crate::labels::{self, NAMED};
+use crate::units::{count, thousands};
 use dezghuri::{Cluster, Losses};
+use std::cmp::Reverse;
+use std::collections::{BTreeMap, BTreeSet};
 
 /// A line for the partitions that have no surviving copy, and one for those that have one only.
 pub fn in_words(cluster: &Cluster) -> Vec<String> {
@@ -30,6 +32,65 @@ pub fn in_words(cluster: &Cluster) -> Vec<String> {
         ));
     }
     lines
+}
+
+/// Partitions that have lost as many copies as each other.
+#[derive(Default)]
+struct Thinned {
+    partitions: u64,
+    /// Those whose copies that are left lie in one zone.
+    in_one_zone: u64,
+}
+
+/// That boxes of the former layout are missing, and how many copies are left of each partition that they
+/// held; nothing where none is missing.
+pub fn missing(cluster: &Cluster, named: impl Fn(u32) -> String) -> String {
+    let mut boxes: BTreeSet<u32> = BTreeSet::new();
+    // By copies that are left and copies that there were, the most first.
+    let mut thinned: BTreeMap<Reverse<(usize, usize)>, Thinned> = BTreeMap::new();
+    for (partition, ids) in cluster.former.rows() {
+        let left: Vec<u32> = cluster.survivors(partition).collect();
+        if left.len() < ids.len() {
+            boxes.extend(ids.iter().filter(|id| !left.contains(id)));
+            let alike = thinned.entry(Reverse((left.len(), ids.len()))).or_default();
+            alike.partitions += 1;
+            alike.in_one_zone += u64::from(are_in_one_zone(cluster, &left));
+        }
+    }
+    let named = labels::listed(boxes.iter().map(|id| named(*id)));
+    let told = thinned
+        .iter()
+        .map(|(Reverse((left, of)), alike)| alike.in_words(*left, *of));
+    let told: Vec<String> = told.collect();
+    match boxes.len() {
+        0 => String::new(),
+        1 => format!("Box {named} is missing: {}.\n", told.join("; ")),
+        _ => format!("Boxes {named} are missing: {}.\n", told.join("; ")),
+    }
+}
+
+/// Whether several copies lie in one zone, though the owner wants more.
+fn are_in_one_zone(cluster: &Cluster, ids: &[u32]) -> bool {
+    let nodes = cluster.nodes.iter().filter(|node| ids.contains(&node.id));
+    let zones: BTreeSet<u16> = nodes.map(|node| node.zone).collect();
+    ids.len() > 1 && zones.len() == 1 && cluster.redundancy > 1
+}
+
+impl Thinned {
+    fn in_words(&self, left: usize, of: usize) -> String {
+        let partitions = count(self.partitions, "partition has", "partitions have");
+        let copies = match left {
+            0 => "no copy".into(),
+            _ => format!("{left} of {of} copies"),
+        };
+        let zone = match self.in_one_zone {
+            0 => String::new(),
+            1 if self.partitions == 1 => ", in one zone only".into(),
+            all if all == self.partitions => ", all of them in one zone only".into(),
+            some => format!(", {} of them in one zone only", thousands(some)),
+        };
+        format!("{partitions} {copies}{zone}")
+    }
 }
 
 /// The verb for so many partitions.

@@ -10,6 +10,7 @@ mod deeds;
 mod explain;
 mod failure;
 mod files;
+mod grammar;
 mod help;
 mod json;
 mod labels;
@@ -33,13 +34,15 @@ use std::ffi::OsString;
 use std::io::{self, IsTerminal, Write};
 use std::process::ExitCode;
 
+/// The version of the objects of `--json`: counted up where a member goes, or comes to mean another thing.
+const OBJECTS: u32 = 1;
+
 fn main() -> ExitCode {
     let words: Vec<OsString> = std::env::args_os().skip(1).collect();
     let mut warnings = Vec::new();
     let status = called(&words, &mut warnings).unwrap_or_else(|failure| {
         failure.lines().iter().for_each(|line| tell(line));
-        let wants_json = words.iter().any(|word| word == args::JSON);
-        match wants_json && !failure.is_late() {
+        match args::asks_for_json(&words) && !failure.is_late() {
             true => print_error(&words, &failure, &warnings),
             false => failure.status(),
         }
@@ -66,7 +69,8 @@ fn called(words: &[OsString], warnings: &mut Vec<String>) -> Result<u8, Failure>
     match object {
         None => give(&answer),
         Some(object) => {
-            answer.report = text_of(object.with("warnings", Json::list(warnings.clone())));
+            let name = words.first().and_then(args::command_name);
+            answer.report = printed(object, name.unwrap_or_default(), warnings);
             give_quietly(&answer)
         }
     }
@@ -100,12 +104,8 @@ fn put(answer: &Answer) -> Result<String, Failure> {
 /// Prints an object in the place of an answer; the exit status.
 fn print_error(words: &[OsString], failure: &Failure, warnings: &[String]) -> u8 {
     let command = words.first().and_then(args::command_name);
-    let object = Json::Object(vec![
-        ("command", command.into()),
-        ("error", failure.json()),
-        ("warnings", Json::list(warnings.to_vec())),
-    ]);
-    match print(&text_of(object)) {
+    let object = Json::Object(vec![("command", command.into()), ("error", failure.json())]);
+    match print(&printed(object, "error", warnings)) {
         Ok(()) => failure.status(),
         Err(error) => {
             tell(&format!("not printed: {error}"));
@@ -114,7 +114,14 @@ fn print_error(words: &[OsString], failure: &Failure, warnings: &[String]) -> u8
     }
 }
 
-fn text_of(object: Json) -> Vec<u8> {
+/// The object as it is printed: it begins with what it is, and ends with the warnings.
+fn printed(object: Json, name: &str, warnings: &[String]) -> Vec<u8> {
+    let head = vec![
+        ("format", format!("dezghuri {name}").into()),
+        ("version", OBJECTS.into()),
+    ];
+    let object = object.headed(head);
+    let object = object.with("warnings", Json::list(warnings.to_vec()));
     format!("{object}\n").into_bytes()
 }
 

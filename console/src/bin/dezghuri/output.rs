@@ -117,6 +117,11 @@ impl Output {
         self.found.is_some()
     }
 
+    /// As the owner calls it.
+    pub fn path(&self) -> &Path {
+        &self.path
+    }
+
     /// Where the record that stands there is kept once it is replaced.
     pub fn old(&self) -> PathBuf {
         match &self.found {

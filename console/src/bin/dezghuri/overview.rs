@@ -12,8 +12,8 @@ pub struct Overview<'a> {
     plan: &'a Plan,
     boxes: Vec<BoxLine>,
     zones: Vec<ZoneLine>,
-    /// The size to hope for, where the layout is valid for the boxes.
-    pub hope: Option<u64>,
+    /// What no size can pass, where the layout is valid for the boxes.
+    pub upper_bound: Option<u64>,
 }
 
 struct BoxLine {
@@ -49,7 +49,7 @@ impl<'a> Overview<'a> {
             plan,
             boxes: box_lines(described, &figures.copies),
             zones: zone_lines(described, &figures.zone_copies),
-            hope: Some(figures.hope),
+            upper_bound: Some(figures.hope),
         })
     }
 
@@ -75,7 +75,7 @@ impl<'a> Overview<'a> {
             plan,
             boxes: box_lines(described, &copies),
             zones: zone_lines(described, &zone_copies),
-            hope: None,
+            upper_bound: None,
         };
         overview.add_gone(described, &counts);
         overview
@@ -166,15 +166,14 @@ impl<'a> Overview<'a> {
         let size = u64::from(self.plan.size);
         let (partition, unit) = (thousands(size), self.unit());
         let (all, name) = (unit.of(size << self.plan.bits), unit.name);
-        match self.hope {
-            Some(hope) => format!(
+        match self.upper_bound {
+            Some(upper_bound) => format!(
                 "Size: each partition may grow to {partition} MB, all data to {all} {name}; used is \
                  what it takes then.\n{}{}\
-                 Hope: with nothing lost to {} it would be {} MB a partition.\n",
+                 {}\n",
                 self.free(),
                 self.ceilings(),
-                losses_of_hope(self.has_ceilings()),
-                thousands(hope)
+                upper_bound_in_words(upper_bound, self.has_ceilings()),
             ),
             None => format!(
                 "Size: it was planned for partitions of {partition} MB, {all} {name} of data in all; \
@@ -195,12 +194,16 @@ impl<'a> Overview<'a> {
     /// What a ceiling is, and which boxes are at theirs; nothing where no box has one.
     fn ceilings(&self) -> String {
         let at_theirs = self.boxes.iter().filter(|line| line.is_at_ceiling());
-        let at_theirs: Vec<u32> = at_theirs.map(|line| line.id).collect();
+        let at_theirs = at_theirs.map(|line| labels::numbered(line.id, &line.name));
+        let at_theirs: Vec<String> = at_theirs.collect();
         let who = match at_theirs.len() {
             _ if !self.has_ceilings() => return String::new(),
             0 => "no box is at its ceiling".into(),
-            1 => format!("{} is at its ceiling", labels::boxes(&at_theirs)),
-            _ => format!("{} are at their ceilings", labels::boxes(&at_theirs)),
+            1 => format!("box {} is at its ceiling", at_theirs[0]),
+            _ => format!(
+                "boxes {} are at their ceilings",
+                labels::listed(at_theirs.iter())
+            ),
         };
         format!("Ceiling: the most copies that a box may hold; {who}.\n")
     }
@@ -219,9 +222,9 @@ impl<'a> Overview<'a> {
         let zones = self.zones.iter().map(|line| line.json(size));
         vec![
             ("size_mb", size.into()),
-            ("hope_mb", self.hope.into()),
+            ("upper_bound_mb", self.upper_bound.into()),
             ("data_mb", (size << self.plan.bits).into()),
-            ("finished", (self.plan.verdict == Verdict::Finished).into()),
+            ("optimal", (self.plan.verdict == Verdict::Finished).into()),
             ("boxes", Json::list(boxes)),
             ("zones", Json::list(zones)),
         ]
@@ -230,7 +233,7 @@ impl<'a> Overview<'a> {
     /// What the verdict means of a plan that was made just now.
     pub fn verdict(&self) -> String {
         match self.plan.verdict {
-            Verdict::Finished => "Finished: no layout of this size needs fewer transfers.\n".into(),
+            Verdict::Finished => "Optimal: no layout of this size needs fewer transfers.\n".into(),
             Verdict::Stopped => format!(
                 "Stopped after {}: the layout is valid, but another one of this size needs fewer\n\
                  transfers. A larger allowance comes nearer to it.\n",
@@ -243,7 +246,7 @@ impl<'a> Overview<'a> {
     fn past_verdict(&self) -> String {
         match self.plan.verdict {
             Verdict::Finished => {
-                "Planned: finished, no layout of this size needed fewer transfers.\n".into()
+                "Planned: optimal, no layout of this size needed fewer transfers.\n".into()
             }
             Verdict::Stopped => format!(
                 "Planned: stopped after {}, another layout of this size needed fewer transfers.\n",
@@ -308,7 +311,11 @@ impl BoxLine {
             ("present", is_present.into()),
         ];
         let [capacity, rest @ ..] = self.held.json(size);
-        members.extend([capacity, ("ceiling", self.ceiling.into())]);
+        members.push(capacity);
+        // Without one a box that is there has no ceiling; of one that is gone none is known.
+        if is_present {
+            members.push(("ceiling", self.own_ceiling().into()));
+        }
         members.extend(rest);
         if let Some((received, dropped)) = moved {
             members.push(("received", received.into()));
@@ -338,12 +345,14 @@ impl Held {
     }
 }
 
-/// What the size to hope for does not know of.
-pub fn losses_of_hope(has_ceilings: bool) -> &'static str {
-    match has_ceilings {
+/// What no size can pass, and what it does not know of.
+pub fn upper_bound_in_words(upper_bound: u64, has_ceilings: bool) -> String {
+    let unknown = match has_ceilings {
         true => "rounding, zones and ceilings",
         false => "rounding and zones",
-    }
+    };
+    let bound = thousands(upper_bound);
+    format!("Upper bound: with nothing lost to {unknown} it would be {bound} MB a partition.")
 }
 
 /// A line for each box of the cluster.
@@ -391,22 +400,11 @@ pub fn first_transfers_in_words(transfers: &Transfers) -> String {
 
 /// What the transfers come to.
 pub fn transfers_in_words(transfers: &Transfers) -> String {
-    let gone = transfers.all_gone();
-    let mut text = format!(
+    format!(
         "Transfers: {} to be sent, {} to be dropped.\n",
         count(transfers.all_received(), "copy is", "copies are"),
         count(transfers.all_dropped(), "copy is", "copies are"),
-    );
-    if gone > 0 {
-        let boxes = transfers.gone.iter();
-        let boxes: Vec<String> = boxes.map(|(id, n)| format!("box {id} ({n})")).collect();
-        text += &format!(
-            "Gone: {} on boxes that are no longer there: {}.\n",
-            count(gone, "copy was", "copies were"),
-            boxes.join(", "),
-        );
-    }
-    text
+    )
 }
 
 /// All lines together; their capacity is known only where that of each is.

@@ -28,13 +28,18 @@ pub const LONGEST_PAGE: u64 = 500_000;
 /// The page of a layout, or of a cluster that has none: that page says why, and the status is 1.
 pub fn run(call: &args::Report, warnings: &mut Vec<String>) -> Result<Answer, Failure> {
     let known = describe(&call.source, call.former.as_deref(), warnings)?;
+    known.with_losses(paged(call, &known), warnings)
+}
+
+fn paged(call: &args::Report, known: &Known) -> Result<Answer, Failure> {
     let described = &known.described;
     let former = call.former.as_deref().map(files::read_plan).transpose()?;
-    let laid = laid(call, &known, former.as_ref())?;
+    let laid = laid(call, known, former.as_ref())?;
     let status = if laid.is_ok() { 0 } else { REFUSED };
     let facts = Facts {
-        names: names(call, &known),
+        names: names(call, known),
         losses: losses::in_words(&described.cluster),
+        missing: known.missing(),
         described,
         laid,
     };

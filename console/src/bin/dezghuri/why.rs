@@ -5,13 +5,13 @@ use crate::labels::{self, boxes, listed};
 use crate::units::{count, thousands};
 use dezghuri::{Counts, Description, Node, Plan, Unused};
 
-/// The size is explained where it is under the hope by this part of it, or more: nearer than that
-/// no owner asks.
+/// The size is explained where it is under the upper bound by this part of it, or more: nearer than
+/// that no owner asks.
 const FAR: u64 = 100;
 
-/// Why the size of a plan is no larger; nothing where it is about as large as can be hoped for.
-pub fn not_more(described: &Description, plan: &Plan, hope: u64) -> String {
-    if (hope - u64::from(plan.size)) * FAR < hope {
+/// Why the size of a plan is no larger; nothing where it is about as large as can be.
+pub fn not_more(described: &Description, plan: &Plan, upper_bound: u64) -> String {
+    if (upper_bound - u64::from(plan.size)) * FAR < upper_bound {
         return String::new();
     }
     let why = sentences(described, plan.size);
@@ -55,7 +55,7 @@ fn zones_bind(described: &Description, counts: &Counts, size: u32) -> String {
         count(wanted, "zone", "zones"),
         count(left, "more copy", "more copies"),
         thousands(size.into()),
-        ceilings_bind(&bound),
+        ceilings_bind(described, &bound),
     )
 }
 
@@ -67,11 +67,15 @@ fn bound_nodes<'a>(described: &'a Description, counts: &Counts) -> Vec<&'a Node>
 }
 
 /// That ceilings bind, and not the disks; nothing where none does.
-fn ceilings_bind(bound: &[&Node]) -> String {
-    let named = bound
-        .iter()
-        .map(|node| format!("{} ({})", node.id, node.ceiling));
-    let named = listed(named.collect::<Vec<String>>().iter());
+fn ceilings_bind(described: &Description, bound: &[&Node]) -> String {
+    let named = |node: &&Node| {
+        let most = labels::ceiling_in_words(node).unwrap_or_default();
+        match labels::of(described, node.id).name {
+            name if name.is_empty() => format!("{} ({most})", node.id),
+            name => format!("{} ({name}, {most})", node.id),
+        }
+    };
+    let named = listed(bound.iter().map(named));
     match bound.len() {
         0 => String::new(),
         1 => {
@@ -89,7 +93,7 @@ fn boxes_bind(described: &Description, counts: &Counts, size: u32) -> String {
     let whole = &counts.whole_nodes;
     let bound = bound_nodes(described, counts);
     if !bound.is_empty() {
-        return boxes_and_ceilings_bind(counts, &bound);
+        return boxes_and_ceilings_bind(described, counts, &bound);
     }
     if whole.is_empty() {
         return format!(
@@ -99,7 +103,7 @@ fn boxes_bind(described: &Description, counts: &Counts, size: u32) -> String {
             count(counts.wanted, "is wanted", "are wanted"),
         );
     }
-    let boxes = boxes(whole);
+    let boxes = boxes(described, whole);
     let left = u64::from(cluster.replication) - whole.len() as u64;
     let others = match cluster.nodes.len() - whole.len() {
         1 => "the other box has".into(),
@@ -110,12 +114,12 @@ fn boxes_bind(described: &Description, counts: &Counts, size: u32) -> String {
          each above {} MB.\n{}",
         count(left, "more copy", "more copies"),
         thousands(size.into()),
-        no_larger_disks(whole),
+        no_larger_disks(described, whole),
     )
 }
 
 /// Boxes at their ceilings count with these, and what their disks have room for does not.
-fn boxes_and_ceilings_bind(counts: &Counts, bound: &[&Node]) -> String {
+fn boxes_and_ceilings_bind(described: &Description, counts: &Counts, bound: &[&Node]) -> String {
     let mut useless = counts.whole_nodes.clone();
     useless.extend(bound.iter().map(|node| node.id));
     useless.sort_unstable();
@@ -124,18 +128,18 @@ fn boxes_and_ceilings_bind(counts: &Counts, bound: &[&Node]) -> String {
         thousands(counts.size),
         count(counts.room, "copy", "copies"),
         count(counts.wanted, "is wanted", "are wanted"),
-        ceilings_bind(bound),
-        no_larger_disks(&useless),
+        ceilings_bind(described, bound),
+        no_larger_disks(described, &useless),
     )
 }
 
 /// That what these boxes hold is not bound by their disks.
-fn no_larger_disks(ids: &[u32]) -> String {
+fn no_larger_disks(described: &Description, ids: &[u32]) -> String {
     let disks = match ids.len() {
         1 => "A larger disk",
         _ => "Larger disks",
     };
-    format!("{disks} in {} would not help.", boxes(ids))
+    format!("{disks} in {} would not help.", boxes(described, ids))
 }
 
 fn zone_names(described: &Description, zones: &[u16]) -> String {

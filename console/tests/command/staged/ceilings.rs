@@ -40,7 +40,7 @@ fn a_new_box_has_its_ceiling() {
     assert_eq!(change.get("ceiling").line(), "1");
     let ceilings = object.get("boxes").list().iter();
     let ceilings: Vec<String> = ceilings.map(|b| b.get("ceiling").line()).collect();
-    assert_eq!(ceilings, ["256", "256", "256", "1"]);
+    assert_eq!(ceilings, ["null", "null", "null", "1"]);
     let staged = read(&done(&folder, "plan shop.txt --staged --json"));
     done(&folder, "apply shop.txt");
     let applied = FILE.to_owned() + "box 7 attic 4T new box\nceiling 7 1\n";

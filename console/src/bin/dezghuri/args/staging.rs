@@ -1,6 +1,7 @@
 //! The words of the commands that stage changes.
 
-use super::{ceiling, id, Command, Staging, Words, CEILING};
+use super::{ceiling, id, Command, Staging, Words};
+use crate::grammar::CEILING;
 use crate::units;
 use dezghuri::Node;
 use std::ffi::OsString;

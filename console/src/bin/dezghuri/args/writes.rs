@@ -22,7 +22,7 @@ impl Command {
             },
             Command::Report(call) => vec![call.out.clone()],
             Command::Record { out, .. } => out.iter().cloned().collect(),
-            Command::Help
+            Command::Help(_)
             | Command::Version
             | Command::PlanRecord { .. }
             | Command::Check { .. }

@@ -17,7 +17,10 @@ use std::path::Path;
 struct Moved {
     kept: u64,
     received: u64,
+    /// By boxes that the file has.
     dropped: u64,
+    /// With boxes that it does not have.
+    gone: u64,
 }
 
 struct BoxLine {
@@ -86,7 +89,7 @@ impl<'a> Compared<'a> {
             id,
             label: labels::of(described, id),
             is_present: described.has(id),
-            moved: Moved::of(diff.node(id)),
+            moved: Moved::of(diff.node(id), described.has(id)),
         };
         let boxes: Vec<BoxLine> = ids.into_iter().map(line).collect();
         Compared {
@@ -152,19 +155,18 @@ impl<'a> Compared<'a> {
             Column::new(Side::Right, &head, moved.iter().map(|m| unit.of(of(m))))
         };
         vec![
-            number("before", &|m| m.kept + m.dropped),
+            number("before", &|m| m.kept + m.goes()),
             number("after", &|m| m.kept + m.received),
             number("comes", &|m| m.received),
-            space("comes", &|m| self.received_mb(m)),
-            number("goes", &|m| m.dropped),
-            space("goes", &|m| self.dropped_mb(m)),
+            space("comes", &|m| self.new_mb(m.received)),
+            number("goes", &|m| m.goes()),
+            space("goes", &|m| self.old_mb(m.goes())),
         ]
     }
 
     fn in_words(&self) -> String {
         let (all, unit) = (self.all(), self.unit());
-        let gone = self.boxes.iter().filter(|line| !line.is_present);
-        let gone = match sum(gone.map(|line| line.moved)).dropped {
+        let gone = match all.gone {
             0 => String::new(),
             gone => format!(
                 ", {} of them on boxes that are not there any more",
@@ -176,10 +178,10 @@ impl<'a> Compared<'a> {
              A copy that comes takes the size of the new layout, one that goes that of the old one: \
              as much as it\ntakes once its partition has grown to that.\n",
             count(all.received, "copy", "copies"),
-            unit.of(self.received_mb(&all)),
+            unit.of(self.new_mb(all.received)),
             unit.name,
-            count(all.dropped, "copy", "copies"),
-            unit.of(self.dropped_mb(&all)),
+            count(all.goes(), "copy", "copies"),
+            unit.of(self.old_mb(all.goes())),
             count(all.kept, "copy", "copies"),
         )
     }
@@ -211,24 +213,26 @@ impl<'a> Compared<'a> {
         members
     }
 
-    fn moved_json(&self, moved: &Moved) -> [(&'static str, Json); 5] {
+    fn moved_json(&self, moved: &Moved) -> [(&'static str, Json); 7] {
         [
             ("kept", moved.kept.into()),
             ("received", moved.received.into()),
-            ("received_mb", self.received_mb(moved).into()),
+            ("received_mb", self.new_mb(moved.received).into()),
             ("dropped", moved.dropped.into()),
-            ("dropped_mb", self.dropped_mb(moved).into()),
+            ("dropped_mb", self.old_mb(moved.dropped).into()),
+            ("gone", moved.gone.into()),
+            ("gone_mb", self.old_mb(moved.gone).into()),
         ]
     }
 
     /// A copy that is received will take the new layout's size.
-    fn received_mb(&self, moved: &Moved) -> u64 {
-        moved.received * u64::from(self.new.size)
+    fn new_mb(&self, copies: u64) -> u64 {
+        copies * u64::from(self.new.size)
     }
 
-    /// A copy that is dropped gives back the old layout's size.
-    fn dropped_mb(&self, moved: &Moved) -> u64 {
-        moved.dropped * u64::from(self.old.size)
+    /// A copy that goes gives back the old layout's size.
+    fn old_mb(&self, copies: u64) -> u64 {
+        copies * u64::from(self.old.size)
     }
 
     fn all(&self) -> Moved {
@@ -242,12 +246,19 @@ impl<'a> Compared<'a> {
 }
 
 impl Moved {
-    fn of(node: &NodeDiff) -> Moved {
+    fn of(node: &NodeDiff, is_present: bool) -> Moved {
+        let goes = node.dropped.len() as u64;
         Moved {
             kept: node.kept.len() as u64,
             received: node.received.len() as u64,
-            dropped: node.dropped.len() as u64,
+            dropped: if is_present { goes } else { 0 },
+            gone: if is_present { 0 } else { goes },
         }
+    }
+
+    /// Copies that have no place any more, whether their box is there or not.
+    fn goes(&self) -> u64 {
+        self.dropped + self.gone
     }
 }
 
@@ -256,6 +267,7 @@ fn sum(all: impl Iterator<Item = Moved>) -> Moved {
         kept: sum.kept + more.kept,
         received: sum.received + more.received,
         dropped: sum.dropped + more.dropped,
+        gone: sum.gone + more.gone,
     })
 }
 

@@ -138,7 +138,10 @@ impl<'a> Listed<'a> {
             }
         }
         if !idle.is_empty() {
-            text += &format!("Nothing to do at {}.\n", labels::boxes(&idle));
+            text += &format!(
+                "Nothing to do at {}.\n",
+                labels::boxes(self.described, &idle)
+            );
         }
         text + "A box goes through its list by the numbers; before it drops a partition, the steps with lower \
                 numbers\nhave to be done at all boxes.\n"

@@ -10,7 +10,7 @@ use crate::output::{Kind, Output};
 use crate::overview::{first_transfers_in_words, transfers_in_words, Overview};
 use crate::units::count;
 use crate::why;
-use dezghuri::{Description, Plan, Transfers};
+use dezghuri::{Description, Plan, Transfers, Verdict};
 use std::path::Path;
 
 /// A plan that was made, and what is told of it.
@@ -24,33 +24,37 @@ struct Made<'a> {
 
 pub fn run(call: &args::Plan, warnings: &mut Vec<String>) -> Result<Answer, Failure> {
     let known = describe(&call.source, call.former.as_deref(), warnings)?;
+    known.with_losses(planned(call, &known), warnings)
+}
+
+fn planned(call: &args::Plan, known: &Known) -> Result<Answer, Failure> {
     let described = &known.described;
     let cluster = &described.cluster;
     let plan = cluster
         .plan(call.allowance)
         .map_err(|refused| Failure::Refused(explain::no_plan(described, refused), refused))?;
+    let out = call.out.as_deref();
+    let output = out.map(|out| layout_output(&plan, call, out)).transpose()?;
     let made = Made {
-        known: &known,
+        known,
         overview: Overview::of_valid(described, &plan).map_err(unforeseen)?,
         transfers: cluster.transfers(&plan.layout),
         described,
         plan: &plan,
     };
-    let (mut report, mut members) = (made.text(call), made.json(call));
-    let Some(out) = &call.out else {
-        report += "Not written: with --out NEXT it is kept, for the next plan.\n";
-        members.push(("out", Json::Null));
-        return Ok(Answer::with_json(report, members));
-    };
-    let output = layout_output(&plan, call, out)?;
-    members.push(("out", output.json()));
-    Ok(Answer::with_json(report, members).writing(output))
+    let mut members = made.json(call);
+    members.push(("out", output.as_ref().map(Output::json).into()));
+    let answer = Answer::with_json(made.text(call, output.as_ref()), members);
+    Ok(match output {
+        Some(output) => answer.writing(output),
+        None => answer,
+    })
 }
 
 impl Made<'_> {
-    fn text(&self, call: &args::Plan) -> String {
+    fn text(&self, call: &args::Plan, output: Option<&Output>) -> String {
         let (described, plan) = (self.described, self.plan);
-        let hope = self.overview.hope.unwrap_or_default();
+        let upper_bound = self.overview.upper_bound.unwrap_or_default();
         [
             lost_lines(described),
             heading(&self.known.name, described),
@@ -59,16 +63,43 @@ impl Made<'_> {
             self.overview.zones(),
             "\n".into(),
             self.overview.size(),
-            why::not_more(described, plan, hope),
+            why::not_more(described, plan, upper_bound),
             why::unused(described, plan),
             match call.former {
                 Some(_) => transfers_in_words(&self.transfers),
                 None => first_transfers_in_words(&self.transfers),
             },
+            self.known.missing(),
             self.overview.verdict(),
+            self.certified(call, output),
             self.staged(&call.source.file),
+            match output {
+                Some(_) => String::new(),
+                None => "Not written: with --out NEXT it is kept, for the next plan.\n".into(),
+            },
         ]
         .concat()
+    }
+
+    /// The call that shows why no layout needs fewer transfers, with the names that the files will have;
+    /// nothing where one may need fewer, or where there will be no file.
+    fn certified(&self, call: &args::Plan, output: Option<&Output>) -> String {
+        let is_optimal = self.plan.verdict == Verdict::Finished;
+        let Some(output) = output.filter(|_| is_optimal) else {
+            return String::new();
+        };
+        let mut line = format!("`dezghuri certify {}", call.source.file.display());
+        if self.known.staged.is_some() {
+            line += " --staged";
+        }
+        if let Some(former) = &call.former {
+            let former = match files::are_one(former, output.path()) {
+                true => output.old(),
+                false => former.clone(),
+            };
+            line += &format!(" --former {}", former.display());
+        }
+        line + &format!(" {}` shows why.\n", output.path().display())
     }
 
     /// That the plan is one of boxes that the file has not yet.
@@ -101,7 +132,8 @@ impl Made<'_> {
             ("sent", sent.into()),
             ("sent_mb", (sent * u64::from(plan.size)).into()),
             ("dropped", transfers.all_dropped().into()),
-            ("gone", Json::list(gone)),
+            ("gone", transfers.all_gone().into()),
+            ("gone_boxes", Json::list(gone)),
         ];
         members.extend(self.overview.json(Some(transfers)));
         members.extend(why::json(described, plan));

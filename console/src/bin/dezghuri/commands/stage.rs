@@ -5,9 +5,10 @@ use crate::args::Staging;
 use crate::deeds::Deed;
 use crate::failure::{Failure, REFUSED};
 use crate::json::Json;
+use crate::labels;
 use crate::staged::{self, Entry, Made, Staged};
 use crate::units::count;
-use dezghuri::{Change, Description};
+use dezghuri::{Change, Description, Refused};
 use std::path::Path;
 
 pub fn run(file: &Path, staging: &Staging, warnings: &mut Vec<String>) -> Result<Answer, Failure> {
@@ -41,8 +42,9 @@ fn stage(mut staged: Staged, known: &Description, entry: Entry) -> Result<Answer
     }
     let (file, next) = (staged.file.display(), next(&staged));
     let report = format!("Staged for {file}: {words}.\n{next}\n");
-    let answer = Answer::with_json(report, members("stage", &staged, &made));
-    Ok(answer.writing(staged.output()?))
+    let mut members = members("stage", &staged, &made);
+    members.extend(refusal(None, None));
+    Ok(Answer::with_json(report, members).writing(staged.output()?))
 }
 
 /// How many are staged, and what can be done with them.
@@ -59,12 +61,8 @@ fn show(staged: &Staged, known: &Description) -> Answer {
     let failure = staged.told(&made);
     let mut members = members("stage", staged, &made);
     let why = failure.as_ref().map(|failure| failure.lines().concat());
-    let refusal = made
-        .refused
-        .as_ref()
-        .map(|not| not.refused.refusal.number());
-    members.push(("refusal", refusal.into()));
-    members.push(("why", why.clone().into()));
+    let refused = made.refused.as_ref().map(|not| not.refused);
+    members.extend(refusal(refused, why.as_deref()));
     // What is left over is no reason to fail where it cannot be removed.
     let left_over = staged.was_applied.then(|| staged.removal().ok()).flatten();
     Answer {
@@ -119,6 +117,12 @@ pub fn members(command: &'static str, staged: &Staged, made: &Made) -> Vec<(&'st
     ]
 }
 
+/// That a change cannot be made any more, and why; nothing where all can.
+fn refusal(refused: Option<Refused>, why: Option<&str>) -> [(&'static str, Json); 2] {
+    let number = refused.map(|no| no.refusal.number());
+    [("refusal", number.into()), ("why", why.into())]
+}
+
 fn boxes(described: &Description) -> Json {
     let nodes = described.cluster.nodes.iter().zip(&described.labels);
     Json::list(nodes.map(|(node, label)| {
@@ -127,7 +131,7 @@ fn boxes(described: &Description) -> Json {
             ("name", label.name.as_str().into()),
             ("zone", label.zone.as_str().into()),
             ("capacity_mb", node.capacity.into()),
-            ("ceiling", node.ceiling.into()),
+            ("ceiling", labels::ceiling(node).into()),
         ])
     }))
 }

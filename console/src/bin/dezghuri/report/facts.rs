@@ -15,6 +15,9 @@ pub struct Facts<'a> {
     pub described: &'a Description,
     /// Sentences on copies that are lost or at risk.
     pub losses: Vec<String>,
+    /// That boxes of the former layout are missing, and what is left of their partitions; empty where
+    /// none is.
+    pub missing: String,
     /// The layout, or why there is none.
     pub laid: Result<Laid, String>,
 }
@@ -29,8 +32,8 @@ pub struct Names {
 /// A valid layout, and what becomes of each former copy.
 pub struct Laid {
     pub size: u64,
-    /// The size to hope for.
-    pub hope: u64,
+    /// What no size can pass.
+    pub upper_bound: u64,
     pub rows: Rows,
     /// What a partition was planned for before, where there was a plan.
     pub former_size: Option<u64>,
@@ -140,14 +143,14 @@ impl Laid {
         former: Option<&Plan>,
     ) -> Result<Laid, Refused> {
         let cluster = &described.cluster;
-        let hope = cluster.figures(&plan.layout, plan.size)?.hope;
+        let upper_bound = cluster.figures(&plan.layout, plan.size)?.hope;
         // Without a former layout each copy is drawn as one that stays.
         let before = former.map_or(&plan.layout, |former| &former.layout);
         let rows = Rows::new(cluster, before, &plan.layout);
         let best = Best::of(cluster, plan, rows.all(Cell::Received))?;
         Ok(Laid {
             size: plan.size.into(),
-            hope,
+            upper_bound,
             why: match best {
                 Best::Larger(_) => Vec::new(),
                 _ => binding(described, plan),

@@ -1,7 +1,7 @@
 //! The sentences with which the page begins.
 
 use super::facts::{Best, Facts, Laid};
-use crate::overview::losses_of_hope;
+use crate::overview::upper_bound_in_words;
 use crate::units::{count, thousands};
 
 /// What the command says of the page: the same sentences in plain text.
@@ -37,6 +37,7 @@ fn of_layout(facts: &Facts, laid: &Laid) -> String {
     ];
     if facts.has_former() {
         sentences.push(moves(facts, laid));
+        sentences.extend(facts.missing.lines().map(String::from));
     }
     sentences.extend(best(facts, laid));
     sentences.join(" ")
@@ -71,7 +72,7 @@ fn best(facts: &Facts, laid: &Laid) -> Option<String> {
             thousands(size)
         )),
         _ if !facts.has_former() => None,
-        Best::Fewest => Some("No layout of this size needs fewer.".into()),
+        Best::Fewest => Some("Optimal: no layout of this size needs fewer transfers.".into()),
         Best::FewerBy(more) => Some(format!(
             "Another layout of this size needs {} fewer.",
             thousands(more)
@@ -102,12 +103,9 @@ pub fn source(facts: &Facts) -> String {
 pub fn why_not_more(facts: &Facts, laid: &Laid) -> Vec<String> {
     let sentence = |why: &String| with_capital(&why.replace('\n', " "));
     let mut sentences: Vec<String> = laid.why.iter().map(sentence).collect();
-    if laid.hope > laid.size {
-        sentences.push(format!(
-            "With nothing lost to {} it would be {} MB a partition.",
-            losses_of_hope(facts.has_ceilings()),
-            thousands(laid.hope)
-        ));
+    if laid.upper_bound > laid.size {
+        let has_ceilings = facts.has_ceilings();
+        sentences.push(upper_bound_in_words(laid.upper_bound, has_ceilings));
     }
     sentences
 }

@@ -189,23 +189,24 @@ fn json(change: &Change, label: &Label, before: &Description) -> Json {
         Change::Resize { capacity, .. } => ("resize", Some(*capacity)),
     };
     let was = node(before, change.id()).filter(|_| kind != "add");
-    let ceiling = match change {
-        Change::Add(node) => Some(node.ceiling),
-        _ => was.map(|(node, _)| node.ceiling),
+    let of_ceiling = match change {
+        Change::Add(node) => Some(node),
+        _ => was.map(|(node, _)| node),
     };
     let label = match change {
         Change::Add(_) => Some(label),
         _ => was.map(|(_, label)| label),
     };
-    Json::Object(vec![
+    let mut members = vec![
         ("kind", kind.into()),
         ("id", change.id().into()),
         ("name", label.map(|label| label.name.as_str()).into()),
         ("zone", label.map(|label| label.zone.as_str()).into()),
         ("capacity_mb", capacity.into()),
-        ("ceiling", ceiling.into()),
-        ("was_mb", was.map(|(node, _)| node.capacity).into()),
-    ])
+    ];
+    members.extend(of_ceiling.map(|node| ("ceiling", labels::ceiling(node).into())));
+    members.push(("was_mb", was.map(|(node, _)| node.capacity).into()));
+    Json::Object(members)
 }
 
 /// Why a change is not made, in the words of the owner.
