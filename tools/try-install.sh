@@ -18,6 +18,8 @@ version=$("$root/bin/dezghuri" --version) || fail 'the command does not run'
 "$root/bin/dezghuri-plan" <"$work/record" >"$work/program" || fail 'dezghuri-plan does not run'
 cmp -s "$work/command" "$work/program" || fail 'dezghuri and dezghuri-plan differ'
 
+cmp -s docs/FORMATS.md "$root/share/doc/dezghuri/FORMATS.md" || fail 'the formats are not installed'
+
 # The flags that pkg-config prints, or would print: it need not be there.
 if command -v pkg-config >/dev/null 2>&1; then
     flags=$(PKG_CONFIG_PATH=$root/lib/pkgconfig PKG_CONFIG_SYSROOT_DIR=$work/root pkg-config --cflags --libs dezghuri) || fail 'pkg-config fails'
