@@ -23,6 +23,7 @@ files() {
 644 build/dezghuri.pc lib/pkgconfig/dezghuri.pc
 644 console/man/dezghuri.1 share/man/man1/dezghuri.1
 644 console/man/dezghuri-plan.1 share/man/man1/dezghuri-plan.1
+644 docs/FORMATS.md share/doc/dezghuri/FORMATS.md
 644 console/completions/dezghuri.bash share/bash-completion/completions/dezghuri
 644 console/completions/_dezghuri share/zsh/site-functions/_dezghuri
 644 console/completions/dezghuri.fish share/fish/vendor_completions.d/dezghuri.fish

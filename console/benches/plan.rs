@@ -22,8 +22,12 @@
 //! every kind. Without former copies all layouts are nearest, and there is little to a plan but its
 //! order: it is to take no more than 3 ms.
 //!
+//! A certificate is timed beside a check of the same layout, which it contains: beyond that it is to take no more
+//! than 60 microseconds for 32 nodes. "plain" there is the plain program's way to the same prices.
+//!
 //!     cargo bench --bench plan                     all tables (`make bench`)
 //!     cargo bench --bench plan -- ordering         the tables of what the ordering adds
+//!     cargo bench --bench plan -- certify          the table of certificates
 //!     cargo bench --bench plan -- proved           the proved planner's times alone
 //!     cargo bench --bench plan -- once worst       one call of proved, plain and search, to be counted
 //!
@@ -37,7 +41,7 @@
 //! `--toggle-collect='*plain_plan*'` and `'*search_plan*'`.
 
 use dezghuri::ffi;
-use reference::exchanges::{plan_record, Path};
+use reference::exchanges::{certify_record, plan_record, Path};
 use reference::random::Random;
 use reference::records::{cluster_record, read_cluster};
 use reference::{capacity_for, report, sent, Cluster, Layout, Node};
@@ -84,9 +88,10 @@ fn main() {
     match words[..] {
         [] => all_tables(),
         ["ordering"] => ordering_tables(),
+        ["certify"] => certify_table(),
         ["proved"] => proved_alone(),
         ["once", name] => once(name),
-        _ => panic!("ordering, proved, once KIND, or nothing"),
+        _ => panic!("ordering, certify, proved, once KIND, or nothing"),
     }
 }
 
@@ -120,6 +125,8 @@ fn all_tables() {
     }
     println!();
     ordering_tables();
+    println!();
+    certify_table();
 }
 
 fn head(name: &str) {
@@ -231,11 +238,70 @@ fn unformed_line(name: &str, cases: &[Case]) {
     );
 }
 
-/// For each of the runs the median of the times of two calls, which are made in turn, each on one run
-/// after the other.
-fn in_turn<T>(runs: &[T], calls: &[impl Fn(&mut Lent, &T); 2]) -> Vec<[f64; 2]> {
+/// A finished plan: its record, its layout and its size.
+type Finished = (Vec<u8>, Vec<u32>, u32);
+
+/// What a certificate takes, beside a check of the same layout and beside the plain program.
+fn certify_table() {
+    println!("microseconds for a check and for a certificate of a finished plan");
+    println!(
+        "{:<55} {:>7} {:>7} {:>6} {:>6} {:>7} {:>12}",
+        "kind (at most 60 beyond a check)",
+        "check",
+        "certify",
+        "beyond",
+        "most",
+        "plain",
+        "proved/plain"
+    );
+    let calls: [fn(&mut Lent, &Finished); 3] = [check, certify, plain_certify];
+    for (name, what, case) in KINDS {
+        let runs: Vec<Finished> = drawn(case).iter().map(finished).collect();
+        let times = in_turn(&runs, &calls);
+        let column = |part: fn(&[f64; 3]) -> f64| times.iter().map(part).collect::<Vec<f64>>();
+        println!(
+            "{:<55} {:>7.1} {:>7.1} {:>6.1} {:>6.1} {:>7.1} {:>12.2}",
+            format!("{name}: {what}"),
+            median(column(|t| t[0])),
+            median(column(|t| t[1])),
+            median(column(|t| t[1] - t[0])),
+            most(column(|t| t[1] - t[0])),
+            median(column(|t| t[2])),
+            median(column(|t| t[1] / t[2])),
+        );
+    }
+}
+
+fn finished((c, former): &Case) -> Finished {
+    let record = cluster_record(c, former);
     let mut lent = Lent::new();
-    let mut times: Vec<[Vec<f64>; 2]> = runs.iter().map(|_| Default::default()).collect();
+    let mut answer = [0; ffi::PLAN_ANSWER];
+    let (cells, scratch) = (&mut lent.cells, &mut lent.scratch);
+    let refusal = ffi::plan(&record, dezghuri::ENOUGH, cells, scratch, &mut answer);
+    assert_eq!(refusal, 0);
+    (record, lent.cells, answer[2])
+}
+
+fn check(_: &mut Lent, (record, cells, size): &Finished) {
+    let mut answer = [0; ffi::CHECK_ANSWER];
+    assert_eq!(ffi::check(record, cells, *size, &mut answer), 0);
+}
+
+fn certify(_: &mut Lent, (record, cells, size): &Finished) {
+    let mut answer = [0; ffi::CERTIFY_ANSWER];
+    assert_eq!(ffi::certify(record, cells, *size, &mut answer), 0);
+}
+
+fn plain_certify(_: &mut Lent, (record, cells, size): &Finished) {
+    assert!(certify_record(record, cells, *size).is_ok());
+}
+
+/// For each of the runs the median of the times of some calls, which are made in turn, each on one run
+/// after the other.
+fn in_turn<T, const N: usize>(runs: &[T], calls: &[impl Fn(&mut Lent, &T); N]) -> Vec<[f64; N]> {
+    let mut lent = Lent::new();
+    let none = |_| [const { Vec::new() }; N];
+    let mut times: Vec<[Vec<f64>; N]> = runs.iter().map(none).collect();
     for _ in 0..ROUNDS {
         for (i, call) in calls.iter().enumerate() {
             for (run, times) in runs.iter().zip(&mut times) {

@@ -9,7 +9,7 @@
  *     with fewer is refused with DEZGHURI_SHORT; of one with more, those beyond are never touched.
  *   - `answer` (and `row` of dezghuri_show_row, and `reverse` of dezghuri_change) is judged first: if it is
  *     too short, nothing at all is touched. In every other outcome all cells of `answer` are written, and a
- *     number for which nothing is said here is 0.
+ *     number for which nothing is said here is 0. Each cell has a name: answer[DEZGHURI_PLAN_SIZE].
  *   - Whatever bytes, cells, numbers and lengths come in, a call ends and does nothing undefined, provided
  *     that each pointer is sound: not null (not even with length 0), aligned for its type, with as many
  *     elements behind it as its length says, writable where it is not const; and that no two slices of one
@@ -21,7 +21,8 @@
  * rounded down (capacity - capacity / 16). Records and answers hold the capacity itself. A node's ceiling,
  * 0 to 256, is the most copies that it may hold, whatever its disk takes.
  *
- * docs/FORMATS.md lays down the records and the meaning of each refusal.
+ * FORMATS.md, which is installed into share/doc/dezghuri, lays down the records and the meaning of each refusal;
+ * dezghuri_refusal_text says it in short.
  */
 #ifndef DEZGHURI_H
 #define DEZGHURI_H
@@ -54,6 +55,7 @@ extern "C" {
 #define DEZGHURI_LAYOUT_CELLS 2048      /* a former layout or an assignment: 256 rows */
 #define DEZGHURI_WIDE_ROW_CELLS 16      /* one row of what is held: rising node ids, then zeros */
 #define DEZGHURI_WIDE_CELLS 4096        /* what is held: 256 rows of sixteen cells */
+#define DEZGHURI_NODE_CELLS 4           /* a node in an answer: id, zone, capacity, ceiling */
 #define DEZGHURI_STEP_CELLS 4           /* a step: kind, partition, node, source */
 #define DEZGHURI_MOVES_CELLS 24576      /* always enough: 24 steps for each of 256 partitions */
 #define DEZGHURI_SCRATCH_CELLS 16384
@@ -62,6 +64,7 @@ extern "C" {
 #define DEZGHURI_READ_LAYOUT_ANSWER 8
 #define DEZGHURI_PLAN_ANSWER 6
 #define DEZGHURI_CHECK_ANSWER 3
+#define DEZGHURI_CERTIFY_ANSWER 35
 #define DEZGHURI_FIGURES_ANSWER 5
 #define DEZGHURI_WRITE_LAYOUT_ANSWER 2
 #define DEZGHURI_CHANGE_ANSWER 137
@@ -80,22 +83,75 @@ extern "C" {
 #define DEZGHURI_SEND 0 /* the node gets a copy of the partition */
 #define DEZGHURI_DROP 1 /* the node drops its copy */
 
-/* Refusals. */
+/* Refusals; dezghuri_refusal_text says what each means. No call of this version answers 15 to 18 or 21: they
+ * belong to calls to come. */
 #define DEZGHURI_OK 0
-#define DEZGHURI_CUT 1          /* one or two bytes left, or a field's body cut short */
-#define DEZGHURI_TAG 2          /* a tag that is not allowed next */
-#define DEZGHURI_LENGTH 3       /* a length that is not legal for the tag */
-#define DEZGHURI_RANGE 4        /* a value outside its range; of a node, id 0 or a ceiling above 256 */
-#define DEZGHURI_ORDER 5        /* ids or partitions that do not rise, or a row that is not the next */
-#define DEZGHURI_NODES 6        /* more than 32 nodes */
-#define DEZGHURI_MISSING 7      /* the record ends before a field or row that it must have */
-#define DEZGHURI_SHORT 8        /* a lent slice is too short */
-#define DEZGHURI_NO_LAYOUT 9    /* no layout is valid at size 1 */
-#define DEZGHURI_ROW 10         /* a row that is not R rising ids of the cluster and zeros, or a non-zero row from P on */
-#define DEZGHURI_ZONES 11       /* a row in fewer than Z zones */
-#define DEZGHURI_CAPACITY 12    /* a node with more copies than its usable capacity takes at the size, or than its ceiling */
-#define DEZGHURI_PRESENT 13     /* an id to be added that is there already */
-#define DEZGHURI_ABSENT 14      /* an id to be removed or resized that is not there */
+#define DEZGHURI_CUT 1
+#define DEZGHURI_TAG 2
+#define DEZGHURI_LENGTH 3
+#define DEZGHURI_RANGE 4
+#define DEZGHURI_ORDER 5
+#define DEZGHURI_NODES 6
+#define DEZGHURI_MISSING 7
+#define DEZGHURI_SHORT 8
+#define DEZGHURI_NO_LAYOUT 9
+#define DEZGHURI_ROW 10
+#define DEZGHURI_ZONES 11
+#define DEZGHURI_CAPACITY 12
+#define DEZGHURI_PRESENT 13
+#define DEZGHURI_ABSENT 14
+#define DEZGHURI_TOTALS 15
+#define DEZGHURI_THREE 16
+#define DEZGHURI_CEILING 17
+#define DEZGHURI_START 18
+#define DEZGHURI_LARGER 19
+#define DEZGHURI_FEWER 20
+#define DEZGHURI_SEQUENCE 21
+
+/* A refusal in words, for messages: never null, whatever the number. */
+static inline const char *dezghuri_refusal_text(uint32_t refusal) {
+    switch (refusal) {
+    case DEZGHURI_OK: return "nothing is refused";
+    case DEZGHURI_CUT: return "one or two bytes left, or a field's body cut short";
+    case DEZGHURI_TAG: return "a tag that is not allowed next";
+    case DEZGHURI_LENGTH: return "a length that is not legal for the tag";
+    case DEZGHURI_RANGE: return "a value outside its range";
+    case DEZGHURI_ORDER: return "ids or partitions that do not rise, or a row that is not the next";
+    case DEZGHURI_NODES: return "more than 32 nodes";
+    case DEZGHURI_MISSING: return "the record ends before a field or row that it must have";
+    case DEZGHURI_SHORT: return "a lent buffer is too short";
+    case DEZGHURI_NO_LAYOUT: return "no layout is valid at size 1";
+    case DEZGHURI_ROW: return "a row that is not as many rising ids of the cluster as copies are wanted";
+    case DEZGHURI_ZONES: return "a row in fewer zones than wanted";
+    case DEZGHURI_CAPACITY:
+        return "a node with more copies than its usable capacity takes at the size, or than its ceiling";
+    case DEZGHURI_PRESENT: return "an id to be added that is there already";
+    case DEZGHURI_ABSENT: return "an id to be removed or resized that is not there";
+    case DEZGHURI_TOTALS: return "totals of a layout record that differ from its rows, or are missing";
+    case DEZGHURI_THREE: return "replication and redundancy that are not both 3";
+    case DEZGHURI_CEILING: return "a node with a ceiling where none may have one";
+    case DEZGHURI_START: return "a layout to go on from that check refuses at the largest size";
+    case DEZGHURI_LARGER: return "a layout is valid at a larger size";
+    case DEZGHURI_FEWER: return "a layout of the size sends fewer copies";
+    case DEZGHURI_SEQUENCE: return "an order in which some partition does not stand just once";
+    default: return "a number that is not the number of a refusal";
+    }
+}
+
+/* Cells that several answers have in the same place. */
+#define DEZGHURI_BYTE_HIGH 0 /* the byte of a refused reading, its high 32 bits: all answers but that of writing */
+#define DEZGHURI_BYTE_LOW 1 /* and its low ones */
+#define DEZGHURI_PLACE 2 /* of check, figures, certify and moves: the partition with 10 and 11, the node id with 12 */
+
+/* Cells of a node in an answer, from its first one on; and of a step in a list of moves. */
+#define DEZGHURI_NODE_ID 0
+#define DEZGHURI_NODE_ZONE 1
+#define DEZGHURI_NODE_CAPACITY 2
+#define DEZGHURI_NODE_CEILING 3
+#define DEZGHURI_STEP_KIND 0
+#define DEZGHURI_STEP_PARTITION 1
+#define DEZGHURI_STEP_NODE 2
+#define DEZGHURI_STEP_SOURCE 3
 
 /* Reads a cluster record.
  *
@@ -108,6 +164,11 @@ extern "C" {
 uint32_t dezghuri_read_cluster(const uint8_t *record, size_t record_len,
                                uint32_t *former, size_t former_len,
                                uint32_t *answer, size_t answer_len);
+#define DEZGHURI_READ_CLUSTER_BITS 2
+#define DEZGHURI_READ_CLUSTER_REPLICATION 3
+#define DEZGHURI_READ_CLUSTER_REDUNDANCY 4
+#define DEZGHURI_READ_CLUSTER_NODES 5 /* how many */
+#define DEZGHURI_READ_CLUSTER_FIRST_NODE 6 /* the next DEZGHURI_NODE_CELLS further on */
 
 /* Reads a layout record.
  *
@@ -118,6 +179,12 @@ uint32_t dezghuri_read_cluster(const uint8_t *record, size_t record_len,
 uint32_t dezghuri_read_layout(const uint8_t *record, size_t record_len,
                               uint32_t *assignment, size_t assignment_len,
                               uint32_t *answer, size_t answer_len);
+#define DEZGHURI_READ_LAYOUT_BITS 2
+#define DEZGHURI_READ_LAYOUT_REPLICATION 3
+#define DEZGHURI_READ_LAYOUT_SIZE 4
+#define DEZGHURI_READ_LAYOUT_SENT 5
+#define DEZGHURI_READ_LAYOUT_VERDICT 6
+#define DEZGHURI_READ_LAYOUT_IMPROVEMENTS 7
 
 /* Plans the cluster of the record, whose former rows are in it, with at most `allowance` improvements.
  *
@@ -134,6 +201,10 @@ uint32_t dezghuri_plan(const uint8_t *record, size_t record_len,
                        uint32_t *assignment, size_t assignment_len,
                        uint32_t *scratch, size_t scratch_len,
                        uint32_t *answer, size_t answer_len);
+#define DEZGHURI_PLAN_SIZE 2
+#define DEZGHURI_PLAN_SENT 3
+#define DEZGHURI_PLAN_VERDICT 4
+#define DEZGHURI_PLAN_IMPROVEMENTS 5
 
 /* Checks that the assignment is a layout of the record's cluster, valid at the size: so that the copies of a
  * node, each of that size, fit its usable capacity, and are no more than its ceiling.
@@ -161,6 +232,11 @@ uint32_t dezghuri_figures(const uint8_t *record, size_t record_len,
                           uint32_t size,
                           uint32_t *figures, size_t figures_len,
                           uint32_t *answer, size_t answer_len);
+#define DEZGHURI_FIGURES_HOPE_HIGH 3
+#define DEZGHURI_FIGURES_HOPE_LOW 4
+/* of figures: those of the first node */
+#define DEZGHURI_FIGURES_COPIES 0
+#define DEZGHURI_FIGURES_ZONE_COPIES 32
 
 /* Certifies that the assignment has the largest size that the record's cluster has a layout of, and that none of
  * that size sends fewer copies, from the former layout that the record carries: a price for each node, by which
@@ -175,6 +251,7 @@ uint32_t dezghuri_certify(const uint8_t *record, size_t record_len,
                           const uint32_t *assignment, size_t assignment_len,
                           uint32_t size,
                           uint32_t *answer, size_t answer_len);
+#define DEZGHURI_CERTIFY_PRICES 3 /* that of the first node */
 
 /* Copies the row of a partition, 0 to 255, out of an assignment.
  *
@@ -198,6 +275,8 @@ uint32_t dezghuri_write_layout(uint32_t bits, uint32_t replication, uint32_t siz
                                const uint32_t *assignment, size_t assignment_len,
                                uint8_t *out, size_t out_len,
                                uint32_t *answer, size_t answer_len);
+#define DEZGHURI_WRITE_LAYOUT_LENGTH_HIGH 0
+#define DEZGHURI_WRITE_LAYOUT_LENGTH_LOW 1
 
 /* Makes one change on the cluster of the record: the one whose field begins at byte `at` of the change
  * record. The record's former rows play no part.
@@ -218,6 +297,14 @@ uint32_t dezghuri_change(const uint8_t *record, size_t record_len,
                          size_t at,
                          uint8_t *reverse, size_t reverse_len,
                          uint32_t *answer, size_t answer_len);
+#define DEZGHURI_CHANGE_NEXT_HIGH 2
+#define DEZGHURI_CHANGE_NEXT_LOW 3
+#define DEZGHURI_CHANGE_REVERSE_LENGTH 4
+#define DEZGHURI_CHANGE_BITS 5
+#define DEZGHURI_CHANGE_REPLICATION 6
+#define DEZGHURI_CHANGE_REDUNDANCY 7
+#define DEZGHURI_CHANGE_NODES 8 /* how many */
+#define DEZGHURI_CHANGE_FIRST_NODE 9 /* the next DEZGHURI_NODE_CELLS further on */
 
 /* Counts the steps from what is held to a new layout, without listing them.
  *
@@ -252,6 +339,7 @@ uint32_t dezghuri_moves(const uint8_t *record, size_t record_len,
                         const uint32_t *assignment, size_t assignment_len,
                         uint32_t *moves, size_t moves_len,
                         uint32_t *answer, size_t answer_len);
+#define DEZGHURI_MOVES_STEPS 3 /* of dezghuri_count_moves too */
 
 #ifdef __cplusplus
 }

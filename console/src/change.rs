@@ -2,7 +2,7 @@
 
 use crate::cluster::{field, nodes, Cluster, Node};
 use crate::ffi;
-use crate::refusal::{judge, wide, Refused};
+use crate::refusal::{judge, wide, Place, Refused};
 
 /// Tags of a change's field.
 mod tag {
@@ -95,7 +95,7 @@ impl Change {
     }
 }
 
-/// What a change that was made answers.
+/// What a change of a record that was made answers.
 #[derive(Clone, Debug, PartialEq, Eq, Hash)]
 pub struct Changed {
     /// The byte of the record at which the next change begins, or the record's length.
@@ -116,7 +116,7 @@ pub struct Staged {
 }
 
 impl Cluster {
-    /// Makes the change that begins at a byte of a record of changes ([`Change::record`]).
+    /// Makes a change, and answers the one that reverses it.
     ///
     /// An accepted change has replaced the nodes, by rising id as before, and nothing else. A refused
     /// one alters nothing. The former layout stays as it is and is not looked at; a node that is removed
@@ -131,17 +131,48 @@ impl Cluster {
     /// let mut cluster = Cluster { nodes: vec![node(1, 100), node(5, 70)], ..Cluster::default() };
     /// let before = cluster.clone();
     ///
-    /// let changes = [Change::Add(node(3, 50)), Change::Remove(1)];
-    /// let record = Change::record(&changes);
-    /// let added = cluster.change(&record, 0)?;
-    /// let removed = cluster.change(&record, added.next)?;
-    /// assert_eq!(removed.next, record.len());
+    /// let added = cluster.change(Change::Add(node(3, 50)))?;
+    /// let removed = cluster.change(Change::Remove(1))?;
     /// assert_eq!(cluster.nodes, [node(3, 50), node(5, 70)]);
-    /// assert_eq!(Change::from_field(&removed.reverse), Some(Change::Add(node(1, 100))));
+    /// assert_eq!(removed, Change::Add(node(1, 100)));
     ///
-    /// cluster.change(&removed.reverse, 0)?;
-    /// cluster.change(&added.reverse, 0)?;
+    /// cluster.change(removed)?;
+    /// cluster.change(added)?;
     /// assert_eq!(cluster, before);
+    /// # Ok::<(), dezghuri::Refused>(())
+    /// ```
+    ///
+    /// # Errors
+    ///
+    /// First a fault of the cluster, its former layout apart, with the value at fault. Then, without a
+    /// place: [`Refusal::Range`](crate::Refusal::Range) for an id of 0 or a ceiling above 256,
+    /// [`Refusal::Present`](crate::Refusal::Present), [`Refusal::Absent`](crate::Refusal::Absent), or
+    /// [`Refusal::Nodes`](crate::Refusal::Nodes) for a 33rd node.
+    pub fn change(&mut self, change: Change) -> Result<Change, Refused> {
+        let changed = self.change_at(&change.to_field(), 0);
+        // The caller has seen no record, so no byte of it is told.
+        let changed = changed.map_err(|refused| Refused {
+            place: refused.place.filter(|at| !matches!(at, Place::Byte(_))),
+            ..refused
+        })?;
+        let reverse = Change::from_field(&changed.reverse);
+        Ok(reverse.expect("a reverse is a field of a change"))
+    }
+
+    /// Makes the change that begins at a byte of a record of changes ([`Change::record`]), as
+    /// [`Cluster::change`] does, and answers the byte at which the next one begins.
+    ///
+    /// ```
+    /// use dezghuri::{Change, Cluster, Node};
+    ///
+    /// let node = |id, capacity| Node { id, zone: 1, capacity, ceiling: Node::NO_CEILING };
+    /// let mut cluster = Cluster { nodes: vec![node(1, 100)], ..Cluster::default() };
+    /// let record = Change::record(&[Change::Add(node(3, 50)), Change::Remove(1)]);
+    /// let added = cluster.change_at(&record, 0)?;
+    /// assert_eq!(added.reverse, Change::Remove(3).to_field());
+    /// let removed = cluster.change_at(&record, added.next)?;
+    /// assert_eq!(removed.next, record.len());
+    /// assert_eq!(cluster.nodes, [node(3, 50)]);
     /// # Ok::<(), dezghuri::Refused>(())
     /// ```
     ///
@@ -149,10 +180,8 @@ impl Cluster {
     ///
     /// First a fault of the cluster, its former layout apart, with the value at fault. Then, with the
     /// given byte: [`Refusal::Missing`](crate::Refusal::Missing) at or past the record's end, a fault of
-    /// the field, [`Refusal::Present`](crate::Refusal::Present),
-    /// [`Refusal::Absent`](crate::Refusal::Absent), or [`Refusal::Nodes`](crate::Refusal::Nodes) for a
-    /// 33rd node.
-    pub fn change(&mut self, changes: &[u8], at: usize) -> Result<Changed, Refused> {
+    /// the field, or of the change as [`Cluster::change`].
+    pub fn change_at(&mut self, changes: &[u8], at: usize) -> Result<Changed, Refused> {
         let mut reverse = vec![0; ffi::REVERSE_BYTES];
         let mut answer = [0; ffi::CHANGE_ANSWER];
         let record = self.to_record_of_nodes();
@@ -164,7 +193,7 @@ impl Cluster {
         Ok(Changed { next, reverse })
     }
 
-    /// Makes all changes of a record in order, up to the first that is refused: as [`Cluster::change`]
+    /// Makes all changes of a record in order, up to the first that is refused: as [`Cluster::change_at`]
     /// from byte 0 on, each at the byte answered before it. A record holds one change at least, so an
     /// empty one is refused.
     ///
@@ -193,7 +222,7 @@ impl Cluster {
         let mut reverses = Vec::new();
         let mut at = 0;
         let refused = loop {
-            match self.change(changes, at) {
+            match self.change_at(changes, at) {
                 Ok(changed) => {
                     reverses.push(changed.reverse);
                     at = changed.next;
@@ -247,11 +276,10 @@ mod tests {
 
     fn made(change: Change) -> (Vec<u32>, Change) {
         let mut cluster = cluster();
-        let changed = cluster.change(&change.to_field(), 0).unwrap();
-        assert_eq!(changed.next, change.to_field().len());
+        let reverse = cluster.change(change).unwrap();
         let ids = cluster.nodes.iter().map(|node| node.id).collect();
-        let reverse = Change::from_field(&changed.reverse).unwrap();
-        let back = cluster.change(&changed.reverse, 0).unwrap();
+        let back = cluster.change_at(&reverse.to_field(), 0).unwrap();
+        assert_eq!(back.next, reverse.to_field().len());
         assert_eq!(back.reverse, change.to_field());
         assert_eq!(cluster, self::cluster());
         (ids, reverse)
@@ -303,7 +331,7 @@ mod tests {
     fn a_resized_node_keeps_its_ceiling() {
         let mut cluster = cluster();
         let resize = Change::Resize { id: 4, capacity: 1 };
-        cluster.change(&resize.to_field(), 0).unwrap();
+        cluster.change(resize).unwrap();
         let resized = Node {
             capacity: 1,
             ..node(4)
@@ -338,12 +366,17 @@ mod tests {
                 let changes = [&[255; 7][..at], &field].concat();
                 let place = Some(Place::Byte(at as u64));
                 let refused = Refused { refusal, place };
-                assert_eq!(changed.change(&changes, at), Err(refused), "{changes:?}");
-                assert_eq!(changed, cluster());
+                assert_eq!(changed.change_at(&changes, at), Err(refused));
+                assert_eq!(changed, cluster(), "{changes:?}");
+            }
+            if let Some(change) = Change::from_field(&field) {
+                let place = None;
+                let refused = Err(Refused { refusal, place });
+                assert_eq!(cluster().change(change), refused);
             }
         }
         let last = usize::MAX;
-        let refused = cluster().change(&[], last).unwrap_err();
+        let refused = cluster().change_at(&[], last).unwrap_err();
         assert_eq!(refused.place, Some(Place::Byte(last as u64)));
     }
 
@@ -354,7 +387,7 @@ mod tests {
             ..Cluster::default()
         };
         let refusal = |id| {
-            let refused = full.clone().change(&Change::Add(node(id)).to_field(), 0);
+            let refused = full.clone().change(Change::Add(node(id)));
             refused.unwrap_err().refusal
         };
         assert_eq!(refusal(32), Refusal::Present);
@@ -368,7 +401,11 @@ mod tests {
             let mut cluster = cluster();
             damage(&mut cluster);
             let before = cluster.clone();
-            let refused = cluster.change(&Change::Remove(0).to_field(), 0);
+            let refused = cluster.change_at(&Change::Remove(0).to_field(), 0);
+            assert_eq!(
+                cluster.change(Change::Remove(0)).err(),
+                refused.clone().err()
+            );
             assert_eq!(cluster, before);
             let refused = refused.unwrap_err();
             (refused.refusal, refused.place.expect("it has a place"))
@@ -397,7 +434,7 @@ mod tests {
         cluster.former.set_row(1, &[5, 5]);
         let former = cluster.former.clone();
         assert!(cluster.plan(crate::ENOUGH).is_err());
-        assert!(cluster.change(&Change::Remove(4).to_field(), 0).is_ok());
+        assert!(cluster.change(Change::Remove(4)).is_ok());
         assert_eq!(cluster.former, former);
         assert_eq!(cluster.nodes, [2, 6].map(node));
     }

@@ -1,14 +1,15 @@
 //! The header as a C program uses it.
 
 use dezghuri::{ffi, Node, Refusal, ENOUGH};
+use std::collections::BTreeSet;
 use std::io::Write;
 use std::path::Path;
 use std::process::Command;
 
 const HERE: &str = env!("CARGO_MANIFEST_DIR");
 
-/// Compiles the program that calls each function, and runs it.
-fn calls_each_function(compiler: &str, language: &[&str], program: &str) {
+/// Compiles the program that calls each function, and runs it with these words; what it prints.
+fn calls(compiler: &str, language: &[&str], program: &str, words: &[&str]) -> String {
     let program = Path::new(env!("CARGO_TARGET_TMPDIR")).join(program);
     let compiled = Command::new(compiler)
         .current_dir(HERE)
@@ -26,14 +27,16 @@ fn calls_each_function(compiler: &str, language: &[&str], program: &str) {
         .unwrap_or_else(|_| panic!("a compiler, {compiler}, is needed"));
     let told = String::from_utf8_lossy(&compiled.stderr);
     assert!(compiled.status.success(), "{told}");
-    let called = Command::new(&program).output().expect("it was compiled");
-    let told = String::from_utf8_lossy(&called.stdout);
+    let called = Command::new(&program).args(words).output();
+    let called = called.expect("it was compiled");
+    let told = String::from_utf8(called.stdout).expect("words");
     assert!(called.status.success(), "{told}");
+    told
 }
 
 #[test]
 fn a_c_program_calls_each_function() {
-    calls_each_function("cc", &["-std=c99", "-x", "c"], "calls");
+    calls("cc", &["-std=c99", "-x", "c"], "calls", &[]);
 }
 
 /// Where there is no C++ compiler this is said, past the test runner, which hides what tests print.
@@ -44,7 +47,7 @@ fn a_cpp_program_calls_each_function() {
         writeln!(std::io::stderr(), "\n{told}").expect("it can be told");
         return;
     }
-    calls_each_function("c++", &["-std=c++11", "-x", "c++"], "calls-cpp");
+    calls("c++", &["-std=c++11", "-x", "c++"], "calls-cpp", &[]);
 }
 
 /// The number that the header gives a name.
@@ -76,6 +79,7 @@ fn the_header_has_the_numbers_of_the_library() {
         ("READ_LAYOUT_ANSWER", ffi::READ_LAYOUT_ANSWER),
         ("PLAN_ANSWER", ffi::PLAN_ANSWER),
         ("CHECK_ANSWER", ffi::CHECK_ANSWER),
+        ("CERTIFY_ANSWER", ffi::CERTIFY_ANSWER),
         ("FIGURES_ANSWER", ffi::FIGURES_ANSWER),
         ("WRITE_LAYOUT_ANSWER", ffi::WRITE_LAYOUT_ANSWER),
         ("CHANGE_ANSWER", ffi::CHANGE_ANSWER),
@@ -89,25 +93,54 @@ fn the_header_has_the_numbers_of_the_library() {
     for (name, length) in lengths {
         assert_eq!(defined(&header, name) as usize, length, "{name}");
     }
-    let refusals = [
-        ("CUT", Refusal::Cut),
-        ("TAG", Refusal::Tag),
-        ("LENGTH", Refusal::Length),
-        ("RANGE", Refusal::Range),
-        ("ORDER", Refusal::Order),
-        ("NODES", Refusal::Nodes),
-        ("MISSING", Refusal::Missing),
-        ("SHORT", Refusal::Short),
-        ("NO_LAYOUT", Refusal::NoLayout),
-        ("ROW", Refusal::Row),
-        ("ZONES", Refusal::Zones),
-        ("CAPACITY", Refusal::Capacity),
-        ("PRESENT", Refusal::Present),
-        ("ABSENT", Refusal::Absent),
-    ];
-    for (name, refusal) in refusals {
-        assert_eq!(defined(&header, name), refusal.number(), "{name}");
+}
+
+/// The first lines that begin so, one after the other, behind the one that has the title.
+fn listed<'a>(text: &'a str, title: &str, begin: &str) -> Vec<&'a str> {
+    let lines = text.lines().skip_while(|line| !line.starts_with(title));
+    let lines = lines.skip_while(|line| !line.starts_with(begin));
+    lines.take_while(|line| line.starts_with(begin)).collect()
+}
+
+/// NoLayout as the header has it: NO_LAYOUT.
+fn in_capitals(name: &str) -> String {
+    let mut capitals = String::new();
+    for letter in name.chars() {
+        if letter.is_uppercase() && !capitals.is_empty() {
+            capitals.push('_');
+        }
+        capitals.push(letter.to_ascii_uppercase());
     }
+    capitals
+}
+
+/// Header, document and package have the same refusals: numbers, names and words. Those that the document tells
+/// as reserved are just those that the package does not know.
+#[test]
+fn refusals_are_the_same_everywhere() {
+    let read = |name: &str| std::fs::read_to_string(Path::new(HERE).join(name)).unwrap();
+    let (header, formats) = (read("include/dezghuri.h"), read("../docs/FORMATS.md"));
+    let names = listed(&header, "/* Refusals", "#define DEZGHURI_");
+    let meanings = listed(&formats, "## Refusals", "|").split_off(2);
+    let told = calls("cc", &["-std=c99", "-x", "c"], "texts", &["texts"]);
+    let texts: Vec<&str> = told.lines().collect();
+    assert_eq!((names.len(), meanings.len(), texts.len()), (22, 22, 23));
+    for number in 0..22 {
+        let (name, meaning) = (names[number], meanings[number]);
+        assert!(name.ends_with(&format!(" {number}")), "{name}");
+        assert!(meaning.starts_with(&format!("| {number} | ")), "{meaning}");
+        let refusal = Refusal::from_number(number as u32);
+        let is_reserved = meaning.ends_with(" (reserved) |");
+        assert_eq!(refusal.is_none(), number == 0 || is_reserved, "{meaning}");
+        if let Some(refusal) = refusal {
+            let expected = in_capitals(&format!("{refusal:?}"));
+            assert_eq!(name, format!("#define DEZGHURI_{expected} {number}"));
+            assert_eq!(texts[number], refusal.to_string());
+        }
+    }
+    assert_eq!(Refusal::from_number(22), None);
+    let different: BTreeSet<&str> = texts.iter().copied().collect();
+    assert_eq!(different.len(), 23, "no two have the same words");
 }
 
 #[test]

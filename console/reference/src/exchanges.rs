@@ -10,6 +10,7 @@ mod circuit;
 mod first;
 pub(crate) mod ground;
 mod held;
+mod prices;
 mod search;
 
 use crate::dealing::{caps_at, deal, size, zones};
@@ -19,6 +20,7 @@ use circuit::Circuit;
 use first::Order;
 use ground::{members, Ground, PARTITIONS};
 use held::Held;
+pub use prices::certify_record;
 use search::{Found, Levels};
 
 /// What comes after a turn.

@@ -173,7 +173,7 @@ pub fn read_masks(bytes: &[u8]) -> Result<(Cluster, [u32; 256]), Refused> {
 }
 
 /// The set of the nodes with these ids; both rise.
-fn mask(nodes: &[Node], ids: impl Iterator<Item = u32>) -> u32 {
+pub(crate) fn mask(nodes: &[Node], ids: impl Iterator<Item = u32>) -> u32 {
     let (mut set, mut b) = (0, 0);
     for id in ids {
         while b < nodes.len() && nodes[b].id < id {

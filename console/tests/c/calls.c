@@ -1,4 +1,5 @@
-/* Calls each function of dezghuri.h from C and checks its answers on example A of the paper, and of moves on E.
+/* Calls each function of dezghuri.h from C and checks its answers on example A of the paper, of moves on E, and of
+ * certificates on E, F and K.
  * Prints what is wrong, and ends with status 1 if anything is. */
 #include "dezghuri.h"
 
@@ -46,6 +47,24 @@ static const uint8_t MOVING[42] = {
     4, 0, 12, 0, 0, 0, 2, 0, 1, 0, 0, 0, 4, 1, 0,
 };
 
+/* The same with its former rows, 2 and 2; their ids end at bytes 50 and 59. */
+static const uint8_t HELD[60] = {
+    1, 0, 1, 1, 2, 0, 1, 1, 3, 0, 1, 1,
+    4, 0, 12, 0, 0, 0, 1, 0, 1, 0, 0, 0, 10, 1, 0,
+    4, 0, 12, 0, 0, 0, 2, 0, 1, 0, 0, 0, 4, 1, 0,
+    5, 0, 6, 0, 0, 0, 0, 0, 2, 5, 0, 6, 0, 1, 0, 0, 0, 2,
+};
+
+/* Example K: k 0, R 3, Z 2; nodes 1/1/9, 2/1/9, 3/1/9 and 4/2/1 with the ceiling 256; former row 1 2 3. */
+static const uint8_t ZONES[89] = {
+    1, 0, 1, 0, 2, 0, 1, 3, 3, 0, 1, 2,
+    4, 0, 12, 0, 0, 0, 1, 0, 1, 0, 0, 0, 9, 1, 0,
+    4, 0, 12, 0, 0, 0, 2, 0, 1, 0, 0, 0, 9, 1, 0,
+    4, 0, 12, 0, 0, 0, 3, 0, 1, 0, 0, 0, 9, 1, 0,
+    4, 0, 12, 0, 0, 0, 4, 0, 2, 0, 0, 0, 1, 1, 0,
+    5, 0, 14, 0, 0, 0, 0, 0, 1, 0, 0, 0, 2, 0, 0, 0, 3,
+};
+
 /* Its steps to the rows 1 and 1: each partition is sent to node 1 from node 2, and then dropped there. */
 static const uint32_t STEPS[16] = {
     DEZGHURI_SEND, 0, 1, 2, DEZGHURI_DROP, 0, 2, 0, DEZGHURI_SEND, 1, 1, 2, DEZGHURI_DROP, 1, 2, 0,
@@ -63,6 +82,7 @@ enum {
     WIDE = DEZGHURI_WIDE_CELLS,
     WIDE_ROW = DEZGHURI_WIDE_ROW_CELLS,
     MOVES = DEZGHURI_MOVES_ANSWER,
+    CERTIFY = DEZGHURI_CERTIFY_ANSWER,
 };
 static uint32_t cells[CELLS + 1];
 static uint32_t scratch[SCRATCH + 1];
@@ -106,6 +126,18 @@ static uint32_t check(const uint8_t *record, uint32_t size) {
     return dezghuri_check(record, 57, cells, CELLS, size, answer, DEZGHURI_CHECK_ANSWER);
 }
 
+/* Certifies a layout of one partition or two in rows of so many ids, which come one after the other. */
+static uint32_t certify(const uint8_t *record, size_t length, const uint32_t *ids, size_t rows, uint32_t size) {
+    memset(cells, 0, CELLS * sizeof *cells);
+    const size_t width = record[7];
+    for (size_t i = 0; i < rows * width; i++) cells[i / width * DEZGHURI_ROW_CELLS + i % width] = ids[i];
+    fill(answer, ANSWER + 1);
+    const uint32_t refusal = dezghuri_certify(record, length, cells, CELLS, size, answer, CERTIFY);
+    EXPECT(answer[CERTIFY] == PATTERN);
+    EXPECT(refusal == DEZGHURI_OK || all(answer, DEZGHURI_CERTIFY_PRICES, CERTIFY, 0));
+    return refusal;
+}
+
 static uint32_t count(uint32_t size, size_t room) {
     fill(figures, FIGURES + 1);
     fill(answer, ANSWER + 1);
@@ -139,7 +171,7 @@ static uint32_t list(const uint8_t *record, size_t length, size_t held, size_t r
     const int is_short = refusal == DEZGHURI_SHORT && held >= WIDE && rows >= CELLS;
     EXPECT(is_short || (count == refusal && holds(counted, answer, MOVES)));
     EXPECT(answer[MOVES] == PATTERN && counted[MOVES] == PATTERN);
-    EXPECT(all(moves, 4 * answer[3], 17, PATTERN));
+    EXPECT(all(moves, DEZGHURI_STEP_CELLS * answer[DEZGHURI_MOVES_STEPS], 17, PATTERN));
     return refusal;
 }
 
@@ -147,13 +179,14 @@ static uint32_t list(const uint8_t *record, size_t length, size_t held, size_t r
 static size_t record_made(uint8_t *record) {
     size_t length = 0;
     for (uint32_t i = 0; i < 3; i++) {
-        const uint8_t field[4] = {(uint8_t)(i + 1), 0, 1, (uint8_t)made[5 + i]};
+        const uint8_t field[4] = {(uint8_t)(i + 1), 0, 1, (uint8_t)made[DEZGHURI_CHANGE_BITS + i]};
         memcpy(record + length, field, 4);
         length += 4;
     }
-    for (uint32_t b = 0; b < made[8]; b++) {
-        const uint32_t *node = made + 9 + 4 * b;
-        const uint32_t id = node[0], zone = node[1], capacity = node[2], ceiling = node[3];
+    for (uint32_t b = 0; b < made[DEZGHURI_CHANGE_NODES]; b++) {
+        const uint32_t *node = made + DEZGHURI_CHANGE_FIRST_NODE + DEZGHURI_NODE_CELLS * b;
+        const uint32_t id = node[DEZGHURI_NODE_ID], zone = node[DEZGHURI_NODE_ZONE];
+        const uint32_t capacity = node[DEZGHURI_NODE_CAPACITY], ceiling = node[DEZGHURI_NODE_CEILING];
         const uint8_t field[15] = {
             4, 0, 12, (uint8_t)(id >> 24), (uint8_t)(id >> 16), (uint8_t)(id >> 8), (uint8_t)id,
             (uint8_t)(zone >> 8), (uint8_t)zone, (uint8_t)(capacity >> 24), (uint8_t)(capacity >> 16),
@@ -170,6 +203,9 @@ static void reading_a_cluster(void) {
     static const uint32_t refused[6] = {0, 42, 0, 1, 1, 0};
     EXPECT(read_cluster(CLUSTER, 57, CELLS + 1) == DEZGHURI_OK);
     EXPECT(holds(answer, read, 18) && all(answer, 18, ANSWER, 0));
+    EXPECT(answer[DEZGHURI_READ_CLUSTER_BITS] == 1 && answer[DEZGHURI_READ_CLUSTER_REPLICATION] == 3);
+    EXPECT(answer[DEZGHURI_READ_CLUSTER_REDUNDANCY] == 2 && answer[DEZGHURI_READ_CLUSTER_NODES] == 3);
+    EXPECT(answer[DEZGHURI_READ_CLUSTER_FIRST_NODE + DEZGHURI_NODE_CELLS + DEZGHURI_NODE_CAPACITY] == 70);
     EXPECT(answer[ANSWER] == PATTERN);
     EXPECT(all(cells, 0, CELLS, 0) && cells[CELLS] == PATTERN);
 
@@ -184,7 +220,9 @@ static void planning(void) {
     static const uint32_t numbers[6] = {0, 0, 23, 6, DEZGHURI_FINISHED, 0};
     static const uint32_t rows[16] = {1, 2, 3, 0, 0, 0, 0, 0, 1, 2, 3, 0, 0, 0, 0, 0};
     EXPECT(plan(CLUSTER, DEZGHURI_ENOUGH_ALLOWANCE) == DEZGHURI_OK);
-    EXPECT(holds(answer, numbers, 6) && answer[6] == PATTERN);
+    EXPECT(holds(answer, numbers, 6) && answer[DEZGHURI_PLAN_ANSWER] == PATTERN);
+    EXPECT(answer[DEZGHURI_PLAN_SIZE] == 23 && answer[DEZGHURI_PLAN_SENT] == 6);
+    EXPECT(answer[DEZGHURI_PLAN_VERDICT] == DEZGHURI_FINISHED && answer[DEZGHURI_PLAN_IMPROVEMENTS] == 0);
     EXPECT(holds(cells, rows, 16) && all(cells, 16, CELLS, 0) && cells[CELLS] == PATTERN);
     EXPECT(all(scratch, 0, SCRATCH, 0) && scratch[SCRATCH] == PATTERN);
 
@@ -197,7 +235,7 @@ static void planning(void) {
     EXPECT(all(scratch, 0, SCRATCH, 0) && scratch[SCRATCH] == PATTERN);
     other[11] = 4; /* more zones than copies */
     EXPECT(plan(other, 0) == DEZGHURI_RANGE);
-    EXPECT(answer[1] == 8);
+    EXPECT(answer[DEZGHURI_BYTE_LOW] == 8);
     EXPECT(all(scratch, 0, SCRATCH + 1, PATTERN));
 }
 
@@ -207,10 +245,14 @@ static void reading_a_layout(void) {
     static const uint32_t rows[16] = {1, 2, 3, 0, 0, 0, 0, 0, 1, 2, 3, 0, 0, 0, 0, 0};
     fill(cells, CELLS + 1);
     EXPECT(dezghuri_read_layout(LAYOUT, 46, cells, CELLS, answer, 8) == DEZGHURI_MISSING);
-    EXPECT(answer[1] == 46 && all(answer, 2, 8, 0));
+    EXPECT(answer[DEZGHURI_BYTE_LOW] == 46 && all(answer, 2, 8, 0));
     EXPECT(all(cells, 0, CELLS + 1, PATTERN));
     EXPECT(dezghuri_read_layout(LAYOUT, 63, cells, CELLS, answer, 8) == DEZGHURI_OK);
     EXPECT(holds(answer, numbers, 8));
+    EXPECT(answer[DEZGHURI_READ_LAYOUT_BITS] == 1 && answer[DEZGHURI_READ_LAYOUT_REPLICATION] == 3);
+    EXPECT(answer[DEZGHURI_READ_LAYOUT_SIZE] == 23 && answer[DEZGHURI_READ_LAYOUT_SENT] == 6);
+    EXPECT(answer[DEZGHURI_READ_LAYOUT_VERDICT] == DEZGHURI_FINISHED);
+    EXPECT(answer[DEZGHURI_READ_LAYOUT_IMPROVEMENTS] == 0);
     EXPECT(holds(cells, rows, 16) && all(cells, 16, CELLS, 0) && cells[CELLS] == PATTERN);
 }
 
@@ -218,15 +260,15 @@ static void a_layout_in_hand(void) {
     static const uint32_t copies[3] = {2, 2, 2}, in_zones[3] = {4, 4, 2};
     static const uint32_t shown[DEZGHURI_ROW_CELLS] = {1, 2, 3, 0, 0, 0, 0, 0};
     EXPECT(check(CLUSTER, 23) == DEZGHURI_OK && all(answer, 0, 3, 0));
-    EXPECT(check(CLUSTER, 24) == DEZGHURI_CAPACITY && answer[2] == 3);
-    EXPECT(check(CLUSTER, 25) == DEZGHURI_CAPACITY && answer[2] == 3); /* it fills the disk to the brim */
+    EXPECT(check(CLUSTER, 24) == DEZGHURI_CAPACITY && answer[DEZGHURI_PLACE] == 3);
+    EXPECT(check(CLUSTER, 25) == DEZGHURI_CAPACITY && answer[DEZGHURI_PLACE] == 3); /* it fills the disk to the brim */
     EXPECT(check(CLUSTER, 0) == DEZGHURI_RANGE && all(answer, 0, 3, 0));
 
     EXPECT(count(23, FIGURES + 1) == DEZGHURI_OK);
-    EXPECT(holds(figures, copies, 3) && all(figures, 3, 32, 0));
-    EXPECT(holds(figures + 32, in_zones, 3) && all(figures, 35, 64, 0));
+    EXPECT(holds(figures + DEZGHURI_FIGURES_COPIES, copies, 3) && all(figures, 3, 32, 0));
+    EXPECT(holds(figures + DEZGHURI_FIGURES_ZONE_COPIES, in_zones, 3) && all(figures, 35, 64, 0));
     EXPECT(figures[FIGURES] == PATTERN);
-    EXPECT(answer[3] == 0 && answer[4] == (94 + 66 + 47) / 6);
+    EXPECT(answer[DEZGHURI_FIGURES_HOPE_HIGH] == 0 && answer[DEZGHURI_FIGURES_HOPE_LOW] == (94 + 66 + 47) / 6);
     EXPECT(count(23, FIGURES - 1) == DEZGHURI_SHORT && all(figures, 0, FIGURES + 1, PATTERN));
 
     uint32_t row[DEZGHURI_ROW_CELLS];
@@ -245,27 +287,29 @@ static void ceilings(void) {
     other[40] = 0, other[41] = 2;
     EXPECT(check(other, 23) == DEZGHURI_OK && all(answer, 0, 3, 0));
     other[41] = 1; /* one partition of two, and there is no other row */
-    EXPECT(check(other, 1) == DEZGHURI_CAPACITY && answer[2] == 2);
+    EXPECT(check(other, 1) == DEZGHURI_CAPACITY && answer[DEZGHURI_PLACE] == 2);
     EXPECT(plan(other, DEZGHURI_ENOUGH_ALLOWANCE) == DEZGHURI_NO_LAYOUT);
     other[40] = 1; /* 257 */
-    EXPECT(check(other, 1) == DEZGHURI_RANGE && answer[1] == 27 && answer[2] == 0);
-    EXPECT(plan(other, 0) == DEZGHURI_RANGE && answer[1] == 27);
-    EXPECT(read_cluster(other, 57, CELLS) == DEZGHURI_RANGE && answer[1] == 27);
-    EXPECT(change(other, 57, CHANGES, 33, 0) == DEZGHURI_RANGE && made[1] == 27 && made[8] == 0);
+    EXPECT(check(other, 1) == DEZGHURI_RANGE && answer[DEZGHURI_BYTE_LOW] == 27 && answer[DEZGHURI_PLACE] == 0);
+    EXPECT(plan(other, 0) == DEZGHURI_RANGE && answer[DEZGHURI_BYTE_LOW] == 27);
+    EXPECT(read_cluster(other, 57, CELLS) == DEZGHURI_RANGE && answer[DEZGHURI_BYTE_LOW] == 27);
+    EXPECT(change(other, 57, CHANGES, 33, 0) == DEZGHURI_RANGE && made[DEZGHURI_BYTE_LOW] == 27);
+    EXPECT(made[DEZGHURI_CHANGE_NODES] == 0);
     other[29] = 10; /* a node without a ceiling */
-    EXPECT(read_cluster(other, 57, CELLS) == DEZGHURI_LENGTH && answer[1] == 27);
-    EXPECT(read_cluster(other, 30, CELLS) == DEZGHURI_LENGTH && answer[1] == 27);
+    EXPECT(read_cluster(other, 57, CELLS) == DEZGHURI_LENGTH && answer[DEZGHURI_BYTE_LOW] == 27);
+    EXPECT(read_cluster(other, 30, CELLS) == DEZGHURI_LENGTH && answer[DEZGHURI_BYTE_LOW] == 27);
 }
 
 static void writing(void) {
     uint8_t out[64];
     EXPECT(write(3, 23, 6, out, 64) == DEZGHURI_OK);
-    EXPECT(answer[0] == 0 && answer[1] == 63 && answer[2] == PATTERN);
+    EXPECT(answer[DEZGHURI_WRITE_LAYOUT_LENGTH_HIGH] == 0 && answer[DEZGHURI_WRITE_LAYOUT_LENGTH_LOW] == 63);
+    EXPECT(answer[DEZGHURI_WRITE_LAYOUT_ANSWER] == PATTERN);
     EXPECT(memcmp(out, LAYOUT, 63) == 0 && out[63] == 0x5A);
     EXPECT(write(3, 23, 6, out, 62) == DEZGHURI_SHORT && out[0] == 0x5A);
     EXPECT(write(2, 23, 6, out, 64) == DEZGHURI_ROW && out[0] == 0x5A);
     EXPECT(write(3, 0, 6, out, 64) == DEZGHURI_RANGE && out[0] == 0x5A);
-    EXPECT(answer[0] == 0 && answer[1] == 0);
+    EXPECT(all(answer, 0, DEZGHURI_WRITE_LAYOUT_ANSWER, 0));
 }
 
 /* No layout has more than 2,048 copies. Field 7 begins at byte 15. */
@@ -275,10 +319,10 @@ static void most_copies_sent(void) {
     EXPECT(write(3, 23, 2048, out, 64) == DEZGHURI_OK);
     EXPECT(out[15] == 7 && out[18] == 8 && out[19] == 0);
     EXPECT(dezghuri_read_layout(out, 63, cells, CELLS, answer, 8) == DEZGHURI_OK);
-    EXPECT(answer[5] == 2048);
+    EXPECT(answer[DEZGHURI_READ_LAYOUT_SENT] == 2048);
     out[19] = 1;
     EXPECT(dezghuri_read_layout(out, 63, cells, CELLS, answer, 8) == DEZGHURI_RANGE);
-    EXPECT(answer[0] == 0 && answer[1] == 15 && all(answer, 2, 8, 0));
+    EXPECT(answer[DEZGHURI_BYTE_HIGH] == 0 && answer[DEZGHURI_BYTE_LOW] == 15 && all(answer, 2, 8, 0));
 }
 
 /* Each cluster made becomes the record of the next call; the reverses, made in backward order, restore the
@@ -294,16 +338,17 @@ static void changing_and_undoing(void) {
         EXPECT(change(record, length, CHANGES, 33, at) == DEZGHURI_OK);
         EXPECT(reverse[REVERSE] == 0x5A && made[MADE] == PATTERN);
         memcpy(reverses[i], reverse, REVERSE);
-        lengths[i] = made[4];
-        at = made[3];
+        lengths[i] = made[DEZGHURI_CHANGE_REVERSE_LENGTH];
+        at = made[DEZGHURI_CHANGE_NEXT_LOW];
         length = record_made(record);
     }
     EXPECT(holds(made, last, 21) && all(made, 21, MADE, 0));
+    EXPECT(made[DEZGHURI_CHANGE_REPLICATION] == 3 && made[DEZGHURI_CHANGE_REDUNDANCY] == 2);
     EXPECT(memcmp(reverses[1], removed, REVERSE) == 0);
     EXPECT(memcmp(reverses[2], resized, REVERSE) == 0);
     for (int i = 2; i >= 0; i--) {
         EXPECT(change(record, length, reverses[i], lengths[i], 0) == DEZGHURI_OK);
-        EXPECT(made[2] == 0 && made[3] == lengths[i]);
+        EXPECT(made[DEZGHURI_CHANGE_NEXT_HIGH] == 0 && made[DEZGHURI_CHANGE_NEXT_LOW] == lengths[i]);
         length = record_made(record);
     }
     EXPECT(length == 57 && memcmp(record, CLUSTER, 57) == 0);
@@ -321,16 +366,16 @@ static void refused_changes(void) {
     uint8_t changes[33];
     memcpy(changes, CHANGES, 33);
     changes[6] = 3;
-    EXPECT(change(CLUSTER, 57, changes, 33, 0) == DEZGHURI_PRESENT && made[3] == 0 && kept());
+    EXPECT(change(CLUSTER, 57, changes, 33, 0) == DEZGHURI_PRESENT && made[DEZGHURI_CHANGE_NEXT_LOW] == 0 && kept());
     changes[13] = 255; /* a ceiling above 256, which is looked at before the id */
-    EXPECT(change(CLUSTER, 57, changes, 33, 0) == DEZGHURI_RANGE && made[3] == 0 && kept());
+    EXPECT(change(CLUSTER, 57, changes, 33, 0) == DEZGHURI_RANGE && made[DEZGHURI_CHANGE_NEXT_LOW] == 0 && kept());
     changes[21] = 4;
     EXPECT(change(CLUSTER, 57, changes, 33, 15) == DEZGHURI_ABSENT && kept());
     EXPECT(holds(made, read, 21) && all(made, 21, MADE, 0));
-    EXPECT(change(CLUSTER, 57, changes, 32, 22) == DEZGHURI_CUT && made[3] == 22 && kept());
-    EXPECT(change(CLUSTER, 57, changes, 33, 33) == DEZGHURI_MISSING && made[3] == 33 && kept());
+    EXPECT(change(CLUSTER, 57, changes, 32, 22) == DEZGHURI_CUT && made[DEZGHURI_CHANGE_NEXT_LOW] == 22 && kept());
+    EXPECT(change(CLUSTER, 57, changes, 33, 33) == DEZGHURI_MISSING && made[DEZGHURI_CHANGE_NEXT_LOW] == 33 && kept());
     EXPECT(change(CLUSTER, 57, changes, 33, SIZE_MAX) == DEZGHURI_MISSING && kept());
-    EXPECT(made[2] == SIZE_MAX >> 16 >> 16 && made[3] == 0xFFFFFFFF);
+    EXPECT(made[DEZGHURI_CHANGE_NEXT_HIGH] == SIZE_MAX >> 16 >> 16 && made[DEZGHURI_CHANGE_NEXT_LOW] == 0xFFFFFFFF);
     EXPECT(change(CLUSTER, 56, changes, 33, 15) == DEZGHURI_CUT && kept());
     EXPECT(holds(made, none, 9) && all(made, 9, MADE, 0));
 
@@ -359,6 +404,8 @@ static void moving(void) {
     memcpy(cells_before, cells, sizeof cells);
     EXPECT(list(MOVING, 42, WIDE + 1, CELLS + 1, 17) == DEZGHURI_OK);
     EXPECT(holds(answer, numbers, MOVES) && holds(moves, STEPS, 16));
+    EXPECT(moves[DEZGHURI_STEP_KIND] == DEZGHURI_SEND && moves[DEZGHURI_STEP_SOURCE] == 2);
+    EXPECT(moves[2 * DEZGHURI_STEP_CELLS + DEZGHURI_STEP_PARTITION] == 1 && moves[DEZGHURI_STEP_NODE] == 1);
     EXPECT(list(MOVING, 42, WIDE, CELLS, 16) == DEZGHURI_OK && holds(moves, STEPS, 16));
     EXPECT(list(MOVING, 42, WIDE, CELLS, 15) == DEZGHURI_SHORT && all(answer, 0, MOVES, 0));
     EXPECT(holds(wide, wide_before, WIDE + 1) && holds(cells, cells_before, CELLS + 1));
@@ -378,12 +425,14 @@ static void refused_moves(void) {
     other[24] = 1; /* node 1 takes one of the two copies */
     hold(2, 2);
     cells[DEZGHURI_ROW_CELLS] = 3;
-    EXPECT(list(other, 41, 0, 0, 0) == DEZGHURI_CUT && answer[1] == 27 && answer[2] == 0);
+    EXPECT(list(other, 41, 0, 0, 0) == DEZGHURI_CUT && answer[DEZGHURI_BYTE_LOW] == 27 && answer[DEZGHURI_PLACE] == 0);
     EXPECT(list(other, 42, WIDE - 1, CELLS, 0) == DEZGHURI_SHORT && all(answer, 0, MOVES, 0));
     EXPECT(list(other, 42, WIDE, CELLS - 1, 0) == DEZGHURI_SHORT && all(answer, 0, MOVES, 0));
-    EXPECT(list(other, 42, WIDE, CELLS, 0) == DEZGHURI_ROW && answer[2] == 1 && answer[3] == 0);
+    EXPECT(list(other, 42, WIDE, CELLS, 0) == DEZGHURI_ROW && answer[DEZGHURI_PLACE] == 1);
+    EXPECT(answer[DEZGHURI_MOVES_STEPS] == 0);
     cells[DEZGHURI_ROW_CELLS] = 1;
-    EXPECT(list(other, 42, WIDE, CELLS, 0) == DEZGHURI_CAPACITY && answer[2] == 1 && answer[3] == 0);
+    EXPECT(list(other, 42, WIDE, CELLS, 0) == DEZGHURI_CAPACITY && answer[DEZGHURI_PLACE] == 1);
+    EXPECT(answer[DEZGHURI_MOVES_STEPS] == 0);
     EXPECT(list(MOVING, 42, WIDE, CELLS, 0) == DEZGHURI_ORDER && all(answer, 0, MOVES, 0));
 
     fill(answer, ANSWER + 1);
@@ -393,7 +442,56 @@ static void refused_moves(void) {
     EXPECT(all(moves, 0, 17, PATTERN) && all(answer, 0, ANSWER + 1, PATTERN));
 }
 
-int main(void) {
+/* Whether nothing is refused, and the prices are 0 but for those of the first two nodes. */
+static int prices(uint32_t refusal, uint32_t first, uint32_t second) {
+    const uint32_t *found = answer + DEZGHURI_CERTIFY_PRICES;
+    return refusal == DEZGHURI_OK && all(answer, 0, DEZGHURI_CERTIFY_PRICES, 0) && found[0] == first &&
+           found[1] == second && all(found, 2, DEZGHURI_MOST_NODES, 0);
+}
+
+/* Of E both partitions have to leave node 2, which has no room for 5 MB and the price 1: 2 x 1 - 0 = 2 are sent. Of
+ * F one has to leave node 1, whose room for one costs 1: 2 x 1 - 1 = 1; both layouts have these prices. Of K no
+ * price is needed: the cheapest row, 1 2 4, costs 0 + 0 + 1. */
+static void certifying(void) {
+    static const uint32_t ones[2] = {1, 1}, apart[2] = {1, 2}, crossed[2] = {2, 1}, row[3] = {1, 2, 4};
+    uint8_t other[60];
+    memcpy(other, HELD, 60);
+    EXPECT(prices(certify(HELD, 60, ones, 2, 5), 0, 1));
+    other[39] = 10, other[50] = 1, other[59] = 1; /* example F */
+    EXPECT(prices(certify(other, 60, apart, 2, 10), 1, 0));
+    EXPECT(prices(certify(other, 60, crossed, 2, 10), 1, 0));
+    EXPECT(prices(certify(ZONES, 89, row, 1, 1), 0, 0));
+
+    EXPECT(certify(HELD, 60, ones, 2, 4) == DEZGHURI_LARGER && all(answer, 0, CERTIFY, 0));
+    other[59] = 2; /* the former rows are 1 and 2, and can stay */
+    EXPECT(prices(certify(other, 60, apart, 2, 10), 0, 0));
+    EXPECT(certify(other, 60, crossed, 2, 10) == DEZGHURI_FEWER && all(answer, 0, CERTIFY, 0));
+    EXPECT(certify(other, 60, crossed, 2, 9) == DEZGHURI_LARGER); /* the size comes first */
+}
+
+static void refused_certificates(void) {
+    static const uint32_t ones[2] = {1, 1}, gone[2] = {1, 3}, former[3] = {1, 2, 3}, row[3] = {1, 2, 4};
+    EXPECT(certify(HELD, 60, ones, 2, 6) == DEZGHURI_CAPACITY && answer[DEZGHURI_PLACE] == 1);
+    EXPECT(certify(HELD, 60, gone, 2, 5) == DEZGHURI_ROW && answer[DEZGHURI_PLACE] == 1);
+    EXPECT(certify(HELD, 60, ones, 2, 0) == DEZGHURI_RANGE && all(answer, 0, CERTIFY, 0));
+    EXPECT(certify(HELD, 59, ones, 2, 5) == DEZGHURI_CUT && answer[DEZGHURI_BYTE_LOW] == 51);
+    EXPECT(certify(ZONES, 89, former, 1, 1) == DEZGHURI_ZONES && all(answer, 0, CERTIFY, 0)); /* partition 0 */
+    EXPECT(certify(ZONES, 89, row, 1, 2) == DEZGHURI_CAPACITY && answer[DEZGHURI_PLACE] == 4);
+
+    EXPECT(dezghuri_certify(ZONES, 89, cells, CELLS - 1, 1, answer, CERTIFY) == DEZGHURI_SHORT);
+    EXPECT(all(answer, 0, CERTIFY, 0));
+    fill(answer, ANSWER + 1);
+    EXPECT(dezghuri_certify(ZONES, 89, cells, CELLS, 1, answer, CERTIFY - 1) == DEZGHURI_SHORT);
+    EXPECT(all(answer, 0, ANSWER + 1, PATTERN));
+}
+
+/* With the word `texts` it prints the refusals in words, a line for each number from 0 on, and calls nothing. */
+int main(int given, char **words) {
+    if (given == 2 && strcmp(words[1], "texts") == 0) {
+        for (uint32_t n = DEZGHURI_OK; n <= DEZGHURI_SEQUENCE; n++) puts(dezghuri_refusal_text(n));
+        puts(dezghuri_refusal_text(UINT32_MAX));
+        return 0;
+    }
     reading_a_cluster();
     planning();
     reading_a_layout();
@@ -405,5 +503,7 @@ int main(void) {
     refused_changes();
     moving();
     refused_moves();
+    certifying();
+    refused_certificates();
     return faults != 0;
 }

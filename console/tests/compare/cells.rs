@@ -6,6 +6,7 @@ use crate::{soak_factor, soak_seed};
 use dezghuri::ffi;
 use reference::cells::{cells_of, check, figures, hope, layout_of, CELLS};
 use reference::certificate::{self, Fault};
+use reference::exchanges::certify_record;
 use reference::random::Random;
 use reference::records::cluster_record;
 use reference::{report, Cluster, Layout, Node};
@@ -87,6 +88,8 @@ fn agrees(c: &Cluster, cells: &[u32], size: u32, r: &mut Random) -> u32 {
         _ => Err((refusal, 0, place)),
     };
     assert_eq!(lent::certify(&record, cells, size, r), expected, "{c:?}");
+    let plain = certify_record(&record, cells, size).map(Vec::from);
+    assert_eq!(plain, expected.map_err(|(refusal, ..)| refusal), "{c:?}");
     refusal
 }
 

@@ -7,6 +7,7 @@ use crate::{soak_factor, soak_seed};
 use dezghuri::{Certificate, Group, Line};
 use reference::cells::cells_of;
 use reference::certificate::{cheapest, cheapest_by_prices, check, proved, Fault};
+use reference::exchanges::certify_record;
 use reference::random::Random;
 use reference::records::{cluster_record, read_cluster};
 use reference::{report, Cluster, Layout, Node};
@@ -25,7 +26,14 @@ pub fn judge(record: &[u8], planned: &Planned) {
     let r = &mut Random::new(planned.sent.into());
     let (c, former) = read_cluster(record).expect("it was planned");
     let check = |prices: &[u64]| check(&c, &former, &planned.layout, planned.size.into(), prices);
-    let certified = lent::certify(record, &cells_of(&planned.layout), planned.size, r);
+    let cells = cells_of(&planned.layout);
+    let certified = lent::certify(record, &cells, planned.size, r);
+    let plain = certify_record(record, &cells, planned.size);
+    assert_eq!(
+        plain.ok().map(Vec::from),
+        certified.clone().ok(),
+        "by the plain program"
+    );
     if planned.finished {
         let prices = prices_of(&c, &certified.expect("it is finished"));
         assert_eq!(check(&prices), Ok(()), "{c:?} {former:?}");

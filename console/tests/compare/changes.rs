@@ -292,7 +292,7 @@ fn chain_comes_back(r: &mut Random) -> u64 {
     made.len() as u64
 }
 
-/// The library stages the same fields all at once, and undoes them all at once.
+/// The library stages the same fields all at once, undoes them all at once, and makes them one by one.
 fn the_library_agrees(first: &Cluster, last: &Cluster, made: &[(Vec<u8>, Vec<u8>)]) {
     if made.is_empty() {
         return;
@@ -306,6 +306,11 @@ fn the_library_agrees(first: &Cluster, last: &Cluster, made: &[(Vec<u8>, Vec<u8>
     let back = own.change_all(&undo);
     assert_eq!((back.refused, back.undo), (None, record));
     assert_eq!(own, in_hand(first));
+    let change = |field: &[u8]| dezghuri::Change::from_field(field).expect("it was made");
+    for (field, reverse) in made {
+        assert_eq!(own.change(change(field)), Ok(change(reverse)));
+    }
+    assert_eq!(own, in_hand(last));
 }
 
 fn try_chains(seed: u64, cases: u64) {
@@ -328,7 +333,7 @@ fn try_clusters_at_fault(seed: u64, cases: u64) {
         let (changes, starts) = some_changes(&c, &mut r);
         let at = some_byte(&changes, &starts, &mut r);
         let (mut own, before) = (in_hand(&c), in_hand(&c));
-        let answered = own.change(&changes, at);
+        let answered = own.change_at(&changes, at);
         met[fault(&c) as usize] += 1;
         if fault(&c) != 0 {
             let refused = answered.expect_err("the cluster is at fault");

@@ -130,7 +130,8 @@ fn the_most_copies_are_sent_and_written() {
     }
 }
 
-/// The header promises both of every call; planning the largest cluster is the one that takes most.
+/// The header promises both of every call; planning the largest cluster is the one that takes most, and each plan
+/// is certified on the same stack.
 #[test]
 fn threads_with_little_stack_call_at_once() {
     let (c, former) = (largest(4, 9, |b| 5000 + 97 * b), neighbours());

@@ -45,6 +45,12 @@ impl Held {
         self.room |= u32::from(self.copies[b] < g.caps[b]) << b;
     }
 
+    /// Whether no node has more copies than its cap.
+    pub fn is_within(&self, g: &Ground) -> bool {
+        let mut copies = self.copies.iter().zip(&g.caps);
+        copies.all(|(copies, cap)| copies <= cap)
+    }
+
     pub fn has_room(&self, b: usize) -> bool {
         has(self.room, b)
     }

@@ -5,7 +5,7 @@ use crate::failure::Failure;
 use crate::json::Json;
 use crate::labels;
 use dezghuri::units::capacity_in_words;
-use dezghuri::{Changed, Description, Label, Node, Note, Refusal, Refused};
+use dezghuri::{Description, Label, Node, Note, Refusal, Refused};
 
 /// A change that is written well; whether its box is there is seen when it is made.
 pub enum Step {
@@ -132,7 +132,7 @@ impl Step {
             }
             Step::Ceiling(id, ceiling) => return limit(described, *id, *ceiling),
         };
-        let made = make(described, &change.to_field(), 0, label);
+        let made = make(described, change, label);
         made.map(drop)
             .map_err(|refused| match (refused.refusal, self) {
                 (Refusal::Absent, Step::Remove(id)) => {
@@ -185,19 +185,18 @@ impl Step {
     }
 }
 
-/// Makes the change at this byte of a change record by the proved function. The labels go with their
-/// boxes, and the one that is handed in with a new box.
+/// Makes a change by the proved function; the one that reverses it. The labels go with their boxes, and the
+/// one that is handed in with a new box.
 pub fn make(
     described: &mut Description,
-    record: &[u8],
-    at: usize,
+    change: dezghuri::Change,
     label: Label,
-) -> Result<Changed, Refused> {
+) -> Result<dezghuri::Change, Refused> {
     let before = described.clone();
-    let changed = described.cluster.change(record, at)?;
+    let reverse = described.cluster.change(change)?;
     let known = |node: &Node| before.label(node.id).unwrap_or(&label).clone();
     described.labels = described.cluster.nodes.iter().map(known).collect();
-    Ok(changed)
+    Ok(reverse)
 }
 
 /// Gives a box another ceiling.

@@ -82,7 +82,7 @@ fn in_words(staged: &Staged, made: &Made) -> String {
         return format!("Nothing is staged for {file}.\n");
     }
     let undo = made.last.as_ref();
-    let undo = undo.and_then(|undo| undo.in_words(&made.described));
+    let undo = undo.map(|undo| undo.in_words(&made.described));
     let undo = undo.map_or(".".into(), |words| format!(": {words}."));
     let last = match staged.entries.len() {
         1 => "takes it back",

@@ -6,7 +6,7 @@ use crate::changes::make;
 use crate::json::Json;
 use crate::labels;
 use dezghuri::units::capacity_in_words;
-use dezghuri::{Change, Changed, Description, Label, Node, Place, Refusal, Refused};
+use dezghuri::{Change, Description, Label, Node, Place, Refusal, Refused};
 
 /// What the changes come to.
 pub struct Made {
@@ -37,27 +37,18 @@ pub struct NotMade {
 /// What the last change was made on, and the change that reverses it.
 pub struct Undo {
     before: Description,
-    reverse: Vec<u8>,
-}
-
-/// A change record without the owner's words.
-struct Record {
-    bytes: Vec<u8>,
-    /// The byte at which each change begins here; in the file it begins elsewhere.
-    begins: Vec<usize>,
+    reverse: Change,
 }
 
 impl Made {
     pub fn new(known: &Description, entries: &[Entry]) -> Made {
         let (described, changes) = zones::numbered(known, entries);
-        let record = Record::new(&changes);
         let mut made = Made {
             described,
             steps: Vec::new(),
             last: None,
             refused: None,
         };
-        let mut at = 0;
         for (entry, change) in entries.iter().zip(&changes) {
             made.steps
                 .push(Step::new(change, &entry.label(), &made.described));
@@ -65,50 +56,25 @@ impl Made {
                 continue;
             }
             let before = made.described.clone();
-            match make(&mut made.described, &record.bytes, at, entry.label()) {
-                Ok(Changed { next, reverse }) => {
-                    at = next;
-                    made.last = Some(Undo { before, reverse });
-                }
-                Err(refused) => made.refuse(refused, &record, entries),
+            match make(&mut made.described, *change, entry.label()) {
+                Ok(reverse) => made.last = Some(Undo { before, reverse }),
+                Err(refused) => made.refuse(refused.refusal, entry),
             }
         }
         made
     }
 
-    fn refuse(&mut self, refused: Refused, record: &Record, entries: &[Entry]) {
-        let place = match refused.place {
-            Some(Place::Byte(byte)) => record.place_of(byte),
-            _ => None,
-        };
-        let place = place.unwrap_or(self.steps.len() - 1);
-        let entry = &entries[place];
+    /// The change of the last step is refused.
+    fn refuse(&mut self, refusal: Refusal, entry: &Entry) {
         self.last = None;
         self.refused = Some(NotMade {
-            number: place + 1,
+            number: self.steps.len(),
             refused: Refused {
-                refusal: refused.refusal,
+                refusal,
                 place: Some(Place::Byte(entry.byte as u64)),
             },
-            why: why(&entry.change, refused.refusal),
+            why: why(&entry.change, refusal),
         });
-    }
-}
-
-impl Record {
-    fn new(changes: &[Change]) -> Record {
-        let (mut bytes, mut begins) = (Vec::new(), Vec::new());
-        for change in changes {
-            begins.push(bytes.len());
-            bytes.extend(change.to_field());
-        }
-        Record { bytes, begins }
-    }
-
-    /// The place among all changes of the one that begins at a byte.
-    fn place_of(&self, byte: u64) -> Option<usize> {
-        let mut begins = self.begins.iter();
-        begins.position(|begins| *begins as u64 == byte)
     }
 }
 
@@ -117,14 +83,13 @@ impl Undo {
     /// before the last one, box for box.
     pub fn restores(&self, after: &Description) -> bool {
         let mut cluster = after.cluster.clone();
-        cluster.change(&self.reverse, 0).is_ok() && cluster == self.before.cluster
+        cluster.change(self.reverse).is_ok() && cluster == self.before.cluster
     }
 
     /// The reverse in words.
-    pub fn in_words(&self, after: &Description) -> Option<String> {
-        let change = Change::from_field(&self.reverse)?;
-        let label = labels::of(&self.before, change.id());
-        Some(Step::new(&change, &label, after).words)
+    pub fn in_words(&self, after: &Description) -> String {
+        let label = labels::of(&self.before, self.reverse.id());
+        Step::new(&self.reverse, &label, after).words
     }
 }
 
