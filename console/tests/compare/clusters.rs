@@ -88,7 +88,7 @@ fn at_a_sixteen(kind: Kind, r: &mut Random) -> u64 {
 /// Zone numbers from both ends of their range.
 fn zone(place: u64) -> u16 {
     let place = place as u16;
-    if place % 2 == 0 {
+    if place.is_multiple_of(2) {
         place / 2
     } else {
         u16::MAX - place / 2
