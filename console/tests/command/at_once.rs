@@ -1,9 +1,13 @@
 //! Calls that write at the same time: each comes after another, and what was told as written is there.
 
 mod held;
+mod layouts;
 
-use crate::folder::{Done, Folder};
+use crate::folder::{Done, Folder, Library};
 use crate::read_json::{read, Value};
+use std::process::Stdio;
+use std::thread::sleep;
+use std::time::Duration;
 
 /// Three boxes, and room for many more.
 const SHOP: &str = "copies 2\nzones 1\nbits 1\nbox 1 home 4T\nbox 2 shop 2T\nbox 3 home 4T\n";
@@ -109,7 +113,7 @@ fn what_is_staged_while_it_is_applied_is_not_lost() {
     for line in &before {
         assert_eq!(folder.call(line).status, 0);
     }
-    let mut lines = during.clone();
+    let mut lines = during;
     lines.insert(4, "apply shop.txt".into());
     let done = folder.call_at_once(&lines);
     let mut all = written(&lines, &done);
@@ -127,4 +131,23 @@ fn what_is_staged_while_it_is_applied_is_not_lost() {
         );
     }
     assert_eq!(folder.path("shop.txt.old").exists(), is_applied);
+}
+
+/// Who only reads waits for nobody, and sees each change once, staged or in the text: also where all is
+/// applied between its look at the one and at the other.
+#[test]
+fn whoever_reads_while_all_is_applied_sees_all() {
+    let folder = shop("apply-read");
+    let before = stages(10, 4);
+    for line in &before {
+        assert_eq!(folder.call(line).status, 0);
+    }
+    let slow = folder.without(&Library::new("at-once-apply-read"), "speed");
+    let reader = slow.start("stage shop.txt --json", Stdio::piped());
+    sleep(Duration::from_millis(300));
+    assert_eq!(folder.call("apply shop.txt").status, 0);
+    let done = Done::from(reader.wait_with_output().unwrap());
+    assert_eq!((done.status, done.err.as_str()), (0, ""));
+    let expected = boxes_with(&before.iter().collect::<Vec<_>>());
+    assert_eq!(ids(read(&done.out).get("boxes")), expected);
 }

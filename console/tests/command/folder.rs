@@ -2,13 +2,18 @@
 
 use crate::schema;
 use dezghuri::{Layout, Plan, Verdict};
+use std::ffi::OsString;
 use std::fs;
 use std::path::{Path, PathBuf};
 use std::process::{Child, Command, Output, Stdio};
 
 const BINARY: &str = env!("CARGO_BIN_EXE_dezghuri");
 
-pub struct Folder(PathBuf);
+pub struct Folder {
+    path: PathBuf,
+    /// For all calls in it.
+    variables: Vec<(&'static str, OsString)>,
+}
 
 /// What a call came to.
 pub struct Done {
@@ -26,11 +31,22 @@ impl Folder {
             fs::remove_dir_all(&path).expect("an old folder can go");
         }
         fs::create_dir_all(&path).expect("a folder can be made");
-        Folder(path)
+        let variables = Vec::new();
+        Folder { path, variables }
+    }
+
+    /// The same folder, its calls with the library, and without what these words name.
+    pub fn without(&self, library: &Library, lacking: &str) -> Folder {
+        let variables = vec![
+            ("LD_PRELOAD", library.0.as_os_str().into()),
+            ("WITHOUT", lacking.into()),
+        ];
+        let path = self.path.clone();
+        Folder { path, variables }
     }
 
     pub fn path(&self, file: &str) -> PathBuf {
-        self.0.join(file)
+        self.path.join(file)
     }
 
     pub fn write(&self, file: &str, bytes: impl AsRef<[u8]>) {
@@ -43,7 +59,7 @@ impl Folder {
 
     /// The names of all that is in the folder, sorted.
     pub fn names(&self) -> Vec<String> {
-        let entries = fs::read_dir(&self.0).expect("the folder is there");
+        let entries = fs::read_dir(&self.path).expect("the folder is there");
         let name = |entry: fs::DirEntry| entry.file_name().into_string().expect("plain names");
         let mut names: Vec<String> = entries.map(|entry| name(entry.unwrap())).collect();
         names.sort();
@@ -73,7 +89,7 @@ impl Folder {
     pub fn call_closed(&self, words: &str, stream: &str) -> Done {
         let mut shell = Command::new("sh");
         let line = format!("exec \"$0\" {words} {stream}&-");
-        shell.current_dir(&self.0).args(["-c", &line, BINARY]);
+        shell.current_dir(&self.path).args(["-c", &line, BINARY]);
         finish(&mut shell)
     }
 
@@ -86,13 +102,11 @@ impl Folder {
         finish(&mut command)
     }
 
-    /// Calls it with a library that ends it at this step; whether it ended by itself before.
-    pub fn call_cut(&self, words: &str, library: &Path, step: usize) -> bool {
+    /// Calls it with the library that ends it at this step; whether it ended by itself before.
+    pub fn call_cut(&self, words: &str, step: usize) -> bool {
         let mut command = self.command();
         command.args(words.split_whitespace());
-        command
-            .env("LD_PRELOAD", library)
-            .env("CUT_AT", step.to_string());
+        command.env("CUT_AT", step.to_string());
         let output = command.output().expect("the command is built");
         output.status.code().is_some()
     }
@@ -117,7 +131,8 @@ impl Folder {
 
     fn command(&self) -> Command {
         let mut command = Command::new(BINARY);
-        command.current_dir(&self.0);
+        command.current_dir(&self.path);
+        command.envs(self.variables.iter().map(|(name, value)| (name, value)));
         command
     }
 }
@@ -139,6 +154,22 @@ impl From<Output> for Done {
             schema::hold(&done.out);
         }
         done
+    }
+}
+
+/// What is loaded before a call so that file functions fail it, or end it.
+pub struct Library(PathBuf);
+
+impl Library {
+    /// Built in a folder of this name.
+    pub fn new(name: &str) -> Library {
+        let source = Path::new(env!("CARGO_MANIFEST_DIR")).join("tests/c/file_functions.c");
+        let built = Folder::new(&format!("{name}-library")).path("file_functions.so");
+        let mut compiler = Command::new("cc");
+        compiler.args(["-shared", "-fPIC", "-Wall", "-Werror", "-o"]);
+        let status = compiler.arg(&built).arg(source).arg("-ldl").status();
+        assert!(status.expect("cc is there").success());
+        Library(built)
     }
 }
 

@@ -3,6 +3,7 @@
 mod at_once;
 mod ceilings;
 mod compared;
+mod cut_short;
 mod folder;
 mod lost;
 mod manual;
@@ -33,6 +34,17 @@ const README: &str = include_str!("../../../README.md");
 /// Example A of the paper: every row must name all three boxes.
 const THREE: &str =
     "copies 3\nzones 2\nbits 1\nbox 1 shop 100\nbox 2 shop 70 tower\nbox 3 home 50\n";
+
+/// One box with one partition, which may grow to fifteen sixteenths of the capacity: clusters of
+/// different sizes have different layouts.
+fn one_box(capacity: u32) -> String {
+    format!("copies 1\nzones 1\nbits 0\nbox 1 home {capacity}\n")
+}
+
+/// The size that a layout record tells.
+fn size_of(record: &[u8]) -> u32 {
+    dezghuri::Plan::from_record(record).expect("a layout").size
+}
 
 /// A folder with the sample and its first layout.
 fn planned_home(name: &str) -> Folder {

@@ -1,7 +1,7 @@
 //! What may be replaced, and what is kept of it.
 
-use crate::folder::Folder;
-use crate::{planned_home, HOME};
+use crate::folder::{Folder, Library};
+use crate::{one_box, planned_home, size_of, HOME};
 use std::fs;
 use std::os::unix::fs::{symlink, PermissionsExt};
 
@@ -99,10 +99,68 @@ fn an_older_layout_is_not_lost_either() {
     }
     assert!(folder.read("last") == third);
     assert!(folder.read("last.old") == third);
-    assert!(folder.read("last.old.2") == second);
+    assert!(folder.read("last.old.1") == second);
+    assert!(folder.read("last.old.2") == first);
     let old = ["last.old", "last.old.1", "last.old.2"];
     let names = [&["home.txt", "last"][..], &old, &["next.txt"]];
     assert_eq!(folder.names(), names.concat());
+}
+
+/// The sizes of the layouts that have these names, in this order.
+fn sizes<const N: usize>(folder: &Folder, names: [&str; N]) -> [u32; N] {
+    names.map(|name| size_of(&folder.read(name)))
+}
+
+/// Each layout moves on by one name, up to the first that is free; those behind it stay.
+#[test]
+fn old_layouts_are_kept_by_age() {
+    let folder = Folder::new("by-age");
+    let plan = |capacity: u32, words: &str| {
+        folder.write("home.txt", one_box(capacity));
+        let done = folder.call(&format!("plan home.txt --out last {words}"));
+        assert_eq!((done.status, done.err.as_str()), (0, ""));
+        done.out
+    };
+    plan(160, "");
+    plan(176, "--former last");
+    plan(192, "--former last");
+    let told =
+        "The layout record before it is kept as last.old, the 2 before that as last.old.1 to \
+                last.old.2.\n";
+    assert!(plan(208, "--former last").ends_with(told));
+    let names = ["last", "last.old", "last.old.1", "last.old.2"];
+    assert_eq!(sizes(&folder, names), [195, 180, 165, 150]);
+
+    fs::remove_file(folder.path("last.old.1")).unwrap();
+    let told = "kept as last.old, the one before that as last.old.1.\n";
+    assert!(plan(224, "--replace").ends_with(told));
+    assert_eq!(sizes(&folder, names), [210, 195, 180, 150]);
+
+    fs::remove_file(folder.path("last.old")).unwrap();
+    assert!(plan(240, "--replace").ends_with("kept as last.old.\n"));
+    assert_eq!(sizes(&folder, names), [225, 210, 180, 150]);
+    assert_eq!(folder.names().len(), names.len() + 1);
+}
+
+/// Where no file gets a second name, a copy is kept, and a new file is renamed; nothing else differs.
+#[test]
+fn without_links_copies_are_kept() {
+    let library = Library::new("without-links");
+    let folder = planned_home("without-links").without(&library, "links");
+    let before = folder.read("last");
+    set_mode(&folder, "last", 0o640);
+    for line in [
+        "plan next.txt --former last --out last",
+        "plan home.txt --out new",
+    ] {
+        let done = folder.call(line);
+        assert_eq!((done.status, done.err.as_str()), (0, ""), "{line}");
+    }
+    assert!(folder.read("last.old") == before);
+    assert!(folder.read("new") == before);
+    assert_eq!(mode(&folder, "last.old"), 0o640);
+    let names = ["home.txt", "last", "last.old", "new", "next.txt"];
+    assert_eq!(folder.names(), names);
 }
 
 #[test]

@@ -96,15 +96,23 @@ fn read_at_most(path: &Path, most: u64) -> Result<Vec<u8>, Failure> {
 
 /// The bytes of a file of staged changes, if there is one.
 pub fn read_staged(path: &Path) -> Result<Option<Vec<u8>>, Failure> {
-    let bad = |what: &str| Failure::bad(format!("{}: {what}", path.display()));
-    let is_nowhere = |error: &io::Error| error.kind() == ErrorKind::NotFound;
-    if fs::symlink_metadata(path).is_err_and(|error| is_nowhere(&error)) {
+    let is_nowhere = || fs::symlink_metadata(path).is_err_and(|error| is_not_found(&error));
+    if is_nowhere() {
         return Ok(None);
     }
+    match read_staged_there(path) {
+        // It was removed meanwhile.
+        Err(_) if is_nowhere() => Ok(None),
+        read => read.map(Some),
+    }
+}
+
+fn read_staged_there(path: &Path) -> Result<Vec<u8>, Failure> {
+    let bad = |what: &str| Failure::bad(format!("{}: {what}", path.display()));
     match fs::metadata(path) {
         Ok(there) if there.is_file() => (),
         Ok(_) => return Err(bad("there is something there that is not a file")),
-        Err(error) if is_nowhere(&error) => {
+        Err(error) if is_not_found(&error) => {
             return Err(bad("it is a link to a file that is not there"))
         }
         Err(error) => return Err(bad(&error.to_string())),
@@ -112,8 +120,12 @@ pub fn read_staged(path: &Path) -> Result<Option<Vec<u8>>, Failure> {
     let bytes = read_at_most(path, staged::LONGEST as u64 + 1)?;
     match bytes.len() > staged::LONGEST {
         true => Err(bad("this is too long for a file of staged changes")),
-        false => Ok(Some(bytes)),
+        false => Ok(bytes),
     }
+}
+
+fn is_not_found(error: &io::Error) -> bool {
+    error.kind() == ErrorKind::NotFound
 }
 
 /// Whether both names lead to one file that is there.

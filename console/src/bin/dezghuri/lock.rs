@@ -1,6 +1,7 @@
 //! The folders that a call writes in, locked from before it first reads until all is written: of calls
 //! at once that write in one folder, each reads what the one before it has left.
 
+use crate::begun;
 use crate::failure::Failure;
 use crate::output::folder_of;
 use std::fs::{self, File, Metadata, TryLockError};
@@ -24,7 +25,7 @@ pub struct Lock {
 
 impl Lock {
     /// Locks the folders of files that will be written, and of what they lead to where they are links.
-    /// One that cannot be locked goes to the warnings.
+    /// One that cannot be locked goes to the warnings, and so does what was left over in those that are.
     pub fn take(files: &[PathBuf], warnings: &mut Vec<String>) -> Result<Lock, Failure> {
         let mut folders: Vec<Folder> = files.iter().flat_map(|file| folders(file)).collect();
         // In one order for all, so that no two calls wait for each other.
@@ -34,7 +35,10 @@ impl Lock {
         let mut held = Vec::new();
         for folder in &folders {
             match folder.lock(until) {
-                Ok(Some(file)) => held.push(file),
+                Ok(Some(file)) => {
+                    warnings.extend(begun::remove_left_over(&folder.path));
+                    held.push(file);
+                }
                 Ok(None) => return Err(folder.held()),
                 Err(error) => warnings.push(folder.unlocked(&error)),
             }

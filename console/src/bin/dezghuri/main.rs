@@ -4,6 +4,7 @@
 
 mod args;
 mod before;
+mod begun;
 mod changes;
 mod commands;
 mod deeds;

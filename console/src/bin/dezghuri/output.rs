@@ -1,12 +1,16 @@
 //! The file that a call writes: what may stand there, and how none of it is lost.
 
+mod kept;
+
 use crate::before;
+use crate::begun;
 use crate::failure::Failure;
 use crate::files;
 use crate::json::Json;
 use crate::report;
 use crate::staged;
 use dezghuri::{ffi, Cluster, Description, Plan};
+use kept::old_of;
 use std::fs::{self, File, Metadata, OpenOptions};
 use std::io::{self, ErrorKind, Read, Write};
 use std::os::unix::fs::{fchown, MetadataExt, OpenOptionsExt, PermissionsExt};
@@ -143,50 +147,37 @@ impl Output {
     /// Writes the record; what to say of it. Whatever fails, power included, at every instant the
     /// one record or the other stands whole under the name.
     pub fn write(&self) -> Result<String, Failure> {
-        let kept = self
+        let moved = self
             .put()
             .map_err(|error| not_written(&self.path, &error))?;
         let mut told = format!("Written to {}.\n", self.path.display());
         if self.found.is_some() && self.kind.is_kept() {
-            let (kind, old) = (self.kind.name(), self.old());
-            told += &format!("The {kind} before it is kept as {}", old.display());
-            if let Some(older) = kept {
-                told += &format!(", the one before that as {}", older.display());
-            }
-            told += ".\n";
+            told += &kept::in_words(self.kind.name(), &self.old(), moved);
         }
         Ok(told)
     }
 
-    /// Puts the bytes into a new file beside the place, which then takes its name; the new name of
-    /// an older record, if one had to make room.
-    fn put(&self) -> io::Result<Option<PathBuf>> {
-        if look(&self.path, self.kind)? != self.found {
-            return Err(changed_meanwhile());
+    /// Puts the bytes there; how many older records had to make room for the one that is kept.
+    fn put(&self) -> io::Result<u32> {
+        match &self.found {
+            None => fill_free_name(&self.path, &self.bytes, None).map(|()| 0),
+            Some(found) => with_begun(&found.target, &self.bytes, Some(found), |begun| {
+                self.replace(found, begun)
+            }),
         }
-        let target = match &self.found {
-            Some(found) => &found.target,
-            None => &self.path,
-        };
-        let fresh = beside(target, "new")?;
-        write_new(&fresh, &self.bytes, self.found.as_ref())?;
-        let put = self.take_name(&fresh, target);
-        if put.is_err() {
-            // The first error is the one to tell.
-            let _ = fs::remove_file(&fresh);
-        }
-        put
     }
 
     /// Gives the new file the name, once what has it is kept.
-    fn take_name(&self, fresh: &Path, target: &Path) -> io::Result<Option<PathBuf>> {
-        let kept = match &self.found {
-            Some(found) if self.kind.is_kept() => keep(found)?,
-            _ => None,
+    fn replace(&self, found: &Found, begun: &Path) -> io::Result<u32> {
+        if look(&self.path, self.kind)?.as_ref() != Some(found) {
+            return Err(changed_meanwhile());
+        }
+        let moved = match self.kind.is_kept() {
+            true => kept::keep(found)?,
+            false => 0,
         };
-        fs::rename(fresh, target)?;
-        sync_folder(target);
-        Ok(kept)
+        rename(begun, &found.target)?;
+        Ok(moved)
     }
 }
 
@@ -240,6 +231,18 @@ fn not_removed(path: &Path, error: &io::Error) -> Failure {
 
 fn changed_meanwhile() -> io::Error {
     io::Error::other("it was changed meanwhile")
+}
+
+fn made_meanwhile() -> io::Error {
+    io::Error::other("it was made meanwhile, and nothing was written over it")
+}
+
+/// Only without a lock: who holds it has removed what was left over.
+fn in_the_way(begun: &Path) -> io::Error {
+    io::Error::other(format!(
+        "{} is in the way: remove it if no other call is writing",
+        begun.display()
+    ))
 }
 
 fn not_written(path: &Path, error: &io::Error) -> Failure {
@@ -307,34 +310,50 @@ fn look_at_old(old: &Path, kind: Kind) -> io::Result<()> {
     }
 }
 
-/// Gives the record that is to be replaced its second name; an older record that has that name and
-/// differs is not lost either, but takes a number, which is answered.
-fn keep(found: &Found) -> io::Result<Option<PathBuf>> {
-    let old = old_of(&found.target);
-    let spare = beside(&found.target, "old")?;
-    // Not every file system gives a file two names; a copy serves as well.
-    fs::hard_link(&found.target, &spare)
-        .or_else(|_| write_new(&spare, &found.bytes, Some(found)))?;
-    let kept =
-        make_room(&old, &found.bytes).and_then(|older| fs::rename(&spare, &old).map(|()| older));
-    // It is still there where that failed, or where both were names of one file already.
-    let _ = fs::remove_file(&spare);
-    sync_folder(&old);
-    kept
+/// A file of this name with these bytes, where there is none; what was made there meanwhile stays.
+fn fill_free_name(path: &Path, bytes: &[u8], like: Option<&Found>) -> io::Result<()> {
+    with_begun(path, bytes, like, |begun| {
+        // A second name is never given where there is a file; then the first one goes.
+        match fs::hard_link(begun, path) {
+            Ok(()) => {
+                sync_folder(path);
+                // It is all there. What is left over the next call removes.
+                let _ = fs::remove_file(begun);
+                Ok(())
+            }
+            Err(error) if error.kind() == ErrorKind::AlreadyExists => Err(made_meanwhile()),
+            // Not every file system gives a file two names.
+            Err(_) if fs::symlink_metadata(path).is_ok() => Err(made_meanwhile()),
+            Err(_) => rename(begun, path),
+        }
+    })
 }
 
-/// Renames what has this name, unless it holds these bytes; its new name.
-fn make_room(old: &Path, bytes: &[u8]) -> io::Result<Option<PathBuf>> {
-    match fs::read(old) {
-        Err(error) if error.kind() == ErrorKind::NotFound => return Ok(None),
-        Ok(older) if older == bytes => return Ok(None),
-        _ => (),
+/// Renames a file, so that it lasts.
+fn rename(from: &Path, to: &Path) -> io::Result<()> {
+    fs::rename(from, to)?;
+    sync_folder(to);
+    Ok(())
+}
+
+/// Writes a new file beside the target and hands it over; where that fails, none is left.
+fn with_begun<T>(
+    target: &Path,
+    bytes: &[u8],
+    like: Option<&Found>,
+    put: impl FnOnce(&Path) -> io::Result<T>,
+) -> io::Result<T> {
+    let begun = begun::name_for(target)?;
+    write_new(&begun, bytes, like).map_err(|error| match error.kind() {
+        ErrorKind::AlreadyExists => in_the_way(&begun),
+        _ => error,
+    })?;
+    let put = put(&begun);
+    if put.is_err() {
+        // The first error is the one to tell.
+        let _ = fs::remove_file(&begun);
     }
-    let mut names = (1..).map(|number: u32| with_ending(old, &format!(".{number}")));
-    let free = names.find(|name| fs::symlink_metadata(name).is_err());
-    let free = free.ok_or_else(|| io::Error::other("too many old ones are kept"))?;
-    fs::rename(old, &free)?;
-    Ok(Some(free))
+    put
 }
 
 /// A new file with these bytes, as open to others as the one found; where it fails, none is left.
@@ -359,26 +378,10 @@ fn fill(file: &mut File, bytes: &[u8], like: Option<&Found>) -> io::Result<()> {
     file.sync_all()
 }
 
-/// The name for a record that is replaced.
-fn old_of(path: &Path) -> PathBuf {
-    with_ending(path, ".old")
-}
-
 pub fn with_ending(path: &Path, ending: &str) -> PathBuf {
     let mut name = path.as_os_str().to_os_string();
     name.push(ending);
     name.into()
-}
-
-/// A name for a new file in the same folder.
-fn beside(target: &Path, ending: &str) -> io::Result<PathBuf> {
-    match target.file_name() {
-        Some(_) => Ok(with_ending(
-            target,
-            &format!(".{}.{ending}", std::process::id()),
-        )),
-        None => Err(io::Error::other("this names no file")),
-    }
 }
 
 /// The folder in which a file has its name.

@@ -46,11 +46,11 @@ impl Staged {
     /// Reads what is staged for a text file; whether the text describes a cluster is not asked yet.
     /// A text that may have all of it already goes to the warnings.
     pub fn read(file: &Path, warnings: &mut Vec<String>) -> Result<Staged, Failure> {
-        let text = files::read_text(file)?;
         let path = path_of(file);
+        let (text, found) = read_both(file, &path)?;
         let mut staged = Staged {
             file: file.into(),
-            found: files::read_staged(&path)?,
+            found,
             path,
             text,
             entries: Vec::new(),
@@ -182,6 +182,18 @@ impl Staged {
     /// How many changes are staged, in words.
     pub fn count(&self) -> String {
         count(self.entries.len() as u64, "staged change", "staged changes")
+    }
+}
+
+/// The bytes of a text file and of what is staged for it. A call that only reads has no lock, and an
+/// `apply` may come between the two: what was read beside a text that stayed as it was belongs to it.
+fn read_both(file: &Path, path: &Path) -> Result<(Vec<u8>, Option<Vec<u8>>), Failure> {
+    loop {
+        let text = files::read_text(file)?;
+        let found = files::read_staged(path);
+        if files::read_text(file)? == text {
+            return Ok((text, found?));
+        }
     }
 }
 

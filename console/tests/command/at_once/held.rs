@@ -3,9 +3,10 @@
 use super::shop;
 use crate::folder::{Done, Folder};
 use crate::read_json::{read, Value};
-use std::fs::{File, TryLockError};
+use std::fs::{self, File, TryLockError};
 use std::io::{ErrorKind, Write};
 use std::os::fd::OwnedFd;
+use std::os::unix::fs::symlink;
 use std::os::unix::net::UnixStream;
 use std::process::{Child, Stdio};
 use std::thread::sleep;
@@ -64,7 +65,9 @@ fn start_held(folder: &Folder, line: &str, out: OwnedFd) -> Child {
         let file = File::open(folder.path(".")).unwrap();
         matches!(file.try_lock(), Err(TryLockError::WouldBlock))
     };
+    let began = Instant::now();
     while !is_locked() {
+        assert!(began.elapsed() < Duration::from_secs(8), "it takes no lock");
         sleep(Duration::from_millis(50));
     }
     child
@@ -122,4 +125,25 @@ fn in_object(done: &Done, is_object: bool) {
     let object = read(&done.out);
     let told = Value::Text(done.err.trim_end().into());
     assert_eq!(object.get("error").get("lines").list(), [told]);
+}
+
+/// The folder that a link leads to is locked by a process that is no call of the command.
+#[test]
+fn a_link_leads_to_a_folder_that_is_locked() {
+    let folder = full_shop("held-link");
+    fs::create_dir(folder.path("far")).unwrap();
+    fs::rename(folder.path("last"), folder.path("far/last")).unwrap();
+    symlink("far/last", folder.path("last")).unwrap();
+    let far = File::open(folder.path("far")).unwrap();
+    far.lock().unwrap();
+    let done = folder.call("plan shop.txt --former last --out last");
+    let told =
+        "last: not written: after 10 seconds of waiting its folder is still locked by process ";
+    let process = format!("{told}{} (", std::process::id());
+    assert_eq!((done.status, done.out.as_str()), (2, ""));
+    assert!(done.err.starts_with(&process), "{}", done.err);
+    drop(far);
+    let done = folder.call("plan shop.txt --former last --out last");
+    assert_eq!((done.status, done.err.as_str()), (0, ""));
+    assert!(folder.path("far/last.old").exists());
 }

@@ -112,10 +112,10 @@ fn what_was_applied_is_not_staged_any_more() {
     let planned = untouched(&folder, "plan shop.txt --staged");
     let told = "warning: nothing is staged for shop.txt\n";
     assert_eq!((planned.status, planned.err.as_str()), (0, told));
-    let shown = "Nothing is staged for shop.txt: all that was is written into it.\n\
-                 shop.txt.staged is removed.\n";
-    assert_eq!(done(&folder, "stage shop.txt"), shown);
-    assert_eq!(folder.names(), ["shop.txt"]);
+    let shown = untouched(&folder, "stage shop.txt");
+    let told = "Nothing is staged for shop.txt: all that was is written into it. `dezghuri apply \
+                shop.txt` removes shop.txt.staged, which is left over.\n";
+    assert_eq!((shown.status, shown.out.as_str()), (0, told));
 
     let folder = left_over("power-after-apply");
     let told = "All that was staged for shop.txt is written into it already.\n\

@@ -2,7 +2,6 @@
 
 use super::Answer;
 use crate::args::Staging;
-use crate::deeds::Deed;
 use crate::failure::{Failure, REFUSED};
 use crate::json::Json;
 use crate::labels;
@@ -63,12 +62,9 @@ fn show(staged: &Staged, known: &Description) -> Answer {
     let why = failure.as_ref().map(|failure| failure.lines().concat());
     let refused = made.refused.as_ref().map(|not| not.refused);
     members.extend(refusal(refused, why.as_deref()));
-    // What is left over is no reason to fail where it cannot be removed.
-    let left_over = staged.was_applied.then(|| staged.removal().ok()).flatten();
     Answer {
         told: why.into_iter().collect(),
         status: if failure.is_some() { REFUSED } else { 0 },
-        deeds: left_over.flatten().into_iter().map(Deed::Remove).collect(),
         ..Answer::with_json(in_words(staged, &made), members)
     }
 }
@@ -76,7 +72,11 @@ fn show(staged: &Staged, known: &Description) -> Answer {
 fn in_words(staged: &Staged, made: &Made) -> String {
     let file = staged.file.display();
     if staged.was_applied {
-        return format!("Nothing is staged for {file}: all that was is written into it.\n");
+        return format!(
+            "Nothing is staged for {file}: all that was is written into it. `dezghuri apply {file}` \
+             removes {}, which is left over.\n",
+            staged.path.display()
+        );
     }
     if staged.entries.is_empty() {
         return format!("Nothing is staged for {file}.\n");
