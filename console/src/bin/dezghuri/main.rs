@@ -20,6 +20,7 @@ mod output;
 mod overview;
 mod record_lines;
 mod report;
+mod sheet;
 mod staged;
 mod table;
 mod why;
