@@ -1,6 +1,7 @@
 //! The sheet that shows why no layout is better, and the program of a stranger that counts it again.
 
 mod checker;
+mod on_page;
 mod read;
 mod refused;
 mod wide;

@@ -10,6 +10,7 @@ use crate::units::thousands;
 use dezghuri::{Certificate, Cluster, Description};
 
 pub use file::{is_certificate, text_of, LONGEST as LONGEST_CERTIFICATE};
+pub use lines::SENT;
 
 /// Sentences on the screen are broken before they are longer.
 const WIDTH: usize = 100;
