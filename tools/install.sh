@@ -21,6 +21,7 @@ files() {
 644 console/include/dezghuri.h include/dezghuri.h
 644 build/libconsole.a lib/libdezghuri.a
 644 build/dezghuri.pc lib/pkgconfig/dezghuri.pc
+644 checker/certificate.py share/dezghuri/certificate.py
 644 console/man/dezghuri.1 share/man/man1/dezghuri.1
 644 console/man/dezghuri-plan.1 share/man/man1/dezghuri-plan.1
 644 docs/FORMATS.md share/doc/dezghuri/FORMATS.md

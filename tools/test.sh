@@ -7,7 +7,7 @@ cd "$(dirname "$0")/.." || exit 2
 
 fail() { printf 'test: %s\n' "$*" >&2; exit 1; }
 
-for tool in rt cargo rustc cc ar; do
+for tool in rt cargo rustc cc ar python3; do
     command -v "$tool" >/dev/null 2>&1 || fail "$tool is missing"
 done
 

@@ -4,7 +4,7 @@ _dezghuri() {
     local word=${COMP_WORDS[COMP_CWORD]} before=${COMP_WORDS[COMP_CWORD - 1]} options=
     COMPREPLY=()
     if [ "$COMP_CWORD" -eq 1 ]; then
-        mapfile -t COMPREPLY < <(compgen -W 'plan check show diff moves what-if stage undo apply report record help --version' -- "$word")
+        mapfile -t COMPREPLY < <(compgen -W 'plan check show diff moves certify what-if stage undo apply report record help --version' -- "$word")
         return
     fi
     case $before in
@@ -24,6 +24,7 @@ _dezghuri() {
         check | diff) options='--staged --json --help' ;;
         show) options='--box --all --staged --json --help' ;;
         moves) options='--by-box --done --staged --json --help' ;;
+        certify) options='--former --out --staged --json --help' ;;
         what-if) options='--former --add --remove --resize --ceiling --json --help' ;;
         stage) options='--ceiling --json --help' ;;
         undo | apply) options='--json --help' ;;

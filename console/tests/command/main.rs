@@ -2,6 +2,7 @@
 
 mod at_once;
 mod ceilings;
+mod certified;
 mod compared;
 mod cut_short;
 mod folder;

@@ -43,6 +43,7 @@ pub enum Command {
         new: PathBuf,
     },
     Moves(Moves),
+    Certify(Certify),
     WhatIf {
         file: PathBuf,
         former: Option<PathBuf>,
@@ -86,6 +87,16 @@ pub struct Moves {
     pub by_box: bool,
     /// How many steps are done; without a number the whole list is asked for.
     pub done: Option<usize>,
+}
+
+/// The sheet that shows why no layout is better.
+#[derive(Debug, PartialEq, Eq)]
+pub struct Certify {
+    pub source: Source,
+    /// Without one no box held anything before.
+    pub former: Option<PathBuf>,
+    pub layout: PathBuf,
+    pub out: Option<PathBuf>,
 }
 
 /// A page that shows a layout.
@@ -186,6 +197,7 @@ pub fn parse(words: impl IntoIterator<Item = OsString>) -> Result<Call, String> 
         "show" => show(words),
         "diff" => diff(words),
         "moves" => moves(words),
+        "certify" => certify(words),
         "what-if" => what_if(words),
         "report" => report(words),
         "stage" => staging::stage(words),
@@ -308,6 +320,18 @@ fn moves(mut words: Words) -> Result<Command, String> {
         new: new.into(),
         by_box,
         done,
+    }))
+}
+
+fn certify(mut words: Words) -> Result<Command, String> {
+    let (former, out) = (words.path("--former"), words.path("--out"));
+    let staged = words.flag(STAGED);
+    let [file, layout] = words.places("a FILE and a NEW layout")?;
+    Ok(Command::Certify(Certify {
+        source: source(file, staged),
+        former,
+        layout: layout.into(),
+        out,
     }))
 }
 
@@ -645,6 +669,22 @@ mod tests {
     }
 
     #[test]
+    fn a_layout_is_certified_from_a_former_one_or_from_none() {
+        let certified = |former: Option<&str>, out: Option<&str>, staged| {
+            Ok(Command::Certify(Certify {
+                source: source("home.txt".into(), staged),
+                former: former.map(PathBuf::from),
+                layout: "next".into(),
+                out: out.map(PathBuf::from),
+            }))
+        };
+        let certify = |words: &str| called(&format!("certify home.txt {words}"));
+        assert_eq!(certify("next"), certified(None, None, false));
+        let all = certify("--former last next --out=prices --staged");
+        assert_eq!(all, certified(Some("last"), Some("prices"), true));
+    }
+
+    #[test]
     fn changes_come_in_their_order() {
         let words = [
             "what-if", "home.txt", "--resize", "3=1.5T", "--add", "attic 4T",
@@ -676,6 +716,7 @@ mod tests {
             "show home.txt last 7 --json",
             "diff home.txt last next --json",
             "moves home.txt last next --json",
+            "certify home.txt next --json",
             "what-if home.txt --remove 2 --json",
             "stage home.txt add 7 attic 4T --json",
             "undo --json home.txt",
@@ -712,8 +753,8 @@ mod tests {
         let faults = [
             (
                 "",
-                "say what to do: plan, check, show, diff, moves, what-if, stage, undo, apply, report, \
-                 record or help",
+                "say what to do: plan, check, show, diff, moves, certify, what-if, stage, undo, apply, \
+                 report, record or help",
             ),
             ("plam home.txt", "there is no command \"plam\""),
             ("plan", "a FILE is wanted, not 0 words"),
@@ -722,6 +763,10 @@ mod tests {
                 "a FILE and a LAYOUT is wanted, not 1 words",
             ),
             ("check home.txt last --out x", "--out is not an option here"),
+            (
+                "certify home.txt last next",
+                "a FILE and a NEW layout is wanted, not 3 words",
+            ),
             ("plan home.txt --out", "--out needs a word after it"),
             ("plan home.txt --out a --out b", "--out is given twice"),
             (

@@ -1,6 +1,7 @@
 //! What each command does, up to the bytes that it prints and the file that it writes.
 
 mod apply;
+mod certify;
 mod check;
 mod diff;
 mod moves;
@@ -87,6 +88,7 @@ pub fn run(command: &Command, warnings: &mut Vec<String>) -> Result<Answer, Fail
         } => show::run(source, layout, *what, warnings),
         Command::Diff { source, old, new } => diff::run(source, old, new, warnings),
         Command::Moves(call) => moves::run(call, warnings),
+        Command::Certify(call) => certify::run(call, warnings),
         Command::WhatIf {
             file,
             former,

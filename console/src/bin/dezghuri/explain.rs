@@ -110,6 +110,16 @@ pub fn not_valid(described: &Description, plan: &Plan, refused: Refused) -> Stri
     format!("{why} (refused {})", refused.refusal.number())
 }
 
+/// Why the plan's layout has no certificate, as a line for the owner.
+pub fn not_certified(described: &Description, plan: &Plan, refused: Refused) -> String {
+    let why = match refused.refusal {
+        Refusal::Larger => "A larger size is possible",
+        Refusal::Fewer => "Another layout of this size sends fewer copies",
+        _ => return format!("not valid: {}", not_valid(described, plan, refused)),
+    };
+    format!("{why}: plan again (refused {}).", refused.refusal.number())
+}
+
 fn bad_row(described: &Description, plan: &Plan, partition: u32) -> String {
     let cluster = &described.cluster;
     if plan.bits != cluster.bits {

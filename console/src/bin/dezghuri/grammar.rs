@@ -112,6 +112,30 @@ pub const COMMANDS: &[Grammar] = &[
         example: "dezghuri moves shop.txt shop.layout next.layout --done 37",
     },
     Grammar {
+        name: "certify",
+        calls: &[(
+            "FILE [--former OLD] NEW [--out CERT]",
+            "shows, with sums that anybody can check by hand, that no layout has a larger size than \
+             NEW, and none of that size sends fewer copies from the layout OLD; writes the prices \
+             in these sums to CERT",
+        )],
+        options: &[
+            option(
+                "--former",
+                "OLD",
+                "the layout before; without it no box held anything",
+            ),
+            option(
+                "--out",
+                "CERT",
+                "writes the prices there, for the program certificate.py, which checks them",
+            ),
+            WITH_STAGED,
+            AS_JSON,
+        ],
+        example: "dezghuri certify shop.txt --former shop.layout next.layout --out shop.prices",
+    },
+    Grammar {
         name: "what-if",
         calls: &[(
             "FILE [--former LAST] CHANGE ..",

@@ -32,12 +32,12 @@ a box without one may hold every partition. A # begins a remark.
 const RULES: &str = "\
 Nothing is written before the report is printed. A layout that is there already
 is replaced only where it is the --former of this plan, or with --replace; it is
-kept as NEXT.old. What is not a layout is never replaced. Pages and cluster
-records are kept likewise, and replaced by their like alone.
+kept as NEXT.old. What is not a layout is never replaced. Pages, certificates
+and cluster records are kept likewise, and replaced by their like alone.
 
-Exit status: 0 done; 1 there is no such layout, it is not valid, or a change
-cannot be made; 2 the call or a file is at fault, or the report could not be
-printed.
+Exit status: 0 done; 1 there is no such layout, it is not valid or not the best,
+or a change cannot be made; 2 the call or a file is at fault, or the report
+could not be printed.
 ";
 
 /// What `dezghuri help` prints.

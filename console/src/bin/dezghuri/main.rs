@@ -21,6 +21,7 @@ mod output;
 mod overview;
 mod record_lines;
 mod report;
+mod sheet;
 mod staged;
 mod table;
 mod why;

@@ -8,6 +8,7 @@ use crate::failure::Failure;
 use crate::files;
 use crate::json::Json;
 use crate::report;
+use crate::sheet;
 use crate::staged;
 use dezghuri::{ffi, Cluster, Description, Plan};
 use kept::old_of;
@@ -23,6 +24,8 @@ pub enum Kind {
     Layout,
     Cluster,
     Page,
+    /// The prices of a certificate.
+    Certificate,
     /// The owner's text file.
     Text,
     Staged,
@@ -35,6 +38,7 @@ impl Kind {
             Kind::Layout => "layout record",
             Kind::Cluster => "cluster record",
             Kind::Page => "report page",
+            Kind::Certificate => "certificate",
             Kind::Text => "cluster description",
             Kind::Staged => "file of staged changes",
         }
@@ -45,6 +49,7 @@ impl Kind {
             Kind::Layout => Plan::from_record(bytes).is_ok(),
             Kind::Cluster => is_cluster_record(bytes),
             Kind::Page => report::is_page(bytes),
+            Kind::Certificate => sheet::is_certificate(bytes),
             Kind::Text => Description::parse(bytes).is_ok(),
             Kind::Staged => staged::is_staged(bytes),
         }
@@ -60,6 +65,7 @@ impl Kind {
         match self {
             Kind::Layout | Kind::Cluster => ffi::CLUSTER_RECORD_BYTES as u64,
             Kind::Page => report::LONGEST_PAGE,
+            Kind::Certificate => sheet::LONGEST_CERTIFICATE,
             Kind::Text => files::LONGEST_TEXT,
             Kind::Staged => staged::LONGEST as u64,
         }

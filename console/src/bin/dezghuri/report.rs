@@ -6,6 +6,7 @@ mod html;
 mod map;
 mod matrix;
 mod moves;
+mod sheet;
 mod tables;
 mod words;
 

@@ -1,7 +1,7 @@
 //! Tables in plain text.
 
 /// Which side the cells of a column stand at.
-#[derive(Clone, Copy)]
+#[derive(Clone, Copy, PartialEq, Eq)]
 pub enum Side {
     Left,
     Right,
@@ -9,8 +9,8 @@ pub enum Side {
 
 /// One column: its head, then a cell for each row.
 pub struct Column {
-    side: Side,
-    cells: Vec<String>,
+    pub side: Side,
+    pub cells: Vec<String>,
 }
 
 impl Column {

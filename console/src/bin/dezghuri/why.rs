@@ -178,14 +178,14 @@ pub fn unused(described: &Description, plan: &Plan) -> String {
     unused.iter().map(line).collect()
 }
 
-/// The two counts at the next size, and the boxes that hold nothing.
-pub fn json(described: &Description, plan: &Plan) -> [(&'static str, Json); 2] {
-    let counts = counts(described, plan.size);
+/// The two counts at the next size.
+pub fn binds(described: &Description, size: u32) -> Json {
+    let counts = counts(described, size);
     let zones = |zones: &[u16]| {
         let zones = zones.iter().map(|zone| zone_names(described, &[*zone]));
         Json::list(zones)
     };
-    let binds = Json::Object(vec![
+    Json::Object(vec![
         ("at_mb", counts.size.into()),
         ("copies_short", counts.lack_room().into()),
         ("copies_room", counts.room.into()),
@@ -196,7 +196,11 @@ pub fn json(described: &Description, plan: &Plan) -> [(&'static str, Json); 2] {
         ("zones_wanted", counts.zone_wanted.into()),
         ("whole_zones", zones(&counts.whole_zones)),
         ("part_zones", zones(&counts.part_zones)),
-    ]);
+    ])
+}
+
+/// The two counts at the next size, and the boxes that hold nothing.
+pub fn json(described: &Description, plan: &Plan) -> [(&'static str, Json); 2] {
     let unused = described.cluster.unused(&plan.layout, plan.size);
     let unused = unused.iter().map(|(id, why)| {
         let why = match why {
@@ -207,6 +211,7 @@ pub fn json(described: &Description, plan: &Plan) -> [(&'static str, Json); 2] {
         };
         Json::Object(vec![("id", (*id).into()), ("why", why.into())])
     });
+    let binds = binds(described, plan.size);
     [("binds", binds), ("unused", Json::list(unused))]
 }
 

@@ -21,6 +21,7 @@ impl Command {
                 None => Vec::new(),
             },
             Command::Report(call) => vec![call.out.clone()],
+            Command::Certify(call) => call.out.iter().cloned().collect(),
             Command::Record { out, .. } => out.iter().cloned().collect(),
             Command::Help(_)
             | Command::Version

@@ -3,7 +3,7 @@
 use crate::labels;
 use crate::units::{count, Unit};
 use crate::why;
-use dezghuri::{Cluster, Description, Held, Layout, Plan, Refused, Step, ENOUGH};
+use dezghuri::{Certificate, Cluster, Description, Held, Layout, Plan, Refused, Step, ENOUGH};
 use std::collections::BTreeSet;
 
 /// So many boxes that are gone are drawn; a cluster has no more, but a damaged record may name more.
@@ -45,6 +45,8 @@ pub struct Laid {
     pub after: Layout,
     /// The steps from the ones to the others; none without a former layout.
     pub steps: Vec<Step>,
+    /// Why no layout is better than this one from the former one; nothing without one, or where one is.
+    pub certificate: Option<Certificate>,
 }
 
 /// A row of cells for each box: those of the cluster by id, and those that are gone.
@@ -161,6 +163,7 @@ impl Laid {
             before: before.clone(),
             after: plan.layout.clone(),
             steps: cluster.moves(&Held::from(before), &plan.layout)?,
+            certificate: former.and_then(|_| cluster.certify(&plan.layout, plan.size).ok()),
         })
     }
 

@@ -1,7 +1,7 @@
 //! The page as a whole, and the writing of text into it.
 
 use super::facts::{Facts, Laid};
-use super::{bars, map, moves, tables, words};
+use super::{bars, map, moves, sheet, tables, words};
 
 /// How each page begins; by this and its end a page is known, whatever its version.
 const BEGINNING: &str = "<!DOCTYPE html>\n<html lang=\"en\">\n<head>\n<meta charset=\"utf-8\"/>\n\
@@ -80,13 +80,14 @@ fn of_layout(facts: &Facts, laid: &Laid) -> String {
     let why: String = why.iter().map(|line| paragraph("why", line)).collect();
     let why = match why.is_empty() {
         true => why,
-        false => section("why", "Why not more", &why),
+        false => section("why", "Why not more", &(why + &sheet::larger(facts, laid))),
     };
     [
         bars::of_layout(facts, laid),
         map::of_layout(facts, laid),
         moves::by_box(facts, laid),
         why,
+        sheet::fewer(facts, laid),
         section("tables", "", &tables::boxes_and_zones(facts, laid)),
         tables::partitions(facts, laid),
         moves::by_partition(laid),

@@ -166,7 +166,17 @@ fn numbers(facts: &Facts) -> Vec<&'static str> {
 /// A table of these lines; heads over words and ids stand at the left, those over numbers at the right.
 pub fn table(class: &str, caption: &str, heads: &[&str], lines: &str) -> String {
     let left = [
-        "name", "zone", "before", "after", "held by", "from", "send to", "drop at",
+        "name",
+        "zone",
+        "before",
+        "after",
+        "held by",
+        "from",
+        "send to",
+        "drop at",
+        "its boxes",
+        "cheapest boxes",
+        "their cost",
     ];
     let heads = heads.iter().map(|head| match left.contains(head) {
         true => format!("<th class=\"l\">{head}</th>"),
