@@ -17,6 +17,7 @@ use crate::failure::{Failure, REFUSED};
 use crate::files;
 use crate::losses;
 use crate::output::Kind;
+use crate::terminal::shown;
 use dezghuri::{Plan, ENOUGH};
 use facts::{Facts, Laid, Names};
 use std::path::Path;
@@ -67,7 +68,7 @@ fn laid(
     Ok(laid.map_err(|refused| {
         format!(
             "{} is not valid for {} as it is now: {}",
-            layout.display(),
+            shown(layout),
             known.name,
             explain::not_valid(described, &plan, refused)
         )
@@ -76,7 +77,7 @@ fn laid(
 
 /// The files as their owner calls them.
 fn names(call: &args::Report, known: &Known) -> Names {
-    let name = |path: &Path| path.display().to_string();
+    let name = |path: &Path| shown(path);
     Names {
         file: known.name.clone(),
         layout: call.layout.as_deref().map(name),
