@@ -2,9 +2,10 @@
 
 _dezghuri() {
     local word=${COMP_WORDS[COMP_CWORD]} before=${COMP_WORDS[COMP_CWORD - 1]} options=
+    local commands='plan check show diff moves certify what-if stage undo apply report record'
     COMPREPLY=()
     if [ "$COMP_CWORD" -eq 1 ]; then
-        mapfile -t COMPREPLY < <(compgen -W 'plan check show diff moves certify what-if stage undo apply report record help --version' -- "$word")
+        mapfile -t COMPREPLY < <(compgen -W "$commands help --version" -- "$word")
         return
     fi
     case $before in
@@ -16,7 +17,7 @@ _dezghuri() {
         return
     fi
     if [ "${COMP_WORDS[1]}" = help ]; then
-        mapfile -t COMPREPLY < <(compgen -W 'plan check show diff moves what-if stage undo apply report record' -- "$word")
+        mapfile -t COMPREPLY < <(compgen -W "$commands" -- "$word")
         return
     fi
     case ${COMP_WORDS[1]} in

@@ -4,6 +4,7 @@ mod slips;
 
 use crate::cluster::{Cluster, Node};
 use crate::layout::Layout;
+use crate::terminal::{self, shown};
 use crate::units;
 use std::collections::BTreeSet;
 use std::error::Error;
@@ -121,8 +122,8 @@ impl Note {
     /// The note with the name of its file.
     pub fn told_of(&self, path: &Path) -> String {
         match self.line {
-            Some(_) => format!("{}, {self}", path.display()),
-            None => format!("{}: {self}", path.display()),
+            Some(_) => format!("{}, {self}", shown(path)),
+            None => format!("{}: {self}", shown(path)),
         }
     }
 }
@@ -209,7 +210,7 @@ impl Lines {
         let (text, remark) = text.split_once('#').unwrap_or((text, ""));
         let is_cut = slips::touch(text, remark);
         let text = text.trim();
-        if text.contains(|c: char| c.is_control() && c != '\t') {
+        if text.contains(|c: char| terminal::is_command(c) && c != '\t') {
             return Err("this has a control character in it".into());
         }
         let words: Vec<&str> = text.split_whitespace().collect();
@@ -242,8 +243,10 @@ impl Lines {
     fn box_line(&self, line: usize, words: [&str; 3], name: &[&str]) -> Result<BoxLine, String> {
         let [id, zone, capacity] = words;
         if let Some(unit) = name.first().filter(|word| units::is_unit(word)) {
+            let written = format!("{capacity}{unit}");
+            units::megabytes(&written)?;
             return Err(format!(
-                "write the unit at the number, without a space: {capacity}{unit}"
+                "write the unit at the number, without a space: {written}"
             ));
         }
         if let Some(words) = slips::zone_of_several_words(zone, capacity, name) {

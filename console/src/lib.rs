@@ -67,6 +67,7 @@ mod moves;
 mod plan;
 mod refusal;
 mod rewrite;
+pub mod terminal;
 pub mod units;
 
 pub use certificate::{Certificate, Group, Line};

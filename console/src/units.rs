@@ -1,5 +1,7 @@
 //! Capacities and numbers as people write and read them.
 
+use crate::terminal::escaped;
+
 /// The megabytes of a capacity: a number of megabytes, or one that ends in M, G or T (or MB, GB,
 /// TB), by thousands, as disks are sold.
 ///
@@ -13,25 +15,80 @@ pub fn megabytes(word: &str) -> Result<u32, String> {
         "" | "M" | "MB" => 0,
         "G" | "GB" => 3,
         "T" | "TB" => 6,
-        _ => {
-            return Err(format!(
-            "'{word}' is not a capacity: write megabytes, or a number that ends in G or T, as 500G"
-        ))
-        }
+        unit => return Err(other_unit(word, number, unit)),
     };
-    let (whole, fraction) = number.split_once('.').unwrap_or((number, ""));
-    let fraction = fraction.trim_end_matches('0');
+    let (whole, fraction) = parts(number).ok_or_else(|| no_number(word))?;
     if fraction.len() > places {
         return Err(format!("{word} is not a whole number of megabytes"));
     }
     let digits = format!("{whole}{fraction:0<places$}");
+    digits.parse().map_err(|_| too_much(word))
+}
+
+/// The digits before the point and after it, zeros at the end apart.
+fn parts(number: &str) -> Option<(&str, &str)> {
+    let (whole, fraction) = number.split_once('.').unwrap_or((number, ""));
     let has_one = number.contains(|c: char| c.is_ascii_digit());
-    if !has_one || digits.contains('.') {
-        return Err(format!("'{word}' is not a capacity: its number is none"));
+    (has_one && !fraction.contains('.')).then_some((whole, fraction.trim_end_matches('0')))
+}
+
+fn no_number(word: &str) -> String {
+    format!("'{word}' is not a capacity: its number is none")
+}
+
+fn too_much(word: &str) -> String {
+    format!("{word} is more than a box can have: at most 4,294,967,295 megabytes, about 4,294T")
+}
+
+/// That the unit is none of a capacity. Disks are sold by thousands: of a unit by 1024 what it comes to is
+/// told.
+fn other_unit(word: &str, number: &str, unit: &str) -> String {
+    let Some(bytes) = binary_unit(unit) else {
+        let word = escaped(word);
+        return format!(
+            "'{word}' is not a capacity: write megabytes, or a number that ends in G or T, as 500G"
+        );
+    };
+    let Some((whole, fraction)) = parts(number) else {
+        return no_number(word);
+    };
+    let digits: Option<u128> = format!("{whole}{fraction}").parse().ok();
+    let all = digits.and_then(|digits| digits.checked_mul(bytes));
+    let megabyte = u32::try_from(fraction.len() + 6).ok();
+    let megabyte = megabyte.and_then(|places| 10u128.checked_pow(places));
+    let megabytes = all.zip(megabyte).map(|(all, megabyte)| all / megabyte);
+    match megabytes.and_then(|megabytes| u32::try_from(megabytes).ok()) {
+        Some(megabytes) => by_thousands(word, megabytes),
+        None => too_much(word),
     }
-    digits.parse().map_err(|_| {
-        format!("{word} is more than a box can have: at most 4,294,967,295 megabytes, about 4,294T")
-    })
+}
+
+/// The bytes of a unit by 1024.
+fn binary_unit(unit: &str) -> Option<u128> {
+    let power = match unit.strip_suffix('B').unwrap_or(unit) {
+        "KI" => 1,
+        "MI" => 2,
+        "GI" => 3,
+        "TI" => 4,
+        "PI" => 5,
+        _ => return None,
+    };
+    Some(1024u128.pow(power))
+}
+
+/// What to write for so many megabytes.
+fn by_thousands(word: &str, megabytes: u32) -> String {
+    let told = thousands(megabytes.into());
+    let (places, letter) = match megabytes {
+        0..1_000 => return format!("{word} is {told} MB: write {megabytes}"),
+        1_000..1_000_000 => (3, 'G'),
+        _ => (6, 'T'),
+    };
+    let digits = megabytes.to_string();
+    let (whole, fraction) = digits.split_at(digits.len() - places);
+    let short = format!("{whole}.{fraction}");
+    let short = short.trim_end_matches('0').trim_end_matches('.');
+    format!("{word} is {told} MB: write {megabytes}, or {short}{letter}")
 }
 
 /// A capacity as owners write it: the number with the largest unit in which it is whole.
@@ -57,14 +114,17 @@ pub(crate) fn is_unit(word: &str) -> bool {
     units.contains(&word.to_ascii_uppercase().as_str())
 }
 
-/// The letter of a unit that is spelled out.
-pub(crate) fn spelled_out(word: &str) -> Option<char> {
+/// A unit that is spelled out, as it is written at a number.
+pub(crate) fn spelled_out(word: &str) -> Option<&'static str> {
     let word = word.to_lowercase();
     let word = word.strip_suffix('s').unwrap_or(&word);
     match word.strip_suffix("byte").unwrap_or(word) {
-        "mega" | "mebi" | "meg" => Some('M'),
-        "giga" | "gibi" | "gig" => Some('G'),
-        "tera" | "tebi" => Some('T'),
+        "mega" | "meg" => Some("M"),
+        "giga" | "gig" => Some("G"),
+        "tera" => Some("T"),
+        "mebi" => Some("MiB"),
+        "gibi" => Some("GiB"),
+        "tebi" => Some("TiB"),
         _ => None,
     }
 }
@@ -146,6 +206,41 @@ mod tests {
         ];
         for (word, megabytes) in read {
             assert_eq!(super::megabytes(word), Ok(megabytes), "{word}");
+        }
+    }
+
+    /// 2^40 bytes are 1,099,511.627776 MB, 2^30 are 1,073.741824 MB; rounded down, so that it fits.
+    #[test]
+    fn units_by_1024_are_told_by_thousands() {
+        let known = [
+            ("4TiB", "4,398,046 MB: write 4398046, or 4.398046T"),
+            ("2Ti", "2,199,023 MB: write 2199023, or 2.199023T"),
+            ("0.5tib", "549,755 MB: write 549755, or 549.755G"),
+            ("500GiB", "536,870 MB: write 536870, or 536.87G"),
+            ("93.1322574GiB", "99,999 MB: write 99999, or 99.999G"),
+            (
+                "1.0Pi",
+                "1,125,899,906 MB: write 1125899906, or 1125.899906T",
+            ),
+            ("10000MiB", "10,485 MB: write 10485, or 10.485G"),
+            ("15625KiB", "16 MB: write 16"),
+            ("1KiB", "0 MB: write 0"),
+            ("953.67431640625MiB", "1,000 MB: write 1000, or 1G"),
+        ];
+        for (word, told) in known {
+            assert_eq!(megabytes(word), Err(format!("{word} is {told}")));
+        }
+        let told = "'TiB' is not a capacity: its number is none";
+        assert_eq!(megabytes("TiB"), Err(told.into()));
+        let huge = "9".repeat(60);
+        for word in [
+            "4PiB",
+            "4000TiB",
+            &format!("{huge}Ti"),
+            &format!("1.{huge}Ti"),
+        ] {
+            let told = "is more than a box can have";
+            assert!(megabytes(word).unwrap_err().contains(told), "{word}");
         }
     }
 

@@ -29,17 +29,21 @@ pub fn of(boxes: &[BoxLine]) -> Vec<Note> {
 /// A unit that is spelled out stands apart and is taken for a name.
 fn unit(found: &BoxLine) -> Option<String> {
     let word = found.name.split(' ').next()?;
-    let letter = units::spelled_out(word)?;
-    let written = &found.written;
-    let is_bare = written.ends_with(|c: char| c.is_ascii_digit());
-    is_bare.then(|| {
-        format!(
-            "box {} has {} MB, and '{word}' is in its name: write {written}{letter} if that is \
-             its unit",
-            found.id,
-            thousands(found.capacity.into())
-        )
-    })
+    let unit = units::spelled_out(word)?;
+    let is_bare = found.written.ends_with(|c: char| c.is_ascii_digit());
+    if !is_bare {
+        return None;
+    }
+    let written = format!("{}{unit}", found.written);
+    let advice = match units::megabytes(&written) {
+        Ok(_) => format!("write {written} if that is its unit"),
+        Err(told) => format!("if that is its unit, {told}"),
+    };
+    Some(format!(
+        "box {} has {} MB, and '{word}' is in its name: {advice}",
+        found.id,
+        thousands(found.capacity.into())
+    ))
 }
 
 /// The capacity in the middle of those that are not 0, the larger where there are two.
@@ -234,6 +238,10 @@ mod tests {
         };
         assert_eq!(warnings("box 1 a 5 Terabytes\n"), [told("Terabytes", "5T")]);
         assert_eq!(warnings("box 1 a 5 gigs x\n"), [told("gigs", "5G")]);
+        let binary =
+            "line 3: box 1 has 4 MB, and 'tebibytes' is in its name: if that is its unit, \
+                      4TiB is 4,398,046 MB: write 4398046, or 4.398046T";
+        assert_eq!(warnings("box 1 a 4 tebibytes\n"), [binary]);
         let none: [String; 0] = [];
         assert_eq!(warnings("box 1 a 5T terabyte\n"), none);
         assert_eq!(warnings("box 1 a 5 tower\n"), none);

@@ -57,7 +57,7 @@ fn names_never_take_a_number_that_is_used() {
 fn each_line_at_fault_is_told() {
     let text =
         "copies 9\nzones two\nbits 8 8\ncoppies 3\nbox 1 a\nbox 0 a 5\nbox 1 a 5\nbox 1 b 5\n\
-                box 2 65536 5\nbox 2 A 5\nbox 2 a 5X\nbox 2 a 5 TB\nbits 8\n";
+                box 2 65536 5\nbox 2 A 5\nbox 2 a 5X\nbox 2 a 5 TB\nbits 8\nbox 3 a 4 TiB\nbox 3 a\u{202e} 4T\n";
     let expected = [
         "line 1: copies takes one number, from 1 to 8",
         "line 2: zones takes one number, from 1 to 8",
@@ -71,6 +71,8 @@ fn each_line_at_fault_is_told() {
         "line 11: '5X' is not a capacity: write megabytes, or a number that ends in G or T, as 500G",
         "line 12: write the unit at the number, without a space: 5TB",
         "line 13: bits is on line 3 already",
+        "line 14: 4TiB is 4,398,046 MB: write 4398046, or 4.398046T",
+        "line 15: this has a control character in it",
     ];
     assert_eq!(faults(text), expected);
 }

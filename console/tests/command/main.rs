@@ -20,6 +20,7 @@ mod schema;
 mod sent;
 mod shown;
 mod staged;
+mod terminal;
 mod told;
 mod tried;
 mod why;

@@ -737,7 +737,8 @@ fn without_a_former_layout_nothing_moves() {
     assert_eq!(row, ["2", "1 3"]);
 }
 
-/// The page says why, and shows the boxes and nothing else.
+/// The page says why, and shows the boxes and nothing else: there is no layout, or one whose partitions
+/// are others.
 #[test]
 fn a_refusal_has_its_page_too() {
     let folder = small("report-refused");
@@ -747,22 +748,178 @@ fn a_refusal_has_its_page_too() {
             .replace("zones 2", "zones 4")
             .replace("copies 2", "copies 4"),
     );
+    folder.write("eight.txt", SMALL.replace("bits 2", "bits 3"));
     let why =
         "There is no layout: 4 copies need 4 boxes with disk space, and 3 have any (refused 9).";
     let other =
-        "last is not valid for small.txt as it is now: partition 0 lies on box 2, which is \
-                 not there (refused 10).";
-    for (call, why) in [("four.txt", why), ("small.txt last", other)] {
-        let done = folder.call(&format!("report {call} --out page.html"));
-        let told = format!("{why}\nWritten to page.html.\n");
-        assert_eq!((done.status, done.err.as_str()), (1, ""), "{call}");
-        assert!(done.out.starts_with(&told), "{}", done.out);
-        let page = page::read(std::str::from_utf8(&folder.read("page.html")).expect("text"));
+        "last is not valid for eight.txt as it is now: it has bits 2, 3 are wanted (refused 10).";
+    for (call, why) in [("four.txt", why), ("eight.txt last", other)] {
+        let page = refused(&folder, call, why);
         assert_eq!(lead(&page), why);
         assert_eq!(page.of_class("bar").len(), 4);
         bars_add_up(&page, &small_capacities(), 110);
         assert!(page.all().iter().all(|element| element.get("id") != "map"));
     }
+}
+
+/// The page of a call that is refused for this reason.
+fn refused(folder: &Folder, call: &str, why: &str) -> Element {
+    let done = folder.call(&format!("report {call} --out page.html"));
+    let told = format!("{why}\nWritten to page.html.\n");
+    assert_eq!((done.status, done.err.as_str()), (1, ""), "{call}");
+    assert!(done.out.starts_with(&told), "{}", done.out);
+    let page = String::from_utf8(folder.read("page.html")).expect("text");
+    stands_alone(&page);
+    page::read(&page)
+}
+
+fn texts(elements: Vec<&Element>) -> Vec<String> {
+    elements.iter().map(|element| element.text()).collect()
+}
+
+/// The words in red that stand on the line of this id.
+fn red(page: &Element, id: &str) -> Vec<String> {
+    texts(page.with_id(id).named("em"))
+}
+
+/// The titles of the bars in the part of the boxes.
+fn titles(page: &Element) -> Vec<String> {
+    let bars = page.with_id("boxes").of_class("bar");
+    bars.iter()
+        .map(|bar| bar.named("title")[0].text())
+        .collect()
+}
+
+/// Boxes 2 and 9 are not in the file. At 20 MB box 1 holds 2 copies and box 3 as many; box 2 is to hold
+/// 3, and box 9 one.
+#[test]
+fn a_layout_of_boxes_that_are_not_there_is_drawn() {
+    let folder = small("report-astray");
+    let why = "last is not valid for small.txt as it is now: partition 0 lies on box 2, which is \
+               not there (refused 10).";
+    let page = refused(&folder, "small.txt last", why);
+    assert_eq!(texts(page.of_class("danger")), [why]);
+    let told = "2 copies of everything, in at least 2 zones, are wanted. The layout is drawn as it was \
+                planned, for partitions of 20 MB; what is at fault is red. 3 partitions are at fault: 0, \
+                2, 3.";
+    assert_eq!(lead(&page), told);
+    let known = [
+        "Box 1 (<b>&\"): disk 110 MB, held 40 MB, unused 64 MB, free 6 MB",
+        "Box 3 (study): disk 60 MB, held 40 MB, unused 17 MB, free 3 MB",
+        "Box 4: disk 60 MB, held 0 MB, unused 57 MB, free 3 MB",
+        "Box 4294967295 (the last one): disk 0 MB, held 0 MB, unused 0 MB, free 0 MB",
+        "Box 2, not there any more: the layout has 3 copies there",
+        "Box 9, not there any more: the layout has 1 copy there",
+    ];
+    assert_eq!(titles(&page), known);
+    let astray = page.with_id("boxes").of_class("astray");
+    let widths: Vec<u64> = astray
+        .iter()
+        .map(|part| thousandths(part.get("width")))
+        .collect();
+    // One is in the legend; 60 and 20 of 110 MB.
+    assert_eq!(widths, [24_000, 54_545, 18_181]);
+    for (partition, faults) in [
+        (0, &["2", "not there"][..]),
+        (1, &[]),
+        (2, &["2", "not there"]),
+        (3, &["2", "9", "not there"]),
+    ] {
+        assert_eq!(red(&page, &format!("partition-{partition}")), faults);
+    }
+    let tables = page.with_id("tables").named("table");
+    let lines: Vec<Vec<String>> = tables[0]
+        .named("tr")
+        .iter()
+        .map(|tr| texts(tr.named("td")))
+        .collect();
+    let line = |copies: &str, used: &str| {
+        ["", "not there any more", "-", copies, used, "-"].map(String::from)
+    };
+    assert_eq!(lines[5..7], [line("3", "60"), line("1", "20")]);
+    assert_eq!(lines[7], ["", "", "-", "8", "160", "-"]);
+    let zones = tables[1].named("tr");
+    let last = texts(zones.last().expect("a line").named("td"));
+    assert_eq!(last, ["2", "-", "4", "80", "-"]);
+}
+
+/// From `next` to `last` box 2 would receive partitions 0, 2 and 3, and box 9 partition 3; box 1 would drop
+/// 2 and 3, and box 4 would drop 0 and 3.
+#[test]
+fn what_would_move_to_boxes_that_are_not_there_is_drawn() {
+    let folder = small("report-straying");
+    let why = "last is not valid for small.txt as it is now: partition 0 lies on box 2, which is \
+               not there (refused 10).";
+    let page = refused(&folder, "small.txt last --former next", why);
+    let map = page.with_id("map");
+    // Boxes 2 and 9 have a path each, and the legend one.
+    assert_eq!(map.of_class("astray").len(), 3);
+    assert!(page
+        .all()
+        .iter()
+        .all(|e| !["moves", "steps", "why"].contains(&e.get("id"))));
+    let sum = page.with_id("tables").of_class("sum");
+    let cells = texts(sum[0].named("td"));
+    assert_eq!(cells, ["", "", "-", "8", "160", "-", "4", "4"]);
+}
+
+/// In one zone partition 1 lies on boxes 3 and 4.
+#[test]
+fn a_layout_in_too_few_zones_is_drawn() {
+    let folder = small("report-zones");
+    let rows: [&[u32]; 4] = [&[1, 4], &[3, 4], &[1, 3], &[1, 4]];
+    folder.write("other", layout_record(2, 10, &rows));
+    let why =
+        "other is not valid for small.txt as it is now: partition 1 lies in 1 zone (home), 2 are \
+               wanted (refused 11).";
+    let page = refused(&folder, "small.txt other", why);
+    assert!(
+        lead(&page).ends_with("red. 1 partition is at fault: 1."),
+        "{}",
+        lead(&page)
+    );
+    assert_eq!(red(&page, "partition-0"), [""; 0]);
+    assert_eq!(red(&page, "partition-1"), ["1 of 2 zones"]);
+    bars_add_up(&page, &small_capacities(), 110);
+    folder.write("three.txt", SMALL.replace("copies 2", "copies 3"));
+    let why =
+        "other is not valid for three.txt as it is now: it has 2 copies of each partition, 3 are \
+               wanted (refused 10).";
+    let page = refused(&folder, "three.txt other", why);
+    assert_eq!(red(&page, "partition-0"), ["2 of 3 copies"]);
+}
+
+/// At 40 MB box 1 is to hold 160 MB on a disk of 110, of which 104 may be filled, and box 3 is to hold 80
+/// on one of 60, of which 57 may be; box 4 is to hold 80 too. Box 1 is above its ceiling besides.
+#[test]
+fn a_layout_that_is_too_large_is_drawn() {
+    let folder = small("report-too-full");
+    folder.write("small.txt", SMALL.to_owned() + "ceiling 1 3\n");
+    let rows: [&[u32]; 4] = [&[1, 4], &[1, 3], &[1, 3], &[1, 4]];
+    folder.write("other", layout_record(2, 40, &rows));
+    let why = "other is not valid for small.txt as it is now: box 1 (<b>&\") is to hold 4 copies of 40 MB, \
+               160 MB together, and may hold 104 MB of its 110 MB, since a sixteenth stays free, and its \
+               ceiling is 3 (refused 12).";
+    let page = refused(&folder, "small.txt other --former next", why);
+    let told = "red. Too full: boxes 1 (<b>&\"), 3 (study) and 4.";
+    assert!(lead(&page).ends_with(told), "{}", lead(&page));
+    let known =
+        "Box 1 (<b>&\"), above its ceiling of 3 copies: disk 110 MB, kept 160 MB, received 0 MB, \
+                 too much 56 MB, unused 0 MB, free 0 MB";
+    assert_eq!(titles(&page)[0], known);
+    let bar = page.with_id("boxes").of_class("bar")[0];
+    let parts: Vec<(&str, &str, &str)> = bar
+        .named("rect")
+        .iter()
+        .map(|part| (part.get("class"), part.get("x"), part.get("width")))
+        .collect();
+    // The scale is 160 MB, the longest; 104 are 65 of a hundred.
+    assert_eq!(parts, [("kept", "0%", "65%"), ("over", "65%", "35%")]);
+    assert_eq!(bar.of_class("end")[0].get("x1"), "68.75%");
+    let figures = page.with_id("boxes").of_class("figures");
+    assert_eq!(texts(figures[0].named("em")), ["4 copies", "145.4 %"]);
+    assert_eq!(red(&page, "box-1"), ["4", "160", "145.4 %"]);
+    assert_eq!(red(&page, "box-3"), ["80", "133.3 %"]);
 }
 
 /// What the page begins with, as it is told where no page is written.

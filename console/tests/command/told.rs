@@ -112,3 +112,58 @@ fn a_former_layout_of_quite_other_boxes_is_warned_of() {
     folder.write("last", layout_record(1, 5, &[&[7, 8], &[3, 9]]));
     assert_eq!(folder.call("plan home.txt --former last").err, "");
 }
+
+/// A file of so many lines that say nothing; three more faults are that copies, zones and boxes are missing.
+#[test]
+fn twenty_faults_are_listed_and_the_others_counted() {
+    let folder = Folder::new("many-faults");
+    let told = |lines: usize| {
+        folder.write("bad.txt", "nonsense\n".repeat(lines));
+        let done = folder.call("plan bad.txt");
+        assert_eq!(done.status, 2);
+        done.err.lines().map(String::from).collect::<Vec<String>>()
+    };
+    let of_all = "bad.txt: there is no line with a box: box 1 home 2T";
+    assert_eq!(told(17).len(), 20);
+    assert_eq!(told(17)[19], of_all);
+    assert_eq!(told(18).len(), 21);
+    assert_eq!(told(18)[20], "bad.txt: 1 more fault is not listed");
+    let many = told(1_200);
+    assert!(
+        many[19].starts_with("bad.txt, line 20: a line begins with"),
+        "{many:?}"
+    );
+    assert_eq!(many[20..], ["bad.txt: 1,183 more faults are not listed"]);
+}
+
+/// 4 TiB are 4,398,046,511,104 bytes.
+#[test]
+fn a_unit_by_1024_is_told_by_thousands() {
+    let folder = Folder::new("binary-unit");
+    folder.write("home.txt", THREE);
+    folder.write(
+        "bad.txt",
+        THREE.replace("100", "4TiB").replace("70", "4 TiB"),
+    );
+    let told = "4TiB is 4,398,046 MB: write 4398046, or 4.398046T";
+    for (words, before) in [
+        (&["plan", "bad.txt"][..], "bad.txt, line 4: "),
+        (
+            &["stage", "home.txt", "add", "7", "a", "4TiB"],
+            "add 7 a 4TiB: ",
+        ),
+        (&["stage", "home.txt", "resize", "3", "4TiB"], "dezghuri: "),
+        (&["what-if", "home.txt", "--resize", "3=4TiB"], "dezghuri: "),
+        (
+            &["what-if", "home.txt", "--add", "a 4TiB"],
+            "--add \"a 4TiB\": ",
+        ),
+    ] {
+        let done = folder.call_words(words);
+        assert_eq!(done.status, 2, "{words:?}");
+        let line = done.err.lines().next();
+        assert_eq!(line, Some(&format!("{before}{told}")[..]));
+    }
+    let apart = format!("bad.txt, line 5: {told}\n");
+    assert!(folder.call("plan bad.txt").err.ends_with(&apart));
+}

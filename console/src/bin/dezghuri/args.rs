@@ -5,6 +5,7 @@ mod writes;
 
 use crate::grammar::{self, Grammar, Opt, CEILING, END, JSON, STAGED};
 use crate::labels;
+use crate::terminal::escaped;
 use crate::units;
 use dezghuri::Node;
 use std::ffi::OsString;
@@ -459,7 +460,7 @@ impl Words {
                 Some((name, value)) => (name, Some(OsString::from(value))),
                 None => (text, None),
             };
-            let not_here = || format!("{name} is not an option here");
+            let not_here = || format!("{} is not an option here", escaped(name));
             let option = grammar.option(name).ok_or_else(not_here)?;
             match option.word {
                 None => sorted.add_flag(option.name, value)?,

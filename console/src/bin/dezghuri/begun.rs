@@ -2,6 +2,7 @@
 //! them.
 
 use crate::output::with_ending;
+use crate::terminal::shown;
 use std::ffi::OsStr;
 use std::fs;
 use std::io::{self, ErrorKind};
@@ -50,7 +51,7 @@ fn removed(file: &Path) -> Option<String> {
         Err(error) => format!("it cannot be removed: {error}"),
     };
     // In the folder that the owner is in, its name is enough.
-    let file = file.strip_prefix(".").unwrap_or(file).display();
+    let file = shown(file.strip_prefix(".").unwrap_or(file));
     Some(format!("{file}: left by a call that was cut short; {end}"))
 }
 

@@ -4,6 +4,7 @@ use crate::args::Change;
 use crate::failure::Failure;
 use crate::json::Json;
 use crate::labels;
+use crate::terminal::escaped;
 use dezghuri::units::capacity_in_words;
 use dezghuri::{Description, Label, Node, Note, Refusal, Refused};
 
@@ -58,7 +59,7 @@ impl Tried {
                 Change::Add(words) => {
                     let id = ids.next().expect("each has one");
                     let (node, label) = take(&mut described, id).expect("it was read");
-                    Step::Add(node, label, words.trim().into())
+                    Step::Add(node, label, escaped(words.trim()))
                 }
             });
         }
@@ -88,6 +89,7 @@ impl Added<'_> {
         let mut lines = Vec::new();
         for (place, words) in (1..).zip(words) {
             let Some(id) = highest.checked_add(place) else {
+                let words = escaped(words);
                 let what = format!("--add \"{words}\": no id is left above {highest}");
                 return Err(Failure::bad(what));
             };
@@ -116,7 +118,7 @@ impl Added<'_> {
     fn told(&self, note: &Note) -> Option<String> {
         let place = note.line?.checked_sub(self.first_line)?;
         let (_, words) = self.lines.get(place)?;
-        Some(format!("--add \"{words}\": {}", note.what))
+        Some(format!("--add \"{}\": {}", escaped(words), note.what))
     }
 }
 

@@ -24,6 +24,7 @@ use crate::losses;
 use crate::output::{Kind, Output};
 use crate::report;
 use crate::staged::Staged;
+use crate::terminal::shown;
 use crate::units::count;
 use dezghuri::{Cluster, Description, Plan, Refused};
 use std::collections::BTreeSet;
@@ -109,7 +110,7 @@ pub fn output(kind: Kind, record: Vec<u8>, file: &Path, out: &Path) -> Result<Ou
     if files::are_one(file, out) {
         return Err(Failure::Usage(format!(
             "--out {} would replace the description of the cluster",
-            out.display()
+            shown(out)
         )));
     }
     Output::new(out, kind, record)
@@ -143,7 +144,7 @@ pub fn describe(
             Some(staged) => staged.known()?,
             None => files::read_description(file)?,
         },
-        name: file.display().to_string(),
+        name: shown(file),
         staged: None,
         before: None,
     };
@@ -206,9 +207,9 @@ fn start_from(
     if last.bits != described.cluster.bits {
         return Err(Failure::bad(format!(
             "{} was planned with bits {}, {} has bits {}: they cannot change",
-            former.display(),
+            shown(former),
             last.bits,
-            file.display(),
+            shown(file),
             described.cluster.bits
         )));
     }
@@ -226,8 +227,8 @@ fn of_other_boxes(described: &Description, file: &Path, former: &Path) -> Option
     }
     Some(format!(
         "{}: none of its boxes is in {}: is it the layout of another cluster?",
-        former.display(),
-        file.display()
+        shown(former),
+        shown(file)
     ))
 }
 

@@ -2,6 +2,8 @@
 
 use crate::failure::Failure;
 use crate::staged;
+use crate::terminal::shown;
+use crate::units::count;
 use dezghuri::{ffi, Cluster, Description, Plan};
 use std::fs::{self, File};
 use std::io::{self, ErrorKind, Read};
@@ -9,6 +11,9 @@ use std::path::Path;
 
 /// No description of a cluster is longer; what is longer is some other file.
 pub const LONGEST_TEXT: u64 = 1 << 20;
+
+/// So many faults of a text are listed: a file that is no description has one on each line.
+const MOST_FAULTS: usize = 20;
 
 /// What the program `plan` reads of a cluster record: a longer one is refused within these bytes.
 const RECORD_READ: u64 = 11_000;
@@ -22,7 +27,7 @@ pub fn read_description(path: &Path) -> Result<Description, Failure> {
 pub fn read_text(path: &Path) -> Result<Vec<u8>, Failure> {
     let text = read_at_most(path, LONGEST_TEXT + 1)?;
     match other_than_text(&text) {
-        Some(what) => Err(Failure::bad(format!("{}: {what}", path.display()))),
+        Some(what) => Err(Failure::bad(format!("{}: {what}", shown(path)))),
         None => Ok(text),
     }
 }
@@ -30,8 +35,14 @@ pub fn read_text(path: &Path) -> Result<Vec<u8>, Failure> {
 /// The cluster that the text of a file describes.
 pub fn described(path: &Path, text: &[u8]) -> Result<Description, Failure> {
     Description::parse(text).map_err(|faults| {
-        let told = faults.notes().iter().map(|fault| fault.told_of(path));
-        Failure::Bad(told.collect())
+        let faults = faults.notes().iter().map(|fault| fault.told_of(path));
+        let mut told: Vec<String> = faults.collect();
+        let more = told.split_off(told.len().min(MOST_FAULTS)).len() as u64;
+        if more > 0 {
+            let more = count(more, "more fault is", "more faults are");
+            told.push(format!("{}: {more} not listed", shown(path)));
+        }
+        Failure::Bad(told)
     })
 }
 
@@ -60,7 +71,7 @@ pub fn read_plan(path: &Path) -> Result<Plan, Failure> {
             true => "this is a text file, and not a layout record".into(),
             false => format!("this is not a whole layout record: {refused}"),
         };
-        Failure::bad(format!("{}: {what}", path.display()))
+        Failure::bad(format!("{}: {what}", shown(path)))
     })
 }
 
@@ -90,7 +101,7 @@ fn read_at_most(path: &Path, most: u64) -> Result<Vec<u8>, Failure> {
     let mut bytes = Vec::new();
     File::open(path)
         .and_then(|file| file.take(most).read_to_end(&mut bytes))
-        .map_err(|error| Failure::bad(format!("{}: {error}", path.display())))?;
+        .map_err(|error| Failure::bad(format!("{}: {error}", shown(path))))?;
     Ok(bytes)
 }
 
@@ -108,7 +119,7 @@ pub fn read_staged(path: &Path) -> Result<Option<Vec<u8>>, Failure> {
 }
 
 fn read_staged_there(path: &Path) -> Result<Vec<u8>, Failure> {
-    let bad = |what: &str| Failure::bad(format!("{}: {what}", path.display()));
+    let bad = |what: &str| Failure::bad(format!("{}: {what}", shown(path)));
     match fs::metadata(path) {
         Ok(there) if there.is_file() => (),
         Ok(_) => return Err(bad("there is something there that is not a file")),

@@ -4,6 +4,7 @@
 use crate::begun;
 use crate::failure::Failure;
 use crate::output::folder_of;
+use crate::terminal::{escaped, shown};
 use std::fs::{self, File, Metadata, TryLockError};
 use std::io;
 use std::os::unix::fs::MetadataExt;
@@ -100,7 +101,7 @@ impl Folder {
         Failure::bad(format!(
             "{}: not written: after {} seconds of waiting its folder is still locked by {holder}; \
              call again once that has ended",
-            self.file.display(),
+            shown(&self.file),
             PATIENCE.as_secs()
         ))
     }
@@ -108,7 +109,7 @@ impl Folder {
     fn unlocked(&self, error: &io::Error) -> String {
         format!(
             "{}: its folder cannot be locked ({error}): let no other call write there meanwhile",
-            self.file.display()
+            shown(&self.file)
         )
     }
 }
@@ -145,7 +146,7 @@ fn device_in_locks(device: u64) -> String {
 fn in_words(process: u32) -> String {
     let words = fs::read(format!("/proc/{process}/cmdline")).unwrap_or_default();
     let words = String::from_utf8_lossy(&words).replace('\0', " ");
-    let words = words.trim_end().replace(char::is_control, "?");
+    let words = escaped(words.trim_end());
     match &words[..] {
         "" => format!("process {process}"),
         words => format!("process {process} ({words})"),

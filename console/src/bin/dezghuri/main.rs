@@ -28,7 +28,7 @@ mod why;
 
 use args::{Call, Command};
 use commands::Answer;
-use dezghuri::units;
+use dezghuri::{terminal, units};
 use failure::{Failure, BAD};
 use json::Json;
 use lock::Lock;

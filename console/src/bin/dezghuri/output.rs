@@ -10,6 +10,7 @@ use crate::json::Json;
 use crate::report;
 use crate::sheet;
 use crate::staged;
+use crate::terminal::shown;
 use dezghuri::{ffi, Cluster, Description, Plan};
 use kept::old_of;
 use std::fs::{self, File, Metadata, OpenOptions};
@@ -156,7 +157,7 @@ impl Output {
         let moved = self
             .put()
             .map_err(|error| not_written(&self.path, &error))?;
-        let mut told = format!("Written to {}.\n", self.path.display());
+        let mut told = format!("Written to {}.\n", shown(&self.path));
         if self.found.is_some() && self.kind.is_kept() {
             told += &kept::in_words(self.kind.name(), &self.old(), moved);
         }
@@ -227,12 +228,12 @@ impl Removal {
             }
         });
         removed.map_err(|error| not_removed(&self.path, &error))?;
-        Ok(format!("{} is removed.\n", self.path.display()))
+        Ok(format!("{} is removed.\n", shown(&self.path)))
     }
 }
 
 fn not_removed(path: &Path, error: &io::Error) -> Failure {
-    Failure::bad(format!("{}: not removed: {error}", path.display()))
+    Failure::bad(format!("{}: not removed: {error}", shown(path)))
 }
 
 fn changed_meanwhile() -> io::Error {
@@ -247,12 +248,12 @@ fn made_meanwhile() -> io::Error {
 fn in_the_way(begun: &Path) -> io::Error {
     io::Error::other(format!(
         "{} is in the way: remove it if no other call is writing",
-        begun.display()
+        shown(begun)
     ))
 }
 
 fn not_written(path: &Path, error: &io::Error) -> Failure {
-    Failure::bad(format!("{}: not written: {error}", path.display()))
+    Failure::bad(format!("{}: not written: {error}", shown(path)))
 }
 
 /// What stands at the place: nothing, or a record of the kind that may be replaced.

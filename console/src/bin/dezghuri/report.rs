@@ -17,6 +17,7 @@ use crate::failure::{Failure, REFUSED};
 use crate::files;
 use crate::losses;
 use crate::output::Kind;
+use crate::terminal::shown;
 use dezghuri::{Plan, ENOUGH};
 use facts::{Facts, Laid, Names};
 use std::path::Path;
@@ -26,7 +27,8 @@ pub use html::is_page;
 /// No page is longer: boxes, partitions and the length of the names that are shown have their limits.
 pub const LONGEST_PAGE: u64 = 500_000;
 
-/// The page of a layout, or of a cluster that has none: that page says why, and the status is 1.
+/// The page of a layout, or of a cluster that has none. One that is not valid is shown as far as it can be;
+/// the page says why, and the status is 1.
 pub fn run(call: &args::Report, warnings: &mut Vec<String>) -> Result<Answer, Failure> {
     let known = describe(&call.source, call.former.as_deref(), warnings)?;
     known.with_losses(paged(call, &known), warnings)
@@ -36,7 +38,8 @@ fn paged(call: &args::Report, known: &Known) -> Result<Answer, Failure> {
     let described = &known.described;
     let former = call.former.as_deref().map(files::read_plan).transpose()?;
     let laid = laid(call, known, former.as_ref())?;
-    let status = if laid.is_ok() { 0 } else { REFUSED };
+    let is_valid = laid.as_ref().is_ok_and(|laid| laid.judged.is_ok());
+    let status = if is_valid { 0 } else { REFUSED };
     let facts = Facts {
         names: names(call, known),
         losses: losses::in_words(&described.cluster),
@@ -63,20 +66,26 @@ fn laid(
         return Ok(laid.map_err(|refused| explain::no_plan(described, refused)));
     };
     let plan = files::read_plan(layout)?;
-    let laid = Laid::new(described, &plan, former);
-    Ok(laid.map_err(|refused| {
-        format!(
-            "{} is not valid for {} as it is now: {}",
-            layout.display(),
-            known.name,
-            explain::not_valid(described, &plan, refused)
-        )
-    }))
+    let refused = match Laid::new(described, &plan, former) {
+        Ok(laid) => return Ok(Ok(laid)),
+        Err(refused) => refused,
+    };
+    let why = format!(
+        "{} is not valid for {} as it is now: {}",
+        shown(layout),
+        known.name,
+        explain::not_valid(described, &plan, refused)
+    );
+    // Partitions of another number have no place in the map of these.
+    Ok(match plan.bits == described.cluster.bits {
+        true => Ok(Laid::drawn(&described.cluster, &plan, former, Err(why))),
+        false => Err(why),
+    })
 }
 
 /// The files as their owner calls them.
 fn names(call: &args::Report, known: &Known) -> Names {
-    let name = |path: &Path| path.display().to_string();
+    let name = |path: &Path| shown(path);
     Names {
         file: known.name.clone(),
         layout: call.layout.as_deref().map(name),

@@ -8,6 +8,7 @@ mod zones;
 use crate::failure::Failure;
 use crate::files;
 use crate::output::{self, Kind, Output, Removal};
+use crate::terminal::shown;
 use crate::units::count;
 use dezghuri::{Change, Description};
 use file::Sums;
@@ -65,7 +66,7 @@ impl Staged {
     /// Takes the changes that stand; what is to be warned of.
     fn take(&mut self, bytes: &[u8]) -> Result<Option<String>, Failure> {
         let contents = file::parse(bytes).map_err(|fault| {
-            let (path, text) = (self.path.display(), self.file.display());
+            let (path, text) = (shown(&self.path), shown(&self.file));
             Failure::Bad(vec![
                 format!("{path}: this is not a whole file of staged changes: {fault}"),
                 format!(
@@ -85,7 +86,7 @@ impl Staged {
 
     /// Neither text of an `apply` that was cut short is there.
     fn edited(&self) -> String {
-        let (path, text) = (self.path.display(), self.file.display());
+        let (path, text) = (shown(&self.path), shown(&self.file));
         format!(
             "{path}: `apply` was cut short, and {text} was edited since: what is staged may be in it \
              already; `dezghuri stage {text} show` shows it, `dezghuri undo {text}` takes the last \
@@ -110,7 +111,7 @@ impl Staged {
     /// What is to be said of a change that is refused, where one is.
     pub fn told(&self, made: &Made) -> Option<Failure> {
         let not = made.refused.as_ref()?;
-        let (path, text) = (self.path.display(), self.file.display());
+        let (path, text) = (shown(&self.path), shown(&self.file));
         let words = &made.steps[not.number - 1].words;
         let place = not.refused.place.map(|place| format!(", at {place}"));
         let line = format!(
@@ -145,7 +146,7 @@ impl Staged {
     }
 
     fn too_long(&self) -> Failure {
-        let what = format!("{}: this is too long to be staged", self.path.display());
+        let what = format!("{}: this is too long to be staged", shown(&self.path));
         Failure::bad(what)
     }
 

@@ -2,6 +2,7 @@
 
 use super::{ceiling, id, Command, Staging, Words};
 use crate::grammar::CEILING;
+use crate::terminal::{escaped, shown};
 use crate::units;
 use dezghuri::Node;
 use std::ffi::OsString;
@@ -53,13 +54,13 @@ pub fn stage(mut words: Words) -> Result<Command, String> {
 /// A change has an id and a capacity, or a whole new box: no ceiling of one that is there.
 fn no_ceiling(file: &Path, words: &[&str]) -> String {
     let words = match words {
-        [id, number] => format!("{id} {number}"),
+        [id, number] => escaped(&format!("{id} {number}")),
         _ => "ID N".into(),
     };
     format!(
         "a staged change cannot carry the ceiling of a box that is there: put the line `ceiling \
          {words}` into {}",
-        file.display()
+        shown(file)
     )
 }
 

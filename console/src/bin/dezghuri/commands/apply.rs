@@ -8,6 +8,7 @@ use crate::files;
 use crate::json::Json;
 use crate::output::{Kind, Output};
 use crate::staged::{Made, Staged};
+use crate::terminal::shown;
 use std::path::Path;
 
 pub fn run(file: &Path, warnings: &mut Vec<String>) -> Result<Answer, Failure> {
@@ -20,14 +21,14 @@ pub fn run(file: &Path, warnings: &mut Vec<String>) -> Result<Answer, Failure> {
     if staged.entries.is_empty() {
         return Err(Failure::bad(format!(
             "nothing is staged for {}",
-            file.display()
+            shown(file)
         )));
     }
     let text = rewritten(&staged, &made)?;
     let (report, mut members) = told(&staged, &made);
     if text == staged.text {
         members.push(("out", Json::Null));
-        let report = report + &format!("{} says so already.\n", file.display());
+        let report = report + &format!("{} says so already.\n", shown(file));
         return Ok(Answer {
             deeds: staged.removal()?.map(Deed::Remove).into_iter().collect(),
             ..Answer::with_json(report, members)
@@ -50,7 +51,7 @@ pub fn run(file: &Path, warnings: &mut Vec<String>) -> Result<Answer, Failure> {
 
 /// The text with the changes; it was read back, and describes the very cluster that they lead to.
 fn rewritten(staged: &Staged, made: &Made) -> Result<Vec<u8>, Failure> {
-    let not = |why: &str| Failure::bad(format!("{}: not written: {why}", staged.file.display()));
+    let not = |why: &str| Failure::bad(format!("{}: not written: {why}", shown(&staged.file)));
     match made.described.rewritten(&staged.text) {
         Some(text) if text.len() as u64 > files::LONGEST_TEXT => {
             Err(not("it would be too long to describe a cluster"))
@@ -64,7 +65,7 @@ fn rewritten(staged: &Staged, made: &Made) -> Result<Vec<u8>, Failure> {
 }
 
 fn told(staged: &Staged, made: &Made) -> (String, Vec<(&'static str, Json)>) {
-    let (file, count) = (staged.file.display(), staged.count());
+    let (file, count) = (shown(&staged.file), staged.count());
     let report = format!("{file} with {count}:\n\n{}\n", listed(made));
     let mut members = members("apply", staged, made);
     members.push(("applied", true.into()));
@@ -73,7 +74,7 @@ fn told(staged: &Staged, made: &Made) -> (String, Vec<(&'static str, Json)>) {
 
 /// All was written, and then the power went: only the file of what was staged is left to remove.
 fn finish(staged: &Staged, made: &Made) -> Result<Answer, Failure> {
-    let file = staged.file.display();
+    let file = shown(&staged.file);
     let report = format!("All that was staged for {file} is written into it already.\n");
     let (_, mut members) = told(staged, made);
     members.push(("out", Json::Null));

@@ -9,6 +9,7 @@ use crate::json::Json;
 use crate::labels;
 use crate::output::Kind;
 use crate::sheet::{self, Sheet};
+use crate::terminal::shown;
 use crate::units::{count, thousands};
 use crate::why;
 use dezghuri::{Certificate, Description, Group, Line, Plan, Refused};
@@ -126,13 +127,13 @@ fn text(call: &args::Certify, known: &Known, certificate: &Certificate) -> Strin
     };
     let parts = [
         heading(&known.name, described),
-        sheet::wrapped(&shown(call, certificate)),
+        sheet::wrapped(&told(call, certificate)),
         "\nNo larger size\n\n".into(),
         sheet::text(&sheet.larger()),
         "\nNo fewer copies sent\n\n".into(),
         sheet::text(&sheet.fewer()),
         "\nNot on this sheet\n\n".into(),
-        sheet::wrapped(&not_shown(call, certificate)),
+        sheet::wrapped(&not_told(call, certificate)),
         "\n".into(),
         counted_again(call),
     ];
@@ -140,13 +141,13 @@ fn text(call: &args::Certify, known: &Known, certificate: &Certificate) -> Strin
 }
 
 /// What the sheet shows.
-fn shown(call: &args::Certify, certificate: &Certificate) -> String {
-    let (layout, size) = (call.layout.display(), thousands(certificate.size.into()));
+fn told(call: &args::Certify, certificate: &Certificate) -> String {
+    let (layout, size) = (shown(&call.layout), thousands(certificate.size.into()));
     let sent = count(certificate.sent, "copy", "copies");
     let sends = match &call.former {
         Some(former) => format!(
             "From {} it sends {sent}, and none of this size sends fewer.",
-            former.display()
+            shown(former)
         ),
         None => format!("It sends {sent}, as all of this size do."),
     };
@@ -157,17 +158,17 @@ fn shown(call: &args::Certify, certificate: &Certificate) -> String {
 }
 
 /// What the sheet takes as it is, and where the rest can be counted.
-fn not_shown(call: &args::Certify, certificate: &Certificate) -> String {
-    let (file, layout) = (call.source.file.display(), call.layout.display());
+fn not_told(call: &args::Certify, certificate: &Certificate) -> String {
+    let (file, layout) = (shown(&call.source.file), shown(&call.layout));
     let sent = count(certificate.sent, "copy", "copies");
     let (taken, them) = match &call.former {
         Some(former) => (
             format!(
                 "{file} and {0} are taken as they are: whether the disks are so large, and whether the boxes \
                  held what {0} says, no sum can tell.",
-                former.display()
+                shown(former)
             ),
-            format!(", and those of {}", former.display()),
+            format!(", and those of {}", shown(former)),
         ),
         None => (
             format!("{file} is taken as it is: whether the disks are so large no sum can tell."),
@@ -182,7 +183,7 @@ fn not_shown(call: &args::Certify, certificate: &Certificate) -> String {
 
 /// How a program of somebody else counts all of it again.
 fn counted_again(call: &args::Certify) -> String {
-    let name = |path: &Path| path.display().to_string();
+    let name = |path: &Path| shown(path);
     let (file, layout) = (name(&call.source.file), name(&call.layout));
     let former = call.former.as_deref().map_or("-".into(), name);
     let out = call.out.as_deref().map_or("CERT".into(), name);

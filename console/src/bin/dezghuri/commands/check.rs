@@ -5,6 +5,7 @@ use crate::args::Source;
 use crate::explain;
 use crate::failure::{Failure, REFUSED};
 use crate::files;
+use crate::terminal::shown;
 use crate::units::thousands;
 use std::path::Path;
 
@@ -28,7 +29,7 @@ pub fn run(source: &Source, layout: &Path, warnings: &mut Vec<String>) -> Result
     let Some(why) = why else {
         let report = format!(
             "{} is valid for {name}, each partition up to {} MB.\n",
-            layout.display(),
+            shown(layout),
             thousands(plan.size.into())
         );
         return Ok(Answer::with_json(report, members));

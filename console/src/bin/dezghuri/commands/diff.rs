@@ -7,6 +7,7 @@ use crate::files;
 use crate::json::Json;
 use crate::labels::{self, GONE};
 use crate::table::{self, Column, Side};
+use crate::terminal::shown;
 use crate::units::{count, thousands, Unit};
 use dezghuri::{Description, Label, NodeDiff, Plan};
 use std::collections::BTreeSet;
@@ -56,18 +57,18 @@ pub fn run(
     if old.bits != new.bits {
         return Err(Failure::bad(format!(
             "{} was planned with bits {}, {} with bits {}: their partitions have nothing in common",
-            old_path.display(),
+            shown(old_path),
             old.bits,
-            new_path.display(),
+            shown(new_path),
             new.bits
         )));
     }
     let compared = Compared::new(&described, &old, &new);
     let heading = format!(
         "From {} ({} MB a partition) to {} ({} MB a partition)\n\n",
-        old_path.display(),
+        shown(old_path),
         thousands(old.size.into()),
-        new_path.display(),
+        shown(new_path),
         thousands(new.size.into()),
     );
     let mut members = vec![

@@ -9,6 +9,7 @@ use crate::json::Json;
 use crate::labels;
 use crate::losses;
 use crate::table::{self, Column, Side};
+use crate::terminal::shown;
 use crate::units::{count, thousands, Unit};
 use dezghuri::{Description, Held, Plan, Refused, Step, StepKind};
 use std::collections::BTreeSet;
@@ -53,7 +54,7 @@ pub fn run(call: &args::Moves, warnings: &mut Vec<String>) -> Result<Answer, Fai
 fn not_valid(call: &args::Moves, known: &Known, new: &Plan, refused: Refused) -> Failure {
     let told = format!(
         "{} is not valid for {} as it is now: {}",
-        call.new.display(),
+        shown(&call.new),
         known.name,
         explain::not_valid(&known.described, new, refused)
     );
@@ -96,7 +97,7 @@ impl<'a> Listed<'a> {
 
     /// That the new layout is held.
     fn nothing_left(&self) -> String {
-        let new = self.call.new.display();
+        let new = shown(&self.call.new);
         match self.all {
             0 => format!("Nothing has to be moved: the boxes hold {new} already.\n"),
             1 => format!("The one step is done: the boxes hold {new}.\n"),
@@ -193,7 +194,7 @@ impl<'a> Listed<'a> {
     }
 
     fn heading(&self) -> String {
-        let (old, new) = (self.call.old.display(), self.call.new.display());
+        let (old, new) = (shown(&self.call.old), shown(&self.call.new));
         let all = count(self.all as u64, "step", "steps");
         let left = thousands(self.left.len() as u64);
         let mut text = self.lost_lines();
@@ -249,9 +250,9 @@ impl<'a> Listed<'a> {
             self.unit().of(received * self.size),
             self.unit().name,
             count(dropped, "copy", "copies"),
-            self.call.source.file.display(),
-            old.display(),
-            new.display(),
+            shown(&self.call.source.file),
+            shown(old),
+            shown(new),
         )
     }
 
@@ -332,7 +333,7 @@ impl<'a> Listed<'a> {
 
 fn too_many(call: &args::Moves, all: usize) -> Failure {
     let args::Moves { old, new, .. } = call;
-    let (old, new) = (old.display(), new.display());
+    let (old, new) = (shown(old), shown(new));
     let there_are = match all {
         1 => "there is 1 step".into(),
         _ => format!("there are {} steps", thousands(all as u64)),

@@ -8,6 +8,7 @@ use crate::files;
 use crate::json::Json;
 use crate::output::{Kind, Output};
 use crate::overview::{first_transfers_in_words, transfers_in_words, Overview};
+use crate::terminal::shown;
 use crate::units::count;
 use crate::why;
 use dezghuri::{Description, Plan, Transfers, Verdict};
@@ -88,7 +89,7 @@ impl Made<'_> {
         let Some(output) = output.filter(|_| is_optimal) else {
             return String::new();
         };
-        let mut line = format!("`dezghuri certify {}", call.source.file.display());
+        let mut line = format!("`dezghuri certify {}", shown(&call.source.file));
         if self.known.staged.is_some() {
             line += " --staged";
         }
@@ -97,9 +98,9 @@ impl Made<'_> {
                 true => output.old(),
                 false => former.clone(),
             };
-            line += &format!(" --former {}", former.display());
+            line += &format!(" --former {}", shown(former));
         }
-        line + &format!(" {}` shows why.\n", output.path().display())
+        line + &format!(" {}` shows why.\n", shown(output.path()))
     }
 
     /// That the plan is one of boxes that the file has not yet.
@@ -108,7 +109,7 @@ impl Made<'_> {
             None | Some(0) => return String::new(),
             Some(staged) => count(staged as u64, "staged change", "staged changes"),
         };
-        let file = file.display();
+        let file = shown(file);
         format!(
             "Planned with {count}: `dezghuri apply {file}` writes what is staged into {file}.\n"
         )
@@ -152,8 +153,8 @@ fn layout_output(plan: &Plan, call: &args::Plan, out: &Path) -> Result<Output, F
         return Err(Failure::bad(format!(
             "{}: not written: there is a layout already. With --former {0} the plan starts from \
              it; with --replace it is replaced, and kept as {}",
-            out.display(),
-            output.old().display()
+            shown(out),
+            shown(output.old())
         )));
     }
     Ok(output)

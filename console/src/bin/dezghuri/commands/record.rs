@@ -7,6 +7,7 @@ use crate::files;
 use crate::losses;
 use crate::output::Kind;
 use crate::record_lines;
+use crate::terminal::shown;
 use crate::units::count;
 use std::path::Path;
 
@@ -27,7 +28,7 @@ pub fn run(
         return Ok(Answer::report(record));
     };
     let bytes = count(record.len() as u64, "byte", "bytes");
-    let report = format!("{} makes a cluster record of {bytes}.\n", file.display());
+    let report = format!("{} makes a cluster record of {bytes}.\n", shown(file));
     let output = output(Kind::Cluster, record, file, out)?;
     Ok(Answer::report(report).writing(output))
 }

@@ -9,6 +9,7 @@ use crate::json::Json;
 use crate::labels;
 use crate::overview::Overview;
 use crate::table::{self, Column, Side};
+use crate::terminal::shown;
 use crate::units::count;
 use dezghuri::{Description, Plan};
 use std::collections::BTreeSet;
@@ -87,7 +88,7 @@ impl Seen<'_> {
         let row = row.map_err(unforeseen)?;
         let ids: Vec<u32> = row.into_iter().filter(|id| *id != 0).collect();
         if ids.is_empty() {
-            let (layout, partitions) = (self.layout.display(), self.partitions());
+            let (layout, partitions) = (shown(self.layout), self.partitions());
             let what = format!("{layout} has {partitions}, numbered from 0");
             return Err(Failure::bad(what));
         }
@@ -116,7 +117,7 @@ impl Seen<'_> {
             return Err(Failure::bad(format!(
                 "there is no box {id} in {}, and {} has no copy on one",
                 self.name,
-                self.layout.display()
+                shown(self.layout)
             )));
         }
         let named = labels::in_words(&self.described, id);
@@ -193,7 +194,7 @@ impl Seen<'_> {
     fn size(&self) -> String {
         format!(
             "{}: {} of each of {}",
-            self.layout.display(),
+            shown(self.layout),
             count(self.plan.replication.into(), "copy", "copies"),
             self.partitions(),
         )

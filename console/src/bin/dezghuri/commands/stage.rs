@@ -6,6 +6,7 @@ use crate::failure::{Failure, REFUSED};
 use crate::json::Json;
 use crate::labels;
 use crate::staged::{self, Entry, Made, Staged};
+use crate::terminal::shown;
 use crate::units::count;
 use dezghuri::{Change, Description, Refused};
 use std::path::Path;
@@ -39,7 +40,7 @@ fn stage(mut staged: Staged, known: &Description, entry: Entry) -> Result<Answer
         let line = format!("{words}: not staged: {why} (refused {number})");
         return Err(Failure::Refused(line, not.refused));
     }
-    let (file, next) = (staged.file.display(), next(&staged));
+    let (file, next) = (shown(&staged.file), next(&staged));
     let report = format!("Staged for {file}: {words}.\n{next}\n");
     let mut members = members("stage", &staged, &made);
     members.extend(refusal(None, None));
@@ -48,7 +49,7 @@ fn stage(mut staged: Staged, known: &Description, entry: Entry) -> Result<Answer
 
 /// How many are staged, and what can be done with them.
 fn next(staged: &Staged) -> String {
-    let file = staged.file.display();
+    let file = shown(&staged.file);
     let number = staged.entries.len() as u64;
     let count = count(number, "change is", "changes are");
     format!("{count} staged now: `dezghuri plan {file} --staged` plans the boxes so.")
@@ -70,12 +71,12 @@ fn show(staged: &Staged, known: &Description) -> Answer {
 }
 
 fn in_words(staged: &Staged, made: &Made) -> String {
-    let file = staged.file.display();
+    let file = shown(&staged.file);
     if staged.was_applied {
         return format!(
             "Nothing is staged for {file}: all that was is written into it. `dezghuri apply {file}` \
              removes {}, which is left over.\n",
-            staged.path.display()
+            shown(&staged.path)
         );
     }
     if staged.entries.is_empty() {

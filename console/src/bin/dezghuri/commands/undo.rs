@@ -6,6 +6,7 @@ use crate::deeds::Deed;
 use crate::failure::Failure;
 use crate::json::Json;
 use crate::staged::{Made, Staged};
+use crate::terminal::shown;
 use crate::units::count;
 use dezghuri::{Cluster, Description};
 use std::path::Path;
@@ -20,7 +21,7 @@ pub fn run(file: &Path, warnings: &mut Vec<String>) -> Result<Answer, Failure> {
     let with = made(&staged, known.as_ref());
     if let Some(undo) = &with.last {
         if !undo.restores(&with.described) {
-            let path = staged.path.display();
+            let path = shown(&staged.path);
             let what =
                 "the last change cannot be reversed to the boxes before it; nothing is written";
             return Err(Failure::bad(format!("{path}: {what}")));
@@ -57,7 +58,7 @@ fn made(staged: &Staged, known: Option<&Description>) -> Made {
 
 /// How many are left.
 fn left(staged: &Staged) -> String {
-    let file = staged.file.display();
+    let file = shown(&staged.file);
     match staged.entries.len() as u64 {
         0 => format!("Nothing is staged for {file} any more."),
         left => format!(
@@ -69,7 +70,7 @@ fn left(staged: &Staged) -> String {
 
 /// Nothing can be taken back; a file that is left over goes.
 fn nothing(staged: &Staged) -> Failure {
-    let file = staged.file.display();
+    let file = shown(&staged.file);
     let removal = staged.removal().ok().flatten();
     let removed = removal.and_then(|removal| removal.remove().ok());
     match staged.was_applied {

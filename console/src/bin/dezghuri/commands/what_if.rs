@@ -8,6 +8,7 @@ use crate::failure::{Failure, REFUSED};
 use crate::files;
 use crate::json::Json;
 use crate::table::{self, Column, Side};
+use crate::terminal::shown;
 use crate::units::{thousands, Unit};
 use dezghuri::{Description, Refused, ENOUGH};
 use std::path::Path;
@@ -57,7 +58,7 @@ pub fn run(
         unit: unit(&asked),
     };
     let has_layout = table.lines.last().is_some_and(|line| line.outcome.is_ok());
-    let report = heading(&file.display().to_string(), &known) + &table.text();
+    let report = heading(&shown(file), &known) + &table.text();
     let members = vec![
         ("command", "what-if".into()),
         ("file", file.into()),

@@ -1,6 +1,7 @@
 //! Files that were replaced, kept by age: NAME.old is the newest, NAME.old.1 the one before it, and on.
 
 use super::{fill_free_name, sync_folder, with_ending, Found};
+use crate::terminal::shown;
 use std::fs;
 use std::io::{self, ErrorKind};
 use std::os::unix::fs::PermissionsExt;
@@ -53,9 +54,9 @@ fn make_room(old: &Path) -> io::Result<u32> {
 
 /// Where the replaced file is kept, and where those are that made room.
 pub fn in_words(kind: &str, old: &Path, moved: u32) -> String {
-    let told = format!("The {kind} before it is kept as {}", old.display());
+    let told = format!("The {kind} before it is kept as {}", shown(old));
     let first = older(old, 1);
-    let first = first.display();
+    let first = shown(&first);
     match moved {
         0 => told + ".\n",
         1 => format!("{told}, the one before that as {first}.\n"),
@@ -63,7 +64,7 @@ pub fn in_words(kind: &str, old: &Path, moved: u32) -> String {
             let last = older(old, moved);
             format!(
                 "{told}, the {moved} before that as {first} to {}.\n",
-                last.display()
+                shown(&last)
             )
         }
     }

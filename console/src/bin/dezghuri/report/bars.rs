@@ -1,7 +1,7 @@
 //! The boxes: a bar for each disk, all on one scale.
 
 use super::facts::{Cell, Facts, Laid, Row};
-use super::html::{self, name, section};
+use super::html::{self, name, red_where, section};
 use crate::labels;
 use crate::units::{count, percent, thousands, Unit};
 
@@ -17,6 +17,9 @@ struct Scale {
 /// What the part of a disk that stays free is called.
 const FREE: (&str, &str) = ("free", "stays free");
 
+/// What copies are called that the layout has on boxes which the file does not have.
+pub const ASTRAY: (&str, &str) = ("astray", "on a box that is not there");
+
 /// What the line across a bar is.
 const LINE: &str =
     "The line across a bar is the ceiling of its box, the most copies that it may hold.";
@@ -26,14 +29,17 @@ struct Bar {
     parts: Vec<(&'static str, u64)>,
     /// Where the ceiling of its box lies, if that is on the disk.
     ceiling: Option<u64>,
+    /// Where the disk ends, if more is to lie on it than may.
+    end: Option<u64>,
     title: String,
 }
 
 /// The bars of a cluster with a layout, those of boxes that are gone below.
 pub fn of_layout(facts: &Facts, laid: &Laid) -> String {
-    let held = |row: &Row| row.count(Cell::Dropped) * laid.former_size.unwrap_or(0);
-    let longest = laid.rows.gone.iter().map(held).max();
-    let scale = Scale::new(facts, longest.unwrap_or(0));
+    let away = laid.rows.gone.iter().map(|row| parts_away(laid, row));
+    let away = away.map(|parts| parts.iter().map(|(_, megabytes)| megabytes).sum());
+    let here = laid.rows.here.iter().map(|row| row.copies() * laid.size);
+    let scale = Scale::new(facts, away.chain(here).max().unwrap_or(0));
     let mut body = zones(facts, |b| {
         line(
             facts,
@@ -73,6 +79,7 @@ pub fn of_disks(facts: &Facts) -> String {
         let bar = Bar {
             parts: vec![("unused", usable), ("free", free)],
             ceiling: None,
+            end: None,
             title: title(facts, b, &[("disk", capacity), ("free", free)]),
         };
         let figures = format!(
@@ -147,20 +154,33 @@ fn disk(facts: &Facts, laid: &Laid, b: usize) -> Bar {
     let (row, (capacity, usable)) = (&laid.rows.here[b], disk_space(facts, b));
     let kept = row.count(Cell::Kept) * laid.size;
     let received = row.count(Cell::Received) * laid.size;
+    let too_much = facts.too_much(laid, b);
     let rest = [
         ("unused", usable.saturating_sub(kept + received)),
-        ("free", capacity - usable),
+        ("free", (capacity - usable).saturating_sub(too_much)),
     ];
-    let held = match facts.has_former() {
+    let mut told = match facts.has_former() {
         true => vec![("disk", capacity), ("kept", kept), ("received", received)],
         false => vec![("disk", capacity), ("held", kept)],
     };
+    if too_much > 0 {
+        told.push(("too much", too_much));
+    }
+    // What is too much is the end of what is held.
+    let fits = (kept + received).min(usable);
+    let kept = kept.min(fits);
+    let held = [
+        ("kept", kept),
+        ("received", fits - kept),
+        ("over", too_much),
+    ];
     let ceiling = labels::ceiling(&facts.cluster().nodes[b]);
     let ceiling = ceiling.map(|copies| u64::from(copies) * laid.size);
     Bar {
-        parts: [&[("kept", kept), ("received", received)][..], &rest].concat(),
+        parts: [&held[..], &rest].concat(),
         ceiling: ceiling.filter(|place| *place <= usable),
-        title: title(facts, b, &[&held[..], &rest].concat()),
+        end: (too_much > 0).then_some(capacity),
+        title: title(facts, b, &[&told[..], &rest].concat()),
     }
 }
 
@@ -194,34 +214,42 @@ fn title(facts: &Facts, b: usize, told: &[(&str, u64)]) -> String {
 fn figures(facts: &Facts, laid: &Laid, b: usize) -> String {
     let row = &laid.rows.here[b];
     let copies = row.copies();
+    let copies_told = count(copies, "copy", "copies");
+    let share = percent(copies * laid.size, disk_space(facts, b).0);
     let moved = |sign: char, number: u64| match number {
         0 => "<span></span>".into(),
         number => format!("<span>{sign}{}</span>", thousands(number)),
     };
     format!(
         "<span>{}</span><span>{}</span>{}{}",
-        count(copies, "copy", "copies"),
-        percent(copies * laid.size, disk_space(facts, b).0),
+        red_where(facts.is_above_ceiling(laid, b), &copies_told),
+        red_where(facts.too_much(laid, b) > 0, &share),
         moved('+', row.count(Cell::Received)),
         moved('\u{2212}', row.count(Cell::Dropped)),
     )
 }
 
-/// Boxes that are gone, as outlines as long as what they held took.
+/// Boxes that are gone, as outlines as long as what they held took; where the layout has copies there
+/// still, as long as these take.
 fn gone(laid: &Laid, scale: &Scale) -> String {
     let line = |row: &Row| {
-        let copies = row.count(Cell::Dropped);
-        let held = count(copies, "copy", "copies");
+        let (held, astray) = (count(row.named(), "copy", "copies"), row.copies());
+        let told = match astray {
+            0 => format!("it held {held}"),
+            n => format!("the layout has {} there", count(n, "copy", "copies")),
+        };
         let bar = Bar {
-            parts: vec![("gone", copies * laid.former_size.unwrap_or(0))],
+            parts: parts_away(laid, row).to_vec(),
             ceiling: None,
-            title: format!("Box {}, not there any more: it held {held}", row.id),
+            end: None,
+            title: format!("Box {}, not there any more: {told}", row.id),
         };
         format!(
             "<div class=\"row\"><span class=\"label\"><span class=\"id\">{}</span></span>{}\
-             <span class=\"figures\"><span>{held}</span></span></div>\n",
+             <span class=\"figures\"><span>{}</span></span></div>\n",
             row.id,
-            bar.svg(scale)
+            bar.svg(scale),
+            red_where(astray > 0, &held)
         )
     };
     let mut lines: String = laid.rows.gone.iter().map(line).collect();
@@ -237,6 +265,12 @@ fn gone(laid: &Laid, scale: &Scale) -> String {
     }
 }
 
+/// What a box that is gone had, and what the layout still has there.
+fn parts_away(laid: &Laid, row: &Row) -> [(&'static str, u64); 2] {
+    let had = row.count(Cell::Dropped) * laid.former_size.unwrap_or(0);
+    [("gone", had), ("astray", row.copies() * laid.size)]
+}
+
 /// The parts of the bars of a layout, each with its class and what it is called.
 fn parts(facts: &Facts, laid: &Laid) -> Vec<(&'static str, &'static str)> {
     let first = if facts.has_former() { "kept" } else { "held" };
@@ -244,9 +278,15 @@ fn parts(facts: &Facts, laid: &Laid) -> Vec<(&'static str, &'static str)> {
     if facts.has_former() {
         parts.push(("received", "received"));
     }
+    if (0..laid.rows.here.len()).any(|b| facts.too_much(laid, b) > 0) {
+        parts.push(("over", "too much; the thick line is the end of the disk"));
+    }
     parts.extend([("unused", "unused"), FREE]);
-    if !laid.rows.gone.is_empty() {
+    if laid.rows.has_gone() {
         parts.push(("gone", "was on a box that is gone"));
+    }
+    if laid.rows.has_astray() {
+        parts.push(ASTRAY);
     }
     parts
 }
@@ -348,6 +388,10 @@ impl Bar {
             let at = thousandths(scale.edge(ceiling));
             parts +=
                 &format!("<line class=\"ceiling\" x1=\"{at}%\" x2=\"{at}%\" y1=\"0\" y2=\"20\"/>");
+        }
+        if let Some(end) = self.end {
+            let at = thousandths(scale.edge(end));
+            parts += &format!("<line class=\"end\" x1=\"{at}%\" x2=\"{at}%\" y1=\"0\" y2=\"20\"/>");
         }
         format!(
             "<svg class=\"bar\" role=\"img\" width=\"100%\" height=\"20\"><title>{}</title>\

@@ -4,10 +4,11 @@ use crate::labels;
 use crate::units::{count, Unit};
 use crate::why;
 use dezghuri::{Certificate, Cluster, Description, Held, Layout, Plan, Refused, Step, ENOUGH};
+use std::cmp::Ordering;
 use std::collections::BTreeSet;
 
 /// So many boxes that are gone are drawn; a cluster has no more, but a damaged record may name more.
-const MOST_GONE: usize = 32;
+pub const MOST_GONE: usize = 32;
 
 /// All that the page is made of.
 pub struct Facts<'a> {
@@ -29,22 +30,28 @@ pub struct Names {
     pub former: Option<String>,
 }
 
-/// A valid layout, and what becomes of each former copy.
+/// A layout, and what becomes of each former copy.
 pub struct Laid {
     pub size: u64,
-    /// What no size can pass.
-    pub upper_bound: u64,
     pub rows: Rows,
     /// What a partition was planned for before, where there was a plan.
     pub former_size: Option<u64>,
-    pub best: Best,
-    /// Why the size is no larger, and which boxes are not used; nothing where a larger one is allowed.
-    pub why: Vec<String>,
     /// The rows of the partitions before and after.
     pub before: Layout,
     pub after: Layout,
-    /// The steps from the ones to the others; none without a former layout.
+    /// The steps from the ones to the others; none without a former layout, and to one that is not valid.
     pub steps: Vec<Step>,
+    /// How good it is; or, where it is not valid for the boxes, why.
+    pub judged: Result<Judged, String>,
+}
+
+/// What can be said of a valid layout.
+pub struct Judged {
+    /// What no size can pass.
+    pub upper_bound: u64,
+    pub best: Best,
+    /// Why the size is no larger, and which boxes are not used; nothing where a larger one is allowed.
+    pub why: Vec<String>,
     /// Why no layout is better than this one from the former one; nothing without one, or where one is.
     pub certificate: Option<Certificate>,
 }
@@ -105,22 +112,63 @@ impl<'a> Facts<'a> {
         laid.is_ok_and(|laid| !laid.steps.is_empty())
     }
 
+    /// The layout, where it is not valid for the boxes.
+    pub fn not_valid(&self) -> Option<&Laid> {
+        let laid = self.laid.as_ref().ok();
+        laid.filter(|laid| laid.judged.is_err())
+    }
+
     pub fn has_ceilings(&self) -> bool {
         labels::has_ceilings(self.cluster())
     }
 
-    /// The ceiling of a box in words, and whether it is reached; nothing where it has none.
+    /// The ceiling of a box in words, and whether it is reached or passed; nothing where it has none.
     pub fn ceiling_in_words(&self, b: usize) -> Option<String> {
         let node = &self.cluster().nodes[b];
         let ceiling = u64::from(labels::ceiling(node)?);
         let laid = self.laid.as_ref().ok();
-        let copies = laid.map(|laid| laid.rows.here[b].copies());
-        match copies == Some(ceiling) {
-            true => Some(format!(
-                "at its ceiling of {}",
-                count(ceiling, "copy", "copies")
-            )),
-            false => labels::ceiling_in_words(node),
+        let copies = laid.map_or(0, |laid| laid.rows.here[b].copies());
+        let most = count(ceiling, "copy", "copies");
+        match copies.cmp(&ceiling) {
+            Ordering::Less => labels::ceiling_in_words(node),
+            Ordering::Equal => Some(format!("at its ceiling of {most}")),
+            Ordering::Greater => Some(format!("above its ceiling of {most}")),
+        }
+    }
+
+    /// The megabytes that a box is to hold above what may be filled of its disk.
+    pub fn too_much(&self, laid: &Laid, b: usize) -> u64 {
+        let usable = u64::from(self.cluster().nodes[b].usable());
+        (laid.rows.here[b].copies() * laid.size).saturating_sub(usable)
+    }
+
+    /// Whether a box is to hold more copies than it may.
+    pub fn is_above_ceiling(&self, laid: &Laid, b: usize) -> bool {
+        laid.rows.here[b].copies() > self.cluster().nodes[b].ceiling.into()
+    }
+
+    /// The boxes that are not there, but in the layout: none where it is valid.
+    pub fn astray(&self, laid: &Laid) -> Vec<u32> {
+        let ids = laid.after.rows().flat_map(|(_, ids)| ids);
+        let ids: BTreeSet<u32> = ids
+            .filter(|id| !self.described.has(**id))
+            .copied()
+            .collect();
+        ids.into_iter().collect()
+    }
+
+    /// What is wrong with the row of a partition, in a few words; nothing where nothing is.
+    pub fn fault_of_row(&self, laid: &Laid, partition: u8) -> Option<String> {
+        let (cluster, row) = (self.cluster(), laid.after.row(partition));
+        let (copies, wanted) = (row.len(), usize::from(cluster.replication));
+        let here = cluster.nodes.iter().filter(|node| row.contains(&node.id));
+        let zones: BTreeSet<u16> = here.map(|node| node.zone).collect();
+        let (zones, least) = (zones.len(), usize::from(cluster.redundancy));
+        match row.iter().all(|id| self.described.has(*id)) {
+            false => Some("not there".into()),
+            true if copies != wanted => Some(format!("{copies} of {wanted} copies")),
+            true if zones < least => Some(format!("{zones} of {least} zones")),
+            true => None,
         }
     }
 
@@ -146,25 +194,42 @@ impl Laid {
     ) -> Result<Laid, Refused> {
         let cluster = &described.cluster;
         let upper_bound = cluster.figures(&plan.layout, plan.size)?.hope;
-        // Without a former layout each copy is drawn as one that stays.
-        let before = former.map_or(&plan.layout, |former| &former.layout);
-        let rows = Rows::new(cluster, before, &plan.layout);
-        let best = Best::of(cluster, plan, rows.all(Cell::Received))?;
-        Ok(Laid {
-            size: plan.size.into(),
+        let sent = former.map_or(0, |_| cluster.transfers(&plan.layout).all_received());
+        let best = Best::of(cluster, plan, sent)?;
+        let judged = Judged {
             upper_bound,
             why: match best {
                 Best::Larger(_) => Vec::new(),
                 _ => binding(described, plan),
             },
             best,
-            rows,
+            certificate: former.and_then(|_| cluster.certify(&plan.layout, plan.size).ok()),
+        };
+        let laid = Laid::drawn(cluster, plan, former, Ok(judged));
+        Ok(Laid {
+            steps: cluster.moves(&Held::from(&laid.before), &plan.layout)?,
+            ..laid
+        })
+    }
+
+    /// A layout whose partitions are those of the cluster, be it valid or not, without the steps to it.
+    pub fn drawn(
+        cluster: &Cluster,
+        plan: &Plan,
+        former: Option<&Plan>,
+        judged: Result<Judged, String>,
+    ) -> Laid {
+        // Without a former layout each copy is drawn as one that stays.
+        let before = former.map_or(&plan.layout, |former| &former.layout);
+        Laid {
+            size: plan.size.into(),
+            rows: Rows::new(cluster, before, &plan.layout),
             former_size: former.map(|former| former.size.into()),
             before: before.clone(),
             after: plan.layout.clone(),
-            steps: cluster.moves(&Held::from(before), &plan.layout)?,
-            certificate: former.and_then(|_| cluster.certify(&plan.layout, plan.size).ok()),
-        })
+            steps: Vec::new(),
+            judged,
+        }
     }
 
     pub fn sent(&self) -> u64 {
@@ -224,15 +289,26 @@ impl Rows {
                 .collect(),
         };
         let is_here = |id: &u32| cluster.nodes.iter().any(|node| node.id == *id);
-        let ids: BTreeSet<u32> = before.rows().flat_map(|(_, ids)| ids.to_vec()).collect();
+        let named = before.rows().chain(after.rows());
+        let ids: BTreeSet<u32> = named.flat_map(|(_, ids)| ids.to_vec()).collect();
         let mut gone: Vec<Row> = ids.into_iter().filter(|id| !is_here(id)).map(row).collect();
         let more = gone.split_off(gone.len().min(MOST_GONE));
-        let copies = more.iter().map(|row| row.count(Cell::Dropped) as usize);
+        let copies = more.iter().map(|row| row.named() as usize);
         Rows {
             here: cluster.nodes.iter().map(|node| row(node.id)).collect(),
             gone,
             more_gone: (more.len(), copies.sum()),
         }
+    }
+
+    /// Whether the layout has copies on boxes that are not there: then it is not valid.
+    pub fn has_astray(&self) -> bool {
+        self.gone.iter().any(|row| row.copies() > 0)
+    }
+
+    /// Whether former copies went with boxes.
+    pub fn has_gone(&self) -> bool {
+        self.gone.iter().any(|row| row.count(Cell::Dropped) > 0)
     }
 
     /// Such cells of all boxes that are there.
@@ -244,6 +320,11 @@ impl Rows {
 impl Row {
     pub fn count(&self, cell: Cell) -> u64 {
         self.cells.iter().filter(|other| **other == cell).count() as u64
+    }
+
+    /// Copies that it has in the former layout or in this one.
+    pub fn named(&self) -> u64 {
+        self.cells.len() as u64 - self.count(Cell::Empty)
     }
 
     /// Copies that it holds in the layout.

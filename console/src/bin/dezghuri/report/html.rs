@@ -11,6 +11,8 @@ const END: &str = "</main>\n</body>\n</html>\n";
 const STYLE: &str = include_str!("style.css");
 /// What a page needs besides where some box has a ceiling.
 const CEILINGS: &str = include_str!("ceilings.css");
+/// What a page needs besides where the layout is not valid.
+const FAULTS: &str = include_str!("faults.css");
 /// What a page needs besides where copies move.
 const MOVES: &str = include_str!("moves.css");
 const PATTERNS: &str = include_str!("patterns.svg");
@@ -32,6 +34,11 @@ pub fn page(facts: &Facts) -> String {
     let title = name(last_part(&facts.names.file));
     let ceilings = if facts.has_ceilings() { CEILINGS } else { "" };
     let moves = if facts.has_steps() { MOVES } else { "" };
+    let faults = if facts.not_valid().is_some() {
+        FAULTS
+    } else {
+        ""
+    };
     let figures = match &facts.laid {
         Ok(laid) => of_layout(facts, laid),
         Err(_) => [
@@ -43,7 +50,7 @@ pub fn page(facts: &Facts) -> String {
     [
         BEGINNING,
         "<meta name=\"viewport\" content=\"width=device-width, initial-scale=1\"/>\n",
-        &format!("<title>Layout of {title}</title>\n<style>\n{STYLE}{ceilings}{moves}</style>\n</head>\n<body>\n"),
+        &format!("<title>Layout of {title}</title>\n<style>\n{STYLE}{ceilings}{moves}{faults}</style>\n</head>\n<body>\n"),
         PATTERNS,
         &format!("<main>\n<h1>Layout of {title}</h1>\n"),
         &first_words(facts),
@@ -64,12 +71,14 @@ fn first_words(facts: &Facts) -> String {
     for line in facts.losses.iter().flat_map(|told| told.lines()) {
         text += &paragraph("danger", line);
     }
-    let class = if facts.laid.is_ok() {
-        "lead"
-    } else {
-        "lead refused"
+    let sentence = words::sentence(facts);
+    text += &match (&facts.laid, facts.not_valid()) {
+        (Err(_), _) => paragraph("lead refused", &sentence),
+        (_, None) => paragraph("lead", &sentence),
+        (_, Some(laid)) => {
+            paragraph("danger", &sentence) + &paragraph("lead", &words::not_valid(facts, laid))
+        }
     };
-    text += &paragraph(class, &words::sentence(facts));
     text += &paragraph("small", &words::source(facts));
     text
 }
@@ -147,6 +156,14 @@ fn cut(text: &str, longest: usize) -> String {
         escaped(head.trim_end()),
         escaped(tail.trim_start())
     )
+}
+
+/// A figure, in red where it is at fault.
+pub fn red_where(is_at_fault: bool, figure: &str) -> String {
+    match is_at_fault {
+        true => format!("<em>{figure}</em>"),
+        false => figure.into(),
+    }
 }
 
 /// A name in a table. One that is written from right to left leaves its neighbours in place.

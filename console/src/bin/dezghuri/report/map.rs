@@ -1,6 +1,6 @@
 //! The map: partitions along, boxes down.
 
-use super::bars::{band, label, zones};
+use super::bars::{self, band, label, zones};
 use super::facts::{Cell, Facts, Laid, Row};
 use super::html::section;
 use crate::units::count;
@@ -29,9 +29,9 @@ pub fn of_layout(facts: &Facts, laid: &Laid) -> String {
             "<span class=\"label\"><span class=\"id\">{}</span></span>",
             row.id
         );
-        let held = count(row.count(Cell::Dropped), "copy", "copies");
+        let held = count(row.named(), "copy", "copies");
         let title = format!("Box {}, not there any more: {held}", row.id);
-        line(&label, row, &[GONE], &title)
+        line(&label, row, &[GONE, ASTRAY, STRAYING], &title)
     });
     let gone: String = gone.collect();
     if !gone.is_empty() {
@@ -110,6 +110,18 @@ const GONE: Kind = Kind {
     cell: Cell::Dropped,
     class: "hollow",
     mark: Some(("cross", Mark::Cross)),
+};
+
+/// On a box that is not there, in the former layout too.
+const ASTRAY: Kind = Kind {
+    cell: Cell::Kept,
+    class: bars::ASTRAY.0,
+    mark: Some(("ban", Mark::Cross)),
+};
+/// The same, and not there in the former layout.
+const STRAYING: Kind = Kind {
+    cell: Cell::Received,
+    ..ASTRAY
 };
 
 impl Mark {
@@ -240,11 +252,14 @@ fn legend(facts: &Facts, laid: &Laid) -> String {
         items.push(item(&RECEIVED, "received"));
         items.push(item(&DROPPED, "dropped"));
     }
-    if !laid.rows.gone.is_empty() {
+    if laid.rows.has_gone() {
         items.push(format!(
             "<span class=\"away\">{}</span>",
             item(&GONE, "gone with its box")
         ));
+    }
+    if laid.rows.has_astray() {
+        items.push(item(&ASTRAY, bars::ASTRAY.1));
     }
     format!("<p class=\"legend\">{}</p>\n", items.concat())
 }

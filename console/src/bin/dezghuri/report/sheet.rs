@@ -30,7 +30,7 @@ const TRUSTED: &str = "<p class=\"small\">The text file and the former layout ar
                        that counts all of it again.</p>\n";
 
 fn sheet<'a>(facts: &'a Facts, laid: &'a Laid) -> Option<Sheet<'a>> {
-    let certificate = laid.certificate.as_ref()?;
+    let certificate = laid.judged.as_ref().ok()?.certificate.as_ref()?;
     Some(Sheet {
         described: facts.described,
         certificate,

@@ -1,8 +1,8 @@
 //! The tables: all numbers of the page, to be read and linked to.
 
-use super::facts::{Cell, Facts, Laid};
-use super::html::{isolated, section};
-use crate::labels;
+use super::facts::{Cell, Facts, Laid, MOST_GONE};
+use super::html::{isolated, red_where, section};
+use crate::labels::{self, GONE};
 use crate::units::{percent, thousands};
 use dezghuri::Layout;
 
@@ -11,10 +11,13 @@ const LINES: usize = 32;
 
 /// A line of a table of boxes or zones.
 struct Held {
-    capacity: u64,
+    /// Of boxes that are not there it is not known.
+    capacity: Option<u64>,
     copies: u64,
     received: u64,
     dropped: u64,
+    /// Whether there are too many copies for the ceiling, and too much for the disk.
+    is_at_fault: [bool; 2],
 }
 
 impl Held {
@@ -23,22 +26,69 @@ impl Held {
         let rows = || places.iter().map(|b| &laid.rows.here[*b]);
         let nodes = &facts.cluster().nodes;
         Held {
-            capacity: places.iter().map(|b| u64::from(nodes[*b].capacity)).sum(),
+            capacity: Some(places.iter().map(|b| u64::from(nodes[*b].capacity)).sum()),
             copies: rows().map(|row| row.copies()).sum(),
             received: rows().map(|row| row.count(Cell::Received)).sum(),
             dropped: rows().map(|row| row.count(Cell::Dropped)).sum(),
+            is_at_fault: match places {
+                [b] => [
+                    facts.is_above_ceiling(laid, *b),
+                    facts.too_much(laid, *b) > 0,
+                ],
+                _ => [false; 2],
+            },
+        }
+    }
+
+    /// What the layout has on boxes that are not there, those of these ids.
+    fn astray(laid: &Laid, ids: &[u32]) -> Held {
+        let rows = || laid.after.rows();
+        let there = |row: &[u32]| row.iter().filter(|id| ids.contains(id)).count() as u64;
+        let stays = |(partition, row): (u8, &[u32])| {
+            let before = laid.before.row(partition);
+            let stays = row.iter().filter(|id| before.contains(id));
+            there(&stays.copied().collect::<Vec<u32>>())
+        };
+        let copies = rows().map(|(_, row)| there(row)).sum();
+        Held {
+            capacity: None,
+            copies,
+            received: copies - rows().map(stays).sum::<u64>(),
+            dropped: 0,
+            is_at_fault: [false; 2],
+        }
+    }
+
+    /// All that the layout has; what its boxes have together is not known where some are not there.
+    fn all(facts: &Facts, laid: &Laid) -> Held {
+        let places: Vec<usize> = (0..facts.cluster().nodes.len()).collect();
+        let here = Held::of(facts, laid, &places);
+        match &facts.astray(laid)[..] {
+            [] => here,
+            ids => {
+                let astray = Held::astray(laid, ids);
+                Held {
+                    capacity: None,
+                    copies: here.copies + astray.copies,
+                    received: here.received + astray.received,
+                    ..here
+                }
+            }
         }
     }
 
     /// The cells of a line; a ceiling stands in a table of boxes only, where one has any.
     fn cells(&self, facts: &Facts, laid: &Laid, ceiling: Option<String>) -> String {
         let (unit, used) = (facts.unit(), self.copies * laid.size);
-        let mut cells = vec![unit.of(self.capacity)];
+        let unknown = || String::from("-");
+        let share = |whole| percent(used, whole);
+        let [are_many, is_much] = self.is_at_fault;
+        let mut cells = vec![self.capacity.map_or_else(unknown, |whole| unit.of(whole))];
         cells.extend(ceiling);
         cells.extend([
-            thousands(self.copies),
-            unit.of(used),
-            percent(used, self.capacity),
+            red_where(are_many, &thousands(self.copies)),
+            red_where(is_much, &unit.of(used)),
+            red_where(is_much, &self.capacity.map_or_else(unknown, share)),
         ]);
         if facts.has_former() {
             cells.extend([thousands(self.received), thousands(self.dropped)]);
@@ -58,7 +108,8 @@ pub fn boxes_and_zones(facts: &Facts, laid: &Laid) -> String {
         let cells = Held::of(facts, laid, &[*b]).cells(facts, laid, ceiling(facts, Some(*b)));
         lines += &format!("{}{cells}</tr>\n", box_head(facts, *b));
     }
-    let sum = Held::of(facts, laid, &all).cells(facts, laid, ceiling(facts, None));
+    lines += &astray_lines(facts, laid);
+    let sum = Held::all(facts, laid).cells(facts, laid, ceiling(facts, None));
     lines += &format!("<tr class=\"sum\"><th>all</th><td></td><td></td>{sum}</tr>\n");
     let mut heads = numbers(facts);
     let mut caption = format!(
@@ -88,7 +139,15 @@ fn zone_table(facts: &Facts, laid: &Laid) -> String {
             places.len()
         )
     };
-    let lines: String = facts.zones().into_iter().map(line).collect();
+    let mut lines: String = facts.zones().into_iter().map(line).collect();
+    let astray = facts.astray(laid);
+    if !astray.is_empty() {
+        let cells = Held::astray(laid, &astray).cells(facts, laid, None);
+        lines += &format!(
+            "<tr><th><em>{GONE}</em></th><td class=\"n\">{}</td>{cells}</tr>\n",
+            astray.len()
+        );
+    }
     let caption = format!("The zones. Capacity and used are in {}.", facts.unit().name);
     table(
         "cards of-zones",
@@ -96,6 +155,24 @@ fn zone_table(facts: &Facts, laid: &Laid) -> String {
         &[&["zone", "boxes"][..], &numbers(facts)].concat(),
         &lines,
     )
+}
+
+/// A line for each box that is not there, but in the layout.
+fn astray_lines(facts: &Facts, laid: &Laid) -> String {
+    let line = |head: &str, ids: &[u32]| {
+        let cells = Held::astray(laid, ids).cells(facts, laid, ceiling(facts, None));
+        format!("<tr><th><em>{head}</em></th><td></td><td><em>{GONE}</em></td>{cells}</tr>\n")
+    };
+    let ids = facts.astray(laid);
+    let (drawn, more) = ids.split_at(ids.len().min(MOST_GONE));
+    let mut lines: String = drawn
+        .iter()
+        .map(|id| line(&id.to_string(), &[*id]))
+        .collect();
+    if !more.is_empty() {
+        lines += &line(&format!("{} more", more.len()), more);
+    }
+    lines
 }
 
 /// The table of a cluster without a layout.
@@ -235,7 +312,8 @@ fn width(facts: &Facts, laid: &Laid, columns: usize) -> usize {
         2 => long(&laid.after).max(HEAD),
         _ => long(&laid.before).max(HEAD) + long(&laid.after).max(HEAD),
     };
-    let told = if facts.losses.is_empty() { 0 } else { 8 };
+    let told = facts.losses.is_empty() && laid.judged.is_ok();
+    let told = if told { 0 } else { 8 };
     8 + letters * 11 / 20 + told
 }
 
@@ -255,13 +333,16 @@ fn partition(facts: &Facts, laid: &Laid, partition: u8) -> String {
             left(facts, partition, before)
         );
     }
-    let id = |id: &u32| match before.contains(id) {
-        true => id.to_string(),
-        false => format!("<b>{id}</b>"),
+    let id = |id: &u32| match (before.contains(id), facts.described.has(*id)) {
+        (_, false) => format!("<em>{id}</em>"),
+        (true, _) => id.to_string(),
+        (false, _) => format!("<b>{id}</b>"),
     };
     let ids: Vec<String> = after.iter().map(id).collect();
+    let fault = facts.fault_of_row(laid, partition);
+    let fault = fault.map_or_else(String::new, |fault| format!(" <em>{fault}</em>"));
     format!(
-        "<tr id=\"partition-{partition}\"><th>{partition}</th>{cells}<td>{}</td></tr>\n",
+        "<tr id=\"partition-{partition}\"><th>{partition}</th>{cells}<td>{}{fault}</td></tr>\n",
         ids.join(" ")
     )
 }

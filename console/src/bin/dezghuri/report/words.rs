@@ -1,6 +1,8 @@
 //! The sentences with which the page begins.
 
-use super::facts::{Best, Facts, Laid};
+use super::facts::{Best, Facts, Judged, Laid};
+use crate::labels;
+use crate::losses;
 use crate::overview::upper_bound_in_words;
 use crate::units::{count, thousands};
 
@@ -16,11 +18,52 @@ pub fn sentence(facts: &Facts) -> String {
     match &facts.laid {
         Err(why) if why.starts_with("there is") => with_capital(why) + ".",
         Err(why) => format!("{why}."),
-        Ok(laid) => of_layout(facts, laid),
+        Ok(laid) => match &laid.judged {
+            Err(why) => format!("{why}."),
+            Ok(judged) => of_layout(facts, laid, judged),
+        },
     }
 }
 
-fn of_layout(facts: &Facts, laid: &Laid) -> String {
+/// What of a layout that is not valid is drawn, and which boxes and partitions are at fault.
+pub fn not_valid(facts: &Facts, laid: &Laid) -> String {
+    let cluster = facts.cluster();
+    let mut sentences =
+        vec![format!(
+        "{} of everything, in at least {}, {} wanted. The layout is drawn as it was planned, for \
+         partitions of {} MB; what is at fault is red.",
+        count(cluster.replication.into(), "copy", "copies"),
+        count(cluster.redundancy.into(), "zone", "zones"),
+        if cluster.replication == 1 { "is" } else { "are" },
+        thousands(laid.size),
+    )];
+    let places = 0..cluster.nodes.len();
+    let is_full = |b: &usize| facts.too_much(laid, *b) > 0 || facts.is_above_ceiling(laid, *b);
+    let full: Vec<u32> = places
+        .filter(is_full)
+        .map(|b| cluster.nodes[b].id)
+        .collect();
+    if !full.is_empty() {
+        sentences.push(format!(
+            "Too full: {}.",
+            labels::boxes(facts.described, &full)
+        ));
+    }
+    let partitions = (0..=u8::MAX).take(1 << cluster.bits);
+    let faulty: Vec<u8> = partitions
+        .filter(|partition| facts.fault_of_row(laid, *partition).is_some())
+        .collect();
+    if !faulty.is_empty() {
+        sentences.push(format!(
+            "{} at fault: {}.",
+            count(faulty.len() as u64, "partition is", "partitions are"),
+            losses::first_few(&faulty)
+        ));
+    }
+    sentences.join(" ")
+}
+
+fn of_layout(facts: &Facts, laid: &Laid, judged: &Judged) -> String {
     let (cluster, unit) = (facts.cluster(), facts.unit());
     let mut sentences = vec![
         format!(
@@ -39,7 +82,7 @@ fn of_layout(facts: &Facts, laid: &Laid) -> String {
         sentences.push(moves(facts, laid));
         sentences.extend(facts.missing.lines().map(String::from));
     }
-    sentences.extend(best(facts, laid));
+    sentences.extend(best(facts, judged));
     sentences.join(" ")
 }
 
@@ -61,8 +104,8 @@ fn moves(facts: &Facts, laid: &Laid) -> String {
     }
 }
 
-fn best(facts: &Facts, laid: &Laid) -> Option<String> {
-    match laid.best {
+fn best(facts: &Facts, judged: &Judged) -> Option<String> {
+    match judged.best {
         Best::Larger(size) => Some(format!(
             "The {} allow {} MB a partition: a new plan has more.",
             match facts.has_ceilings() {
@@ -101,11 +144,14 @@ pub fn source(facts: &Facts) -> String {
 
 /// What keeps the size from being larger, in sentences.
 pub fn why_not_more(facts: &Facts, laid: &Laid) -> Vec<String> {
+    let Ok(judged) = &laid.judged else {
+        return Vec::new();
+    };
     let sentence = |why: &String| with_capital(&why.replace('\n', " "));
-    let mut sentences: Vec<String> = laid.why.iter().map(sentence).collect();
-    if laid.upper_bound > laid.size {
+    let mut sentences: Vec<String> = judged.why.iter().map(sentence).collect();
+    if judged.upper_bound > laid.size {
         let has_ceilings = facts.has_ceilings();
-        sentences.push(upper_bound_in_words(laid.upper_bound, has_ceilings));
+        sentences.push(upper_bound_in_words(judged.upper_bound, has_ceilings));
     }
     sentences
 }

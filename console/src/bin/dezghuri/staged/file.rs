@@ -1,6 +1,7 @@
 //! The file of what is staged: the fields of a change record, with the owner's words between them.
 
 use crate::before;
+use crate::terminal::escaped;
 use dezghuri::{Change, Label, Node, Place, Refusal, Refused};
 use std::fmt;
 
@@ -278,7 +279,7 @@ fn zone_word(body: &[u8]) -> Option<String> {
 fn name_words(body: &[u8]) -> Option<String> {
     let text = std::str::from_utf8(body).ok()?;
     let words: Vec<&str> = text.split_whitespace().collect();
-    let is_plain = !text.contains(|c: char| c.is_control() || c == '#');
+    let is_plain = escaped(text) == text && !text.contains('#');
     (is_plain && !text.is_empty() && words.join(" ") == text).then(|| text.into())
 }
 

@@ -2,6 +2,7 @@
 
 use super::file::Entry;
 use crate::failure::Failure;
+use crate::terminal::escaped;
 use dezghuri::units::capacity_in_words;
 use dezghuri::{Change, Description, Node, Note};
 
@@ -26,6 +27,7 @@ pub fn entry(
     warnings: &mut Vec<String>,
 ) -> Result<Entry, Failure> {
     let text = Text::new(described, words);
+    let words = &escaped(words);
     let read = Description::parse(text.text.as_bytes());
     let read = read.map_err(|faults| Failure::Bad(text.faults(faults.notes(), words)))?;
     let slips = read.warnings.iter().filter_map(|slip| text.told(slip));
