@@ -49,6 +49,15 @@
 //! cluster.check(&plan.layout, plan.size)?;
 //! # Ok::<(), dezghuri::Refused>(())
 //! ```
+//!
+//! The boxes of an owner's text file, planned, and the layout kept:
+//!
+//! ```no_run
+//! let described = dezghuri::Description::parse(&std::fs::read("shop.txt")?)?;
+//! let plan = described.cluster.plan(dezghuri::ENOUGH)?;
+//! std::fs::write("shop-1.layout", plan.to_record()?)?;
+//! # Ok::<(), Box<dyn std::error::Error>>(())
+//! ```
 
 #![deny(unsafe_code, missing_docs)]
 

@@ -5,6 +5,7 @@ mod ceilings;
 mod certified;
 mod compared;
 mod cut_short;
+mod documents;
 mod folder;
 mod lost;
 mod manual;
@@ -27,11 +28,9 @@ mod why;
 
 use folder::{layout_record, Folder};
 
-/// The sample of the README, and the same cluster after box 5 was replaced.
+/// The sample that `make plan` plans, and the same cluster after box 5 was replaced.
 const HOME: &str = include_str!("../../../samples/home.txt");
 const HOME_NEXT: &str = include_str!("../../../samples/home-next.txt");
-
-const README: &str = include_str!("../../../README.md");
 
 /// Example A of the paper: every row must name all three boxes.
 const THREE: &str =
@@ -157,23 +156,6 @@ fn the_call_that_shows_why_has_the_names_of_the_files() {
     let out = planned("plan home.txt --staged --former last.old --out x");
     assert!(out.contains(told), "{out}");
     assert!(!planned("plan next.txt --former last").contains("certify"));
-}
-
-/// The README's sample is that plan, under other names.
-#[test]
-fn the_readme_shows_what_is_printed() {
-    let printed = include_str!("next.txt").replace("next.txt", "shop.txt");
-    let printed = printed.replace("Written to next.", "Written to shop-next.layout.");
-    assert!(README.contains(&indented(&printed)));
-}
-
-/// A text as the README shows it.
-fn indented(text: &str) -> String {
-    let line = |line: &str| match line {
-        "" => "\n".into(),
-        line => format!("    {line}\n"),
-    };
-    text.lines().map(line).collect()
 }
 
 #[test]

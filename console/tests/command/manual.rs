@@ -17,7 +17,7 @@ fn words(text: &str) -> BTreeSet<String> {
 }
 
 /// The commands of the help, and its options; it is called in a folder of this name.
-fn of_help(folder: &str) -> (BTreeSet<String>, BTreeSet<String>) {
+pub fn of_help(folder: &str) -> (BTreeSet<String>, BTreeSet<String>) {
     let help = Folder::new(folder).call("help").out;
     let calls = help.split("dezghuri ").skip(1);
     let commands = calls.filter_map(|call| call.split_whitespace().next());

@@ -2,7 +2,7 @@
 
 use crate::folder::{layout_record, Folder};
 use crate::read_json::{read, Value};
-use crate::{indented, planned_home, README, THREE};
+use crate::{planned_home, THREE};
 
 /// Boxes 2 and 9 are gone, box 4 is new.
 const FILE: &str =
@@ -183,25 +183,4 @@ fn staged_boxes_count_where_they_are_asked_for() {
     let told = "send partition 0 to box 5 (shelf) from box 1 (tower)";
     let listed = printed(&folder, "--staged");
     assert!(listed.contains(told), "{listed}");
-}
-
-/// The README shows the first steps of the sample and what is told after the last.
-#[test]
-fn the_readme_shows_the_steps_of_the_sample() {
-    let folder = planned_home("moves-readme");
-    let planned = folder.call("plan next.txt --former last --out next");
-    assert_eq!(planned.status, 0, "{}", planned.err);
-    std::fs::rename(folder.path("next.txt"), folder.path("shop.txt")).unwrap();
-    std::fs::rename(folder.path("last"), folder.path("shop.layout")).unwrap();
-    std::fs::rename(folder.path("next"), folder.path("shop-next.layout")).unwrap();
-    let done = folder.call("moves shop.txt shop.layout shop-next.layout");
-    assert_eq!((done.status, done.err.as_str()), (0, ""));
-    let lines: Vec<&str> = done.out.lines().collect();
-    let shown = |lines: &[&str]| indented(&(lines.join("\n") + "\n"));
-    assert!(README.contains(&shown(&lines[..7])), "{}", done.out);
-    assert!(
-        README.contains(&shown(&lines[lines.len() - 6..])),
-        "{}",
-        done.out
-    );
 }

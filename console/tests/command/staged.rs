@@ -12,7 +12,6 @@ mod refused;
 
 use crate::folder::{Done, Folder};
 use crate::read_json::{read, Value};
-use crate::{indented, HOME, README};
 
 /// Three boxes in two zones, with remarks.
 const FILE: &str = "# The shop.\ncopies 2\nzones 1\nbits 1\n\nbox 1 home 4T study   # since May\n\
@@ -147,20 +146,6 @@ fn what_is_staged_is_shown() {
         assert_eq!(done(&folder, line), shown, "{line}");
     }
     assert_eq!(folder.read("shop.txt.staged"), staged_bytes());
-}
-
-/// The changes of the README, staged for its sample one after the other.
-#[test]
-fn the_readme_shows_what_is_staged() {
-    let folder = Folder::new("staged-readme");
-    folder.write("shop.txt", HOME);
-    let lines = README
-        .lines()
-        .filter_map(|line| line.strip_prefix("    dezghuri "));
-    let lines = lines.filter(|line| line.starts_with("stage shop.txt "));
-    let printed: Vec<String> = lines.map(|line| done(&folder, line)).collect();
-    assert_eq!(printed.len(), 4);
-    assert!(README.contains(&indented(&printed[3])), "{}", printed[3]);
 }
 
 /// After each step back the file is what it was before the change was staged.
