@@ -827,6 +827,14 @@ fn a_layout_of_boxes_that_are_not_there_is_drawn() {
     ] {
         assert_eq!(red(&page, &format!("partition-{partition}")), faults);
     }
+}
+
+/// The sums are those of all eight copies; what the boxes have together is not known.
+#[test]
+fn boxes_that_are_not_there_have_their_lines_in_the_tables() {
+    let folder = small("report-astray-tables");
+    folder.call("report small.txt last --out page.html");
+    let page = page::read(std::str::from_utf8(&folder.read("page.html")).expect("text"));
     let tables = page.with_id("tables").named("table");
     let lines: Vec<Vec<String>> = tables[0]
         .named("tr")

@@ -24,22 +24,30 @@ fn odd_names(name: &str) -> Folder {
     folder
 }
 
+/// Calls that end with these statuses, and say nothing that a terminal would obey.
+fn are_plain(folder: &Folder, calls: &[(&[&str], i32)]) {
+    for (words, status) in calls {
+        let done = folder.call_words(words);
+        assert_eq!(done.status, *status, "{words:?}: {}", done.err);
+        is_plain(&done);
+    }
+}
+
 #[test]
 fn names_of_files_are_shown_with_escapes() {
     let folder = odd_names("files");
-    let [out, page] = ["layout", "page"].map(|ending| format!("{NAME}.{ending}"));
-    let (file, out, page) = (NAME, out.as_str(), page.as_str());
-    let none = &format!("{NAME}.none")[..];
-    for (words, status) in [
-        (&["plan", file, "--out", out][..], 0),
+    let (file, out, none) = (NAME, &*format!("{NAME}.layout"), &*format!("{NAME}.none"));
+    let calls: [(&[&str], i32); 18] = [
+        (&["plan", file, "--out", out], 0),
         (&["plan", file, "--former", out, "--out", out], 0),
         (&["plan", file, "--out", out], 2),
         (&["plan", file, "--out", file], 2),
+        (&["plan", file, NAME], 2),
         (&["plan", none], 2),
         (&["plan", file, "--former", none], 2),
         (&["check", file, out], 0),
         (&["check", file, file], 2),
-        (&["show", file, out], 0),
+        (&["certify", file, "--former", out, out], 0),
         (&["show", file, out, "--all"], 0),
         (&["show", file, out, "7"], 2),
         (&["show", file, out, "--box", "9"], 2),
@@ -47,6 +55,19 @@ fn names_of_files_are_shown_with_escapes() {
         (&["moves", file, out, out], 0),
         (&["moves", file, out, out, "--done", "5"], 2),
         (&["what-if", file, "--remove", "9"], 2),
+        (&[NAME], 2),
+    ];
+    are_plain(&folder, &calls);
+    let done = folder.call_words(&["check", file, out]);
+    let told = format!("{SHOWN}.layout is valid for {SHOWN}, each partition up to 23 MB.\n");
+    assert_eq!(done.out, told);
+}
+
+#[test]
+fn names_of_files_that_are_written_are_shown_with_escapes() {
+    let folder = odd_names("written");
+    let (file, page) = (NAME, &*format!("{NAME}.page"));
+    let calls: [(&[&str], i32); 12] = [
         (&["stage", file, "resize", "3", "60"], 0),
         (&["stage", file], 0),
         (&["plan", file, "--staged"], 0),
@@ -56,18 +77,11 @@ fn names_of_files_are_shown_with_escapes() {
         (&["stage", file, "resize", "3", "60"], 0),
         (&["apply", file], 0),
         (&["stage", file, "ceiling", "3", NAME], 2),
-        (&["report", file, out, "--out", page], 0),
-        (&["record", file, "--out", out], 2),
-        (&["plan", NAME, NAME], 2),
-        (&[NAME], 2),
-    ] {
-        let done = folder.call_words(words);
-        assert_eq!(done.status, status, "{words:?}: {}", done.err);
-        is_plain(&done);
-    }
-    let done = folder.call_words(&["check", file, out]);
-    let told = format!("{SHOWN}.layout is valid for {SHOWN}, each partition up to 23 MB.\n");
-    assert_eq!(done.out, told);
+        (&["report", file, "--out", page], 0),
+        (&["report", file, "--out", page], 0),
+        (&["record", file, "--out", page], 2),
+    ];
+    are_plain(&folder, &calls);
     let page = String::from_utf8(folder.read(page)).unwrap();
     assert!(page.contains(SHOWN) && !page.contains('\u{1b}'), "{page}");
 }
@@ -91,25 +105,21 @@ fn words_of_the_call_and_of_the_text_are_shown_with_escapes() {
     folder.write("bad.txt", THREE.replace("tower", NAME));
     folder.write("last", layout_record(1, 3, &[&[1, 2, 3], &[1, 2, 3]]));
     let remark = "a 4T # \u{1b}[2J";
-    for (words, status) in [
-        (&["plan", "bad.txt"][..], 2),
-        (&["plan", "home.txt", &format!("--{NAME}")], 2),
+    let (odd_name, odd_zone) = (&*format!("a 4T {NAME}"), &*format!("a {NAME}"));
+    let odd_option = &*format!("--{NAME}");
+    let calls: [(&[&str], i32); 12] = [
+        (&["plan", "bad.txt"], 2),
+        (&["plan", "home.txt", odd_option], 2),
         (&["plan", "home.txt", "--allowance", NAME], 2),
         (&["show", "home.txt", "last", "--box", NAME], 2),
-        (
-            &["what-if", "home.txt", "--add", &format!("a 4T {NAME}")],
-            2,
-        ),
-        (&["what-if", "home.txt", "--add", &format!("a {NAME}")], 2),
+        (&["what-if", "home.txt", "--add", odd_name], 2),
+        (&["what-if", "home.txt", "--add", odd_zone], 2),
         (&["what-if", "home.txt", "--add", remark], 0),
         (&["what-if", "home.txt", "--resize", "3=\u{1b}"], 2),
         (&["stage", "home.txt", "add", "7", "a", "4T\u{1b}"], 2),
         (&["stage", "home.txt", "add", "7", "a", "4T", "\u{202e}"], 2),
         (&["stage", "home.txt", "resize", "3", "5\u{1b}"], 2),
         (&["stage", "home.txt", NAME], 2),
-    ] {
-        let done = folder.call_words(words);
-        assert_eq!(done.status, status, "{words:?}: {}", done.err);
-        is_plain(&done);
-    }
+    ];
+    are_plain(&folder, &calls);
 }
