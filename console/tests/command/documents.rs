@@ -126,6 +126,38 @@ fn the_architecture_names_every_crate() {
     assert!(page.contains(&format!("is {} small crates", names.len())));
 }
 
+/// All code of a crate; none of what is no crate.
+fn code_of(name: &str) -> Option<String> {
+    let files = fs::read_dir(path("crates").join(name).join("src")).ok()?;
+    let file = |entry: fs::DirEntry| fs::read_to_string(entry.path()).expect("plain files");
+    Some(files.map(|entry| file(entry.unwrap())).collect())
+}
+
+/// A function is named with its crate, a module likewise.
+#[test]
+fn the_architecture_names_functions_that_are_there() {
+    let page = text("docs/ARCHITECTURE.md");
+    let mut found = 0;
+    for named in page.split('`').skip(1).step_by(2) {
+        let Some((name, rest)) = named.split_once("::") else {
+            continue;
+        };
+        let Some(code) = code_of(name) else {
+            continue;
+        };
+        let last = rest.rsplit("::").next().expect("there is a last one");
+        let forms = [
+            format!("fn {last}("),
+            format!("fn {last}<"),
+            format!("mod {last};"),
+        ];
+        let is_there = forms.iter().any(|form| code.contains(form));
+        assert!(is_there, "{named}");
+        found += 1;
+    }
+    assert!(found > 20, "{found}");
+}
+
 /// Headings as the links to them have them: small letters and hyphens.
 fn anchors(text: &str) -> BTreeSet<String> {
     let headings = text.lines().filter_map(|line| line.strip_prefix('#'));

@@ -114,7 +114,7 @@ fn agree(printed: &[String], shown: &[String]) -> bool {
 }
 
 /// What a line of the shell comes to, in which the command has its name, and `DEZGHURI` is the folder of
-/// the repository; both outputs are one.
+/// the repository; both outputs are one, and it is always the same second.
 fn typed(folder: &Folder, line: &str) -> Done {
     let command = Path::new(env!("CARGO_BIN_EXE_dezghuri"));
     let beside = command.parent().expect("it stands in a folder").display();
@@ -124,6 +124,7 @@ fn typed(folder: &Folder, line: &str) -> Done {
     shell.current_dir(folder.path("."));
     shell.env("PATH", format!("{beside}:{others}"));
     shell.env("DEZGHURI", ROOT);
+    shell.env("SOURCE_DATE_EPOCH", "1794949200");
     shell.output().expect("there is a shell").into()
 }
 
