@@ -23,6 +23,7 @@ mod record_lines;
 mod report;
 mod sheet;
 mod staged;
+mod sum;
 mod table;
 mod why;
 
