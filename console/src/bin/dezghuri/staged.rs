@@ -192,7 +192,7 @@ impl Staged {
 fn read_both(file: &Path, path: &Path) -> Result<(Vec<u8>, Option<Vec<u8>>), Failure> {
     loop {
         let text = files::read_text(file)?;
-        let found = files::read_staged(path);
+        let found = files::read_beside(path, LONGEST, Kind::Staged.name());
         if files::read_text(file)? == text {
             return Ok((text, found?));
         }
