@@ -23,17 +23,19 @@ help:
 test:
 	sh tools/test.sh
 
-# Plans the sample, then the same cluster after one of its boxes was replaced.
+# Plans the sample, then the same cluster after one of its boxes was replaced: its text changes, as an owner's does, and its history stands beside it.
 plan: $(LIBRARY)
 	cargo build --release --quiet $(CONSOLE)
-	$(COMMAND) plan samples/home.txt --out build/home.layout --replace
+	cp samples/home.txt build/home.txt
+	$(COMMAND) plan build/home.txt --out build/home.layout --replace
 	echo
-	$(COMMAND) plan samples/home-next.txt --former build/home.layout --out build/home-next.layout --replace
+	cp samples/home-next.txt build/home.txt
+	$(COMMAND) plan build/home.txt --former build/home.layout --out build/home-next.layout --replace
 
 # The page of the second plan, with what moves from the first.
 report: plan
 	echo
-	$(COMMAND) report samples/home-next.txt build/home-next.layout --former build/home.layout --out build/home.html
+	$(COMMAND) report build/home.txt build/home-next.layout --former build/home.layout --out build/home.html
 
 # Pictures of pages at several widths, light, dark and printed; they are for eyes, and no part of the gate.
 look: $(LIBRARY)

@@ -17,9 +17,11 @@ version=$("$root/bin/dezghuri" --version) || fail 'the command does not run'
 "$root/bin/dezghuri" plan --record "$work/record" >"$work/command" || fail 'the command plans no record'
 "$root/bin/dezghuri-plan" <"$work/record" >"$work/program" || fail 'dezghuri-plan does not run'
 cmp -s "$work/command" "$work/program" || fail 'dezghuri and dezghuri-plan differ'
-"$root/bin/dezghuri" plan samples/home.txt --out "$work/layout" >/dev/null || fail 'the command writes no layout'
-"$root/bin/dezghuri" certify samples/home.txt "$work/layout" --out "$work/prices" >/dev/null || fail 'the command certifies no layout'
-python3 "$root/share/dezghuri/certificate.py" samples/home.txt - "$work/layout" "$work/prices" >/dev/null || fail 'certificate.py passes no certificate'
+# In a folder of its own: the history of a text stands beside it.
+cp samples/home.txt "$work/home.txt"
+"$root/bin/dezghuri" plan "$work/home.txt" --out "$work/layout" >/dev/null || fail 'the command writes no layout'
+"$root/bin/dezghuri" certify "$work/home.txt" "$work/layout" --out "$work/prices" >/dev/null || fail 'the command certifies no layout'
+python3 "$root/share/dezghuri/certificate.py" "$work/home.txt" - "$work/layout" "$work/prices" >/dev/null || fail 'certificate.py passes no certificate'
 
 cmp -s docs/FORMATS.md "$root/share/doc/dezghuri/FORMATS.md" || fail 'the formats are not installed'
 

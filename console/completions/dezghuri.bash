@@ -2,7 +2,7 @@
 
 _dezghuri() {
     local word=${COMP_WORDS[COMP_CWORD]} before=${COMP_WORDS[COMP_CWORD - 1]} options=
-    local commands='plan check show diff moves certify what-if stage undo apply report record'
+    local commands='plan check show diff moves certify what-if stage undo apply history report record'
     COMPREPLY=()
     if [ "$COMP_CWORD" -eq 1 ]; then
         mapfile -t COMPREPLY < <(compgen -W "$commands help --version" -- "$word")
@@ -21,14 +21,14 @@ _dezghuri() {
         return
     fi
     case ${COMP_WORDS[1]} in
-        plan) options='--staged --former --out --allowance --replace --record --json --help' ;;
+        plan) options='--staged --former --out --allowance --replace --damaged-anyway --record --json --help' ;;
         check | diff) options='--staged --json --help' ;;
         show) options='--box --all --staged --json --help' ;;
         moves) options='--by-box --done --staged --json --help' ;;
         certify) options='--former --out --staged --json --help' ;;
         what-if) options='--former --add --remove --resize --ceiling --json --help' ;;
         stage) options='--ceiling --json --help' ;;
-        undo | apply) options='--json --help' ;;
+        undo | apply | history) options='--json --help' ;;
         report) options='--staged --former --out --help' ;;
         record) options='--former --out --help' ;;
     esac

@@ -187,6 +187,7 @@ fn a_ceiling_that_is_passed_is_told() {
     let sent = "Transfers: 2 copies are to be sent, 2 copies are to be dropped.\n";
     assert!(planned.contains(sent), "{planned}");
     done(&folder, "check home.txt last");
+    folder.forget_layouts_of("home.txt");
     folder.write("last", layout_record(2, 30, &rows));
     let disk =
         "box 1 (study) is to hold 4 copies of 30 MB, 120 MB together, and may hold 94 MB of its 100 MB, \
@@ -200,6 +201,7 @@ fn a_ceiling_that_is_passed_is_told() {
 fn layouts_are_compared_beside_the_ceilings() {
     let folder = limited("diff", LIMITED);
     done(&folder, "plan home.txt --out last");
+    folder.forget_layouts_of("home.txt");
     let old: [&[u32]; 4] = [&[1, 2], &[1, 2], &[1, 2], &[1, 9]];
     folder.write("old", layout_record(2, 19, &old));
     let compared = done(&folder, "diff home.txt old last");

@@ -14,6 +14,7 @@ fn planned(folder: Folder, text: &str) -> Folder {
     folder.write("next.txt", text);
     let done = folder.call("plan next.txt --former last --out next");
     assert_eq!((done.status, done.err.as_str()), (0, ""));
+    folder.forget_layouts_of("next.txt");
     folder
 }
 

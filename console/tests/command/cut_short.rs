@@ -41,13 +41,18 @@ fn begun(folder: &Folder) -> Vec<String> {
     names
 }
 
-/// Calls the line where a call was cut short: it tells what is left of that, and removes it.
+/// Calls the line where a call was cut short: it tells what is left of that, and removes it. The history
+/// may tell of a layout that was planned then, and is not there.
 pub fn call_after(folder: &Folder, line: &str) -> Done {
     let left = begun(folder);
     let done = folder.call(line);
     let told = |name| format!("warning: {name}: left by a call that was cut short; removed\n");
     let told: String = left.iter().map(told).collect();
-    assert_eq!((done.status, &done.err), (0, &told), "{line}");
+    let lines = done.err.split_inclusive('\n');
+    let err: String = lines
+        .filter(|line| !line.ends_with(", and is not there\n"))
+        .collect();
+    assert_eq!((done.status, err), (0, told), "{line}");
     assert!(begun(folder).is_empty(), "{line}");
     done
 }

@@ -9,6 +9,9 @@ use std::process::{Child, Command, Output, Stdio};
 
 const BINARY: &str = env!("CARGO_BIN_EXE_dezghuri");
 
+/// The moment at which all calls are made, by the clock that they are given: 2026-11-17T21:23:02Z.
+pub const NOW: &str = "1794950582";
+
 pub struct Folder {
     path: PathBuf,
     /// For all calls in it.
@@ -20,7 +23,10 @@ pub struct Done {
     pub status: i32,
     pub bytes: Vec<u8>,
     pub out: String,
+    /// What it says besides, but for notes.
     pub err: String,
+    /// Lines that are no warnings: what the history has to say where all is well.
+    pub notes: String,
 }
 
 impl Folder {
@@ -66,6 +72,18 @@ impl Folder {
         names
     }
 
+    /// The same without histories, for what is about something else.
+    pub fn names_but_histories(&self) -> Vec<String> {
+        let mut names = self.names();
+        names.retain(|name| !name.ends_with(".history"));
+        names
+    }
+
+    /// Removes the history of a text: layouts that no plan has written are none to warn of then.
+    pub fn forget_layouts_of(&self, text: &str) {
+        fs::remove_file(self.path(&format!("{text}.history"))).expect("a layout was written");
+    }
+
     /// Calls the command with these words, in this folder.
     pub fn call(&self, words: &str) -> Done {
         self.call_words(&words.split_whitespace().collect::<Vec<_>>())
@@ -78,6 +96,13 @@ impl Folder {
         finish(&mut command)
     }
 
+    /// Calls it with another moment by the clock that it is given.
+    pub fn call_at(&self, words: &str, now: &str) -> Done {
+        let mut command = self.command();
+        command.args(words.split_whitespace());
+        finish(command.env("SOURCE_DATE_EPOCH", now))
+    }
+
     /// Calls it with something else for its standard output.
     pub fn call_into(&self, words: &str, out: Stdio) -> Done {
         let mut command = self.command();
@@ -87,10 +112,14 @@ impl Folder {
 
     /// Calls it with a standard stream closed, as the shell's `>&-` and `<&-` do.
     pub fn call_closed(&self, words: &str, stream: &str) -> Done {
+        self.shell(&format!("exec \"$0\" {words} {stream}&-"))
+    }
+
+    /// Has the shell do a line in which the command is `"$0"`.
+    pub fn shell(&self, line: &str) -> Done {
         let mut shell = Command::new("sh");
-        let line = format!("exec \"$0\" {words} {stream}&-");
-        shell.current_dir(&self.path).args(["-c", &line, BINARY]);
-        finish(&mut shell)
+        shell.current_dir(&self.path).env("SOURCE_DATE_EPOCH", NOW);
+        finish(shell.args(["-c", line, BINARY]))
     }
 
     /// Calls it with these bytes as its standard input.
@@ -131,7 +160,9 @@ impl Folder {
 
     fn command(&self) -> Command {
         let mut command = Command::new(BINARY);
-        command.current_dir(&self.path);
+        command
+            .current_dir(&self.path)
+            .env("SOURCE_DATE_EPOCH", NOW);
         command.envs(self.variables.iter().map(|(name, value)| (name, value)));
         command
     }
@@ -144,10 +175,14 @@ fn finish(command: &mut Command) -> Done {
 impl From<Output> for Done {
     /// What the call came to; an object is one of the schema, whatever the test asks of it.
     fn from(output: Output) -> Done {
+        let told = String::from_utf8_lossy(&output.stderr);
+        let is_note = |line: &&str| line.starts_with("note: ");
+        let (notes, err): (Vec<&str>, Vec<&str>) = told.split_inclusive('\n').partition(is_note);
         let done = Done {
             status: output.status.code().expect("it ends by itself"),
             out: String::from_utf8_lossy(&output.stdout).into_owned(),
-            err: String::from_utf8_lossy(&output.stderr).into_owned(),
+            err: err.concat(),
+            notes: notes.concat(),
             bytes: output.stdout,
         };
         if done.out.starts_with('{') {

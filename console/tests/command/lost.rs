@@ -64,7 +64,8 @@ fn what_is_lost_is_told_where_nothing_is_printed() {
         let done = folder.call(line);
         assert_eq!((done.status, done.err), (status, lost.clone() + failure));
         let object = read(&folder.call(&format!("{line} --json")).out);
-        assert_eq!(object.get("warnings").list().len(), 2, "{line}");
+        // A note of the history, what is lost, and what is at risk.
+        assert_eq!(object.get("warnings").list().len(), 3, "{line}");
     }
     assert_eq!(folder.names(), ["last", "new.txt", "small.txt"]);
 }

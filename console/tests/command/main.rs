@@ -7,6 +7,7 @@ mod compared;
 mod cut_short;
 mod documents;
 mod folder;
+mod history;
 mod lost;
 mod manual;
 mod moved;
@@ -67,7 +68,7 @@ fn the_first_plan_of_the_sample() {
     let done = folder.call("plan home.txt --out last");
     assert_eq!((done.status, done.err.as_str()), (0, ""));
     assert_eq!(done.out, include_str!("first.txt"));
-    assert_eq!(folder.names(), ["home.txt", "last"]);
+    assert_eq!(folder.names(), ["home.txt", "home.txt.history", "last"]);
     assert_eq!(folder.read("last").len(), 29 + 256 * (5 + 4 * 3));
 }
 
@@ -425,7 +426,8 @@ fn a_former_layout_of_other_partitions_is_refused() {
     let done = folder.call("plan next.txt --former last --out next");
     let told = "last was planned with bits 8, next.txt has bits 7: they cannot change\n";
     assert_eq!((done.status, done.err.as_str()), (2, told));
-    assert_eq!(folder.names(), ["home.txt", "last", "next.txt"]);
+    let names = ["home.txt", "home.txt.history", "last", "next.txt"];
+    assert_eq!(folder.names(), names);
 }
 
 #[test]
@@ -440,7 +442,8 @@ fn files_that_are_not_there_are_told() {
         let told = format!("{file}: No such file or directory (os error 2)\n");
         assert_eq!((done.status, done.err), (2, told), "{line}");
     }
-    assert_eq!(folder.names(), ["home.txt", "last", "next.txt"]);
+    let names = ["home.txt", "home.txt.history", "last", "next.txt"];
+    assert_eq!(folder.names(), names);
 }
 
 #[test]
@@ -454,7 +457,8 @@ fn only_a_file_is_replaced() {
     let told = "nowhere/next: not written: No such file or directory (os error 2)\n";
     assert_eq!((done.status, done.err.as_str()), (2, told));
     assert_eq!(done.out, "", "it is known before anything is printed");
-    assert_eq!(folder.names(), ["folder", "home.txt", "last", "next.txt"]);
+    let names = ["folder", "home.txt", "home.txt.history", "last", "next.txt"];
+    assert_eq!(folder.names(), names);
 }
 
 #[test]

@@ -38,7 +38,10 @@ fn a_plan_is_an_object() {
     let folder = moving("object-plan");
     let line = "plan home.txt --former last --out last --json";
     prints(&folder, &words(line), include_str!("plan.json"));
-    assert_eq!(folder.names(), ["home.txt", "last", "last.old"]);
+    assert_eq!(
+        folder.names(),
+        ["home.txt", "home.txt.history", "last", "last.old"]
+    );
 }
 
 /// The rows, boxes and losses of a plan are those of its text.
@@ -229,6 +232,7 @@ fn another_program_reads_the_objects() {
         "stage home.txt --json",
         "apply home.txt --json",
         "undo home.txt --json",
+        "history home.txt --json",
     ] {
         let done = folder.call(line);
         folder.write("object", &done.out);

@@ -49,7 +49,8 @@ fn without_its_report_no_layout_is_written() {
             let told = format!("not printed, so nothing was written: {why}\n");
             assert_eq!((done.status, done.err), (2, told), "{line}");
             assert!(folder.read("last") == before, "{line}");
-            assert_eq!(folder.names(), ["home.txt", "last", "next.txt"], "{line}");
+            let names = ["home.txt", "home.txt.history", "last", "next.txt"];
+            assert_eq!(folder.names(), names, "{line}");
         }
     }
 }

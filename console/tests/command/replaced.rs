@@ -58,7 +58,9 @@ fn with_replace_the_old_layout_is_kept() {
     assert_eq!(done.out, include_str!("replaced.txt"));
     assert!(folder.read("last.old") == before);
     assert_eq!(folder.call("check next.txt last").status, 0);
-    assert_eq!(folder.names(), ["home.txt", "last", "last.old", "next.txt"]);
+    let names = ["home.txt", "home.txt.history", "last", "last.old"];
+    let of_next = ["next.txt", "next.txt.history"];
+    assert_eq!(folder.names(), [&names[..], &of_next].concat());
 }
 
 #[test]
@@ -102,7 +104,11 @@ fn an_older_layout_is_not_lost_either() {
     assert!(folder.read("last.old.1") == second);
     assert!(folder.read("last.old.2") == first);
     let old = ["last.old", "last.old.1", "last.old.2"];
-    let names = [&["home.txt", "last"][..], &old, &["next.txt"]];
+    let (home, next) = (
+        ["home.txt", "home.txt.history", "last"],
+        ["next.txt", "next.txt.history"],
+    );
+    let names = [&home[..], &old, &next];
     assert_eq!(folder.names(), names.concat());
 }
 
@@ -139,7 +145,7 @@ fn old_layouts_are_kept_by_age() {
     fs::remove_file(folder.path("last.old")).unwrap();
     assert!(plan(240, "--replace").ends_with("kept as last.old.\n"));
     assert_eq!(sizes(&folder, names), [225, 210, 180, 150]);
-    assert_eq!(folder.names().len(), names.len() + 1);
+    assert_eq!(folder.names_but_histories().len(), names.len() + 1);
 }
 
 /// Where no file gets a second name, a copy is kept, and a new file is renamed; nothing else differs.
@@ -160,7 +166,7 @@ fn without_links_copies_are_kept() {
     assert!(folder.read("new") == before);
     assert_eq!(mode(&folder, "last.old"), 0o640);
     let names = ["home.txt", "last", "last.old", "new", "next.txt"];
-    assert_eq!(folder.names(), names);
+    assert_eq!(folder.names_but_histories(), names);
 }
 
 #[test]
@@ -273,8 +279,9 @@ fn what_a_link_points_to_is_replaced() {
     assert!(folder.path("link").is_symlink());
     assert!(folder.read("last") != before);
     assert!(folder.read("last.old") == before);
-    let names = ["home.txt", "last", "last.old", "link", "next.txt"];
-    assert_eq!(folder.names(), names);
+    let names = ["home.txt", "home.txt.history", "last", "last.old", "link"];
+    let of_next = ["next.txt", "next.txt.history"];
+    assert_eq!(folder.names(), [&names[..], &of_next].concat());
 }
 
 #[test]

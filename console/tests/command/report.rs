@@ -698,12 +698,12 @@ fn only_what_holds_from_the_former_layout_is_told() {
 #[test]
 fn without_a_layout_the_plan_is_shown() {
     let folder = planned_home("report-planned");
+    let planned = page_of(&folder, "next.txt --former last");
     assert_eq!(
         folder.call("plan next.txt --former last --out next").status,
         0
     );
     let given = page_of(&folder, "next.txt next --former last");
-    let planned = page_of(&folder, "next.txt --former last");
     assert_eq!(lead(&planned), lead(&given));
     let rows = |page: &Element| page.with_id("partitions").text();
     assert_eq!(rows(&planned), rows(&given));
@@ -999,6 +999,12 @@ fn faults_of_the_files_are_told_and_nothing_is_written() {
             "{call}"
         );
     }
-    let names = ["home.txt", "last", "next.txt", "three.txt"];
+    let names = [
+        "home.txt",
+        "home.txt.history",
+        "last",
+        "next.txt",
+        "three.txt",
+    ];
     assert_eq!(folder.names(), names);
 }

@@ -17,7 +17,8 @@ fn a_layout_in_the_place_of_the_file_is_told_in_one_line() {
         let told = "last: this is a layout record; the text file comes first\n";
         assert_eq!((done.status, done.err.as_str()), (2, told), "{line}");
     }
-    assert_eq!(folder.names(), ["home.txt", "last", "next.txt"]);
+    let names = ["home.txt", "home.txt.history", "last", "next.txt"];
+    assert_eq!(folder.names(), names);
 }
 
 #[test]
@@ -109,6 +110,7 @@ fn a_former_layout_of_quite_other_boxes_is_warned_of() {
     assert!(done
         .out
         .starts_with("Lost: 2 of 2 partitions have no surviving copy: 0, 1.\n"));
+    assert_eq!(done.notes, "");
     folder.write("last", layout_record(1, 5, &[&[7, 8], &[3, 9]]));
     assert_eq!(folder.call("plan home.txt --former last").err, "");
 }

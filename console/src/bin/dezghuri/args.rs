@@ -3,7 +3,7 @@
 mod staging;
 mod writes;
 
-use crate::grammar::{self, Grammar, Opt, CEILING, END, JSON, STAGED};
+use crate::grammar::{self, Grammar, Opt, ANYWAY, CEILING, END, JSON, STAGED};
 use crate::labels;
 use crate::terminal::escaped;
 use crate::units;
@@ -66,6 +66,9 @@ pub enum Command {
     Apply {
         file: PathBuf,
     },
+    History {
+        file: PathBuf,
+    },
 }
 
 /// A plan of the cluster of a file.
@@ -76,6 +79,8 @@ pub struct Plan {
     pub out: Option<PathBuf>,
     pub allowance: u16,
     pub replace: bool,
+    /// Whether a former layout is taken that is not what was written under its name.
+    pub damaged_anyway: bool,
 }
 
 /// The steps from one layout to another.
@@ -204,6 +209,7 @@ pub fn parse(words: impl IntoIterator<Item = OsString>) -> Result<Call, String> 
         "stage" => staging::stage(words),
         "undo" => staging::undo(words),
         "apply" => staging::apply(words),
+        "history" => history(words),
         _ => record(words),
     };
     let command = command?;
@@ -250,6 +256,10 @@ fn plan(mut words: Words) -> Result<Command, String> {
     if replace && out.is_none() {
         return Err("--replace goes with --out: without it nothing is written".into());
     }
+    let damaged_anyway = words.flag(ANYWAY);
+    if damaged_anyway && former.is_none() {
+        return Err("--damaged-anyway goes with --former: it is that layout that is taken".into());
+    }
     let staged = words.flag(STAGED);
     let [file] = words.places("a FILE")?;
     Ok(Command::Plan(Plan {
@@ -258,6 +268,7 @@ fn plan(mut words: Words) -> Result<Command, String> {
         out,
         allowance,
         replace,
+        damaged_anyway,
     }))
 }
 
@@ -409,6 +420,12 @@ fn record(mut words: Words) -> Result<Command, String> {
     })
 }
 
+fn history(words: Words) -> Result<Command, String> {
+    let [file] = words.places("a FILE")?;
+    let file = file.into();
+    Ok(Command::History { file })
+}
+
 fn source(file: OsString, staged: bool) -> Source {
     let file = file.into();
     Source { file, staged }
@@ -544,8 +561,10 @@ mod tests {
             out: Some("next".into()),
             allowance: 7,
             replace: true,
+            damaged_anyway: true,
         });
-        let line = "plan --former last --replace home.txt --allowance=7 --out next --staged";
+        let line = "plan --former last --replace home.txt --allowance=7 --out next --staged \
+                    --damaged-anyway";
         assert_eq!(called(line), Ok(expected));
     }
 
@@ -722,6 +741,7 @@ mod tests {
             "stage home.txt add 7 attic 4T --json",
             "undo --json home.txt",
             "apply home.txt --json",
+            "history home.txt --json",
         ] {
             let call = parse(line.split_whitespace().map(OsString::from));
             assert!(call.unwrap().json, "{line}");
@@ -755,7 +775,7 @@ mod tests {
             (
                 "",
                 "say what to do: plan, check, show, diff, moves, certify, what-if, stage, undo, apply, \
-                 report, record or help",
+                 history, report, record or help",
             ),
             ("plam home.txt", "there is no command \"plam\""),
             ("plan", "a FILE is wanted, not 0 words"),
@@ -782,6 +802,15 @@ mod tests {
             (
                 "record home.txt --replace",
                 "--replace is not an option here",
+            ),
+            (
+                "plan home.txt --damaged-anyway --out next",
+                "--damaged-anyway goes with --former: it is that layout that is taken",
+            ),
+            ("history", "a FILE is wanted, not 0 words"),
+            (
+                "history home.txt --staged",
+                "--staged is not an option here",
             ),
             (
                 "plan home.txt --allowance 65536",

@@ -4,6 +4,7 @@ mod apply;
 mod certify;
 mod check;
 mod diff;
+mod history;
 mod moves;
 mod plan;
 mod record;
@@ -24,10 +25,10 @@ use crate::losses;
 use crate::output::{Kind, Output};
 use crate::report;
 use crate::staged::Staged;
+use crate::sum;
 use crate::terminal::shown;
 use crate::units::count;
 use dezghuri::{Cluster, Description, Plan, Refused};
-use std::collections::BTreeSet;
 use std::mem;
 use std::path::Path;
 
@@ -102,6 +103,7 @@ pub fn run(command: &Command, warnings: &mut Vec<String>) -> Result<Answer, Fail
         Command::Stage { file, staging } => stage::run(file, staging, warnings),
         Command::Undo { file } => undo::run(file, warnings),
         Command::Apply { file } => apply::run(file, warnings),
+        Command::History { file } => history::run(file, warnings),
     }
 }
 
@@ -125,6 +127,10 @@ pub struct Known {
     pub staged: Option<usize>,
     /// The boxes before the staged changes: what a box was called that these take away.
     before: Option<Description>,
+    /// The sum of the text.
+    pub text_sum: u64,
+    /// The plan of the former layout.
+    pub former: Option<Plan>,
 }
 
 /// The cluster of the file, with what is staged where that is asked for, and with the layout of the
@@ -139,14 +145,17 @@ pub fn describe(
         true => Some(Staged::read(file, warnings)?),
         false => None,
     };
+    let text = match &staged {
+        Some(staged) => staged.text.clone(),
+        None => files::read_text(file)?,
+    };
     let mut known = Known {
-        described: match &staged {
-            Some(staged) => staged.known()?,
-            None => files::read_description(file)?,
-        },
+        described: files::described(file, &text)?,
         name: shown(file),
         staged: None,
         before: None,
+        text_sum: sum::of(&text),
+        former: None,
     };
     let slips = known.described.warnings.iter();
     warnings.extend(slips.map(|slip| slip.told_of(file)));
@@ -154,7 +163,7 @@ pub fn describe(
         known.change(&staged, warnings)?;
     }
     if let Some(former) = former {
-        start_from(&mut known.described, file, former, warnings)?;
+        known.former = Some(start_from(&mut known.described, file, former)?);
     }
     Ok(known)
 }
@@ -196,13 +205,8 @@ impl Known {
     }
 }
 
-/// Gives the cluster the layout of the former plan.
-fn start_from(
-    described: &mut Description,
-    file: &Path,
-    former: &Path,
-    warnings: &mut Vec<String>,
-) -> Result<(), Failure> {
+/// Gives the cluster the layout of the former plan, which is answered.
+fn start_from(described: &mut Description, file: &Path, former: &Path) -> Result<Plan, Failure> {
     let last: Plan = files::read_plan(former)?;
     if last.bits != described.cluster.bits {
         return Err(Failure::bad(format!(
@@ -213,23 +217,8 @@ fn start_from(
             described.cluster.bits
         )));
     }
-    described.cluster.former = last.layout;
-    warnings.extend(of_other_boxes(described, file, former));
-    Ok(())
-}
-
-/// A warning where the former layout has no box of this cluster: it may be that of another one.
-fn of_other_boxes(described: &Description, file: &Path, former: &Path) -> Option<String> {
-    let rows = described.cluster.former.rows();
-    let ids: BTreeSet<u32> = rows.flat_map(|(_, ids)| ids.to_vec()).collect();
-    if ids.iter().any(|id| described.has(*id)) {
-        return None;
-    }
-    Some(format!(
-        "{}: none of its boxes is in {}: is it the layout of another cluster?",
-        shown(former),
-        shown(file)
-    ))
+    described.cluster.former = last.layout.clone();
+    Ok(last)
 }
 
 /// What the papers say cannot be refused is told as it comes.

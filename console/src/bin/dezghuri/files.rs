@@ -1,6 +1,7 @@
 //! Files that are read.
 
 use crate::failure::Failure;
+use crate::history;
 use crate::staged;
 use crate::terminal::shown;
 use crate::units::count;
@@ -17,11 +18,6 @@ const MOST_FAULTS: usize = 20;
 
 /// What the program `plan` reads of a cluster record: a longer one is refused within these bytes.
 const RECORD_READ: u64 = 11_000;
-
-/// The cluster that a text file describes.
-pub fn read_description(path: &Path) -> Result<Description, Failure> {
-    described(path, &read_text(path)?)
-}
 
 /// The bytes of a text file; whether they describe a cluster is not asked yet.
 pub fn read_text(path: &Path) -> Result<Vec<u8>, Failure> {
@@ -54,6 +50,8 @@ fn other_than_text(bytes: &[u8]) -> Option<&'static str> {
         Some("this is a cluster record; `plan --record` plans it, all else takes a text file")
     } else if staged::is_staged(bytes) {
         Some("this is what is staged for a text file; name that file")
+    } else if history::is_history(bytes) {
+        Some("this is the history of a text file; name that file")
     } else if bytes.contains(&0) {
         Some("this is not a text file")
     } else if bytes.len() as u64 > LONGEST_TEXT {
@@ -105,20 +103,20 @@ fn read_at_most(path: &Path, most: u64) -> Result<Vec<u8>, Failure> {
     Ok(bytes)
 }
 
-/// The bytes of a file of staged changes, if there is one.
-pub fn read_staged(path: &Path) -> Result<Option<Vec<u8>>, Failure> {
+/// The bytes of a file that the command keeps beside a text file, if there is one.
+pub fn read_beside(path: &Path, longest: usize, name: &str) -> Result<Option<Vec<u8>>, Failure> {
     let is_nowhere = || fs::symlink_metadata(path).is_err_and(|error| is_not_found(&error));
     if is_nowhere() {
         return Ok(None);
     }
-    match read_staged_there(path) {
+    match read_there(path, longest, name) {
         // It was removed meanwhile.
         Err(_) if is_nowhere() => Ok(None),
         read => read.map(Some),
     }
 }
 
-fn read_staged_there(path: &Path) -> Result<Vec<u8>, Failure> {
+fn read_there(path: &Path, longest: usize, name: &str) -> Result<Vec<u8>, Failure> {
     let bad = |what: &str| Failure::bad(format!("{}: {what}", shown(path)));
     match fs::metadata(path) {
         Ok(there) if there.is_file() => (),
@@ -128,9 +126,9 @@ fn read_staged_there(path: &Path) -> Result<Vec<u8>, Failure> {
         }
         Err(error) => return Err(bad(&error.to_string())),
     }
-    let bytes = read_at_most(path, staged::LONGEST as u64 + 1)?;
-    match bytes.len() > staged::LONGEST {
-        true => Err(bad("this is too long for a file of staged changes")),
+    let bytes = read_at_most(path, longest as u64 + 1)?;
+    match bytes.len() > longest {
+        true => Err(bad(&format!("this is too long for a {name}"))),
         false => Ok(bytes),
     }
 }

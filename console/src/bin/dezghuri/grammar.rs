@@ -22,6 +22,8 @@ pub struct Opt {
 pub const JSON: &str = "--json";
 /// Asks for the boxes with the staged changes.
 pub const STAGED: &str = "--staged";
+/// Takes a former layout that is not what was written under its name.
+pub const ANYWAY: &str = "--damaged-anyway";
 /// Gives a box its ceiling: a new one that is staged, or one of the file for a try.
 pub const CEILING: &str = "--ceiling";
 /// Ends the options: what comes after it are plain words.
@@ -33,7 +35,8 @@ pub const COMMANDS: &[Grammar] = &[
         name: "plan",
         calls: &[
             (
-                "FILE [--staged] [--former LAST] [--out NEXT] [--allowance N] [--replace]",
+                "FILE [--staged] [--former LAST] [--out NEXT] [--allowance N] [--replace] \
+                 [--damaged-anyway]",
                 "plans the cluster that FILE describes, starting from the layout LAST, and writes \
                  the layout to NEXT; N improvements at most (0 to 65535; without it as many as it \
                  takes: then it is the first layout, by its rows, of those of the largest size \
@@ -53,6 +56,10 @@ pub const COMMANDS: &[Grammar] = &[
                 "--replace",
                 "replaces a layout that is there already; it is kept as NEXT.old. Without it only \
                  the --former of this plan is replaced",
+            ),
+            flag(
+                ANYWAY,
+                "starts from LAST though it is not what was written there, by FILE.history",
             ),
             option("--record", "RECORD", "plans a cluster record; no other words go with it"),
             WITH_STAGED,
@@ -191,6 +198,16 @@ pub const COMMANDS: &[Grammar] = &[
         )],
         options: &[AS_JSON],
         example: "dezghuri apply shop.txt",
+    },
+    Grammar {
+        name: "history",
+        calls: &[(
+            "FILE",
+            "lists the layouts that were written for FILE: when, what changed, and whether each is \
+             still there",
+        )],
+        options: &[AS_JSON],
+        example: "dezghuri history shop.txt",
     },
     Grammar {
         name: "report",

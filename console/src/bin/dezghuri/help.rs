@@ -35,6 +35,10 @@ is replaced only where it is the --former of this plan, or with --replace; it is
 kept as NEXT.old. What is not a layout is never replaced. Pages, certificates
 and cluster records are kept likewise, and replaced by their like alone.
 
+Each layout that plan writes has a line in FILE.history. By it a layout is told
+that is damaged, older than another one or of another cluster; one that is not
+what was written there is no LAST of a plan but with --damaged-anyway.
+
 Exit status: 0 done; 1 there is no such layout, it is not valid or not the best,
 or a change cannot be made; 2 the call or a file is at fault, or the report
 could not be printed.

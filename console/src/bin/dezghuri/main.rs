@@ -13,6 +13,7 @@ mod failure;
 mod files;
 mod grammar;
 mod help;
+mod history;
 mod json;
 mod labels;
 mod lock;
@@ -23,6 +24,7 @@ mod record_lines;
 mod report;
 mod sheet;
 mod staged;
+mod sum;
 mod table;
 mod why;
 
@@ -61,9 +63,7 @@ fn called(words: &[OsString], warnings: &mut Vec<String>) -> Result<u8, Failure>
     }
     let lock = Lock::take(&command.writes(), warnings);
     let answer = lock.and_then(|lock| Ok((lock, commands::run(&command, warnings)?)));
-    for warning in &*warnings {
-        tell(&format!("warning: {warning}"));
-    }
+    warnings.iter().for_each(|warning| warn(warning));
     // Held to the end: what the call has read stays as it is until its deeds are done.
     let (_lock, mut answer) = answer?;
     answer.told.iter().for_each(|line| tell(line));
@@ -138,6 +138,17 @@ fn print(bytes: &[u8]) -> io::Result<()> {
     let mut out = io::stdout().lock();
     out.write_all(bytes)?;
     out.flush()
+}
+
+/// What a line among the warnings begins with that is none: something to know, and nothing to mend.
+const NOTE: &str = "note: ";
+
+/// Says a warning, or a note.
+fn warn(line: &str) {
+    match line.starts_with(NOTE) {
+        true => tell(line),
+        false => tell(&format!("warning: {line}")),
+    }
 }
 
 /// Says a line to the owner; where nobody can hear it, the exit status still tells.

@@ -12,7 +12,7 @@ use crate::sheet;
 use crate::staged;
 use crate::terminal::shown;
 use dezghuri::{ffi, Cluster, Description, Plan};
-use kept::old_of;
+pub use kept::old_of;
 use std::fs::{self, File, Metadata, OpenOptions};
 use std::io::{self, ErrorKind, Read, Write};
 use std::os::unix::fs::{fchown, MetadataExt, OpenOptionsExt, PermissionsExt};
@@ -117,7 +117,7 @@ impl Output {
 
     /// An error unless these bytes stand there: what is to be written was made from them.
     pub fn stands_on(&self, bytes: Option<&[u8]>) -> Result<(), Failure> {
-        match self.found.as_ref().map(|found| &found.bytes[..]) == bytes {
+        match self.replaced() == bytes {
             true => Ok(()),
             false => Err(not_written(&self.path, &changed_meanwhile())),
         }
@@ -126,6 +126,11 @@ impl Output {
     /// Whether a record stands there already.
     pub fn replaces(&self) -> bool {
         self.found.is_some()
+    }
+
+    /// The record that stands there.
+    pub fn replaced(&self) -> Option<&[u8]> {
+        self.found.as_ref().map(|found| &found.bytes[..])
     }
 
     /// As the owner calls it.
@@ -236,7 +241,7 @@ fn not_removed(path: &Path, error: &io::Error) -> Failure {
     Failure::bad(format!("{}: not removed: {error}", shown(path)))
 }
 
-fn changed_meanwhile() -> io::Error {
+pub fn changed_meanwhile() -> io::Error {
     io::Error::other("it was changed meanwhile")
 }
 
@@ -400,6 +405,6 @@ pub fn folder_of(path: &Path) -> &Path {
 }
 
 /// Makes the names in the folder last through a loss of power, where the file system can.
-fn sync_folder(path: &Path) {
+pub fn sync_folder(path: &Path) {
     let _ = File::open(folder_of(path)).and_then(|folder| folder.sync_all());
 }

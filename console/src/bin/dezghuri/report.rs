@@ -15,6 +15,7 @@ use crate::commands::{describe, output, Answer, Known};
 use crate::explain;
 use crate::failure::{Failure, REFUSED};
 use crate::files;
+use crate::history::tell_layouts;
 use crate::losses;
 use crate::output::Kind;
 use crate::terminal::shown;
@@ -31,13 +32,21 @@ pub const LONGEST_PAGE: u64 = 500_000;
 /// the page says why, and the status is 1.
 pub fn run(call: &args::Report, warnings: &mut Vec<String>) -> Result<Answer, Failure> {
     let known = describe(&call.source, call.former.as_deref(), warnings)?;
-    known.with_losses(paged(call, &known), warnings)
+    let answer = paged(call, &known, warnings);
+    known.with_losses(answer, warnings)
 }
 
-fn paged(call: &args::Report, known: &Known) -> Result<Answer, Failure> {
+fn paged(
+    call: &args::Report,
+    known: &Known,
+    warnings: &mut Vec<String>,
+) -> Result<Answer, Failure> {
     let described = &known.described;
-    let former = call.former.as_deref().map(files::read_plan).transpose()?;
-    let laid = laid(call, known, former.as_ref())?;
+    let plan = call.layout.as_deref().map(files::read_plan).transpose()?;
+    let layout = call.layout.as_deref().zip(plan.as_ref());
+    let former = call.former.as_deref().zip(known.former.as_ref());
+    tell_layouts(&call.source.file, described, former, layout, warnings);
+    let laid = laid(known, layout);
     let is_valid = laid.as_ref().is_ok_and(|laid| laid.judged.is_ok());
     let status = if is_valid { 0 } else { REFUSED };
     let facts = Facts {
@@ -54,33 +63,28 @@ fn paged(call: &args::Report, known: &Known) -> Result<Answer, Failure> {
 }
 
 /// What is to be drawn, or why there is nothing.
-fn laid(
-    call: &args::Report,
-    known: &Known,
-    former: Option<&Plan>,
-) -> Result<Result<Laid, String>, Failure> {
-    let described = &known.described;
-    let Some(layout) = &call.layout else {
+fn laid(known: &Known, layout: Option<(&Path, &Plan)>) -> Result<Laid, String> {
+    let (described, former) = (&known.described, known.former.as_ref());
+    let Some((layout, plan)) = layout else {
         let plan = described.cluster.plan(ENOUGH);
         let laid = plan.and_then(|plan| Laid::new(described, &plan, former));
-        return Ok(laid.map_err(|refused| explain::no_plan(described, refused)));
+        return laid.map_err(|refused| explain::no_plan(described, refused));
     };
-    let plan = files::read_plan(layout)?;
-    let refused = match Laid::new(described, &plan, former) {
-        Ok(laid) => return Ok(Ok(laid)),
+    let refused = match Laid::new(described, plan, former) {
+        Ok(laid) => return Ok(laid),
         Err(refused) => refused,
     };
     let why = format!(
         "{} is not valid for {} as it is now: {}",
         shown(layout),
         known.name,
-        explain::not_valid(described, &plan, refused)
+        explain::not_valid(described, plan, refused)
     );
     // Partitions of another number have no place in the map of these.
-    Ok(match plan.bits == described.cluster.bits {
-        true => Ok(Laid::drawn(&described.cluster, &plan, former, Err(why))),
+    match plan.bits == described.cluster.bits {
+        true => Ok(Laid::drawn(&described.cluster, plan, former, Err(why))),
         false => Err(why),
-    })
+    }
 }
 
 /// The files as their owner calls them.

@@ -8,6 +8,7 @@ mod zones;
 use crate::failure::Failure;
 use crate::files;
 use crate::output::{self, Kind, Output, Removal};
+use crate::sum;
 use crate::terminal::shown;
 use crate::units::count;
 use dezghuri::{Change, Description};
@@ -74,7 +75,7 @@ impl Staged {
                 ),
             ])
         })?;
-        let now = file::sum(&self.text);
+        let now = sum::of(&self.text);
         self.was_applied = contents.sums.is_some_and(|sums| sums.after == now);
         if self.was_applied {
             return Ok(None);
@@ -191,7 +192,7 @@ impl Staged {
 fn read_both(file: &Path, path: &Path) -> Result<(Vec<u8>, Option<Vec<u8>>), Failure> {
     loop {
         let text = files::read_text(file)?;
-        let found = files::read_staged(path);
+        let found = files::read_beside(path, LONGEST, Kind::Staged.name());
         if files::read_text(file)? == text {
             return Ok((text, found?));
         }

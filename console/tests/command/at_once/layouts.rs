@@ -75,7 +75,8 @@ fn a_new_name_is_taken_once() {
     let lines = lines("plan N.txt --out last");
     let done = folder.call_at_once(&lines);
     one_takes_the_name(&folder, &lines, &done);
-    assert_eq!(folder.names().len(), 1 + CALLS as usize);
+    // The layout, and the history of its text.
+    assert_eq!(folder.names().len(), 2 + CALLS as usize);
 }
 
 /// Without locks the name is taken by a link, which one call alone can make; each tells that there are none.
@@ -93,7 +94,7 @@ fn a_new_name_is_taken_once_without_locks_too() {
                         other call write there meanwhile\n";
             assert_eq!(done.err.matches(told).count(), 1, "{line}: {}", done.err);
         }
-        assert_eq!(folder.names().len(), 1 + CALLS as usize);
+        assert_eq!(folder.names_but_histories().len(), 1 + CALLS as usize);
     }
 }
 

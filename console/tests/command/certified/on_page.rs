@@ -87,6 +87,12 @@ fn ceilings_and_zones_have_their_columns_and_lines() {
 #[test]
 fn a_page_without_a_certificate_has_no_sheet() {
     let folder = shop("page-no-sheet");
+    let page = page_of(&folder, "--former last");
+    assert_eq!(
+        page.of_class("sheet").len(),
+        3,
+        "what a plan comes to is the best"
+    );
     let line = "plan next.txt --former last --out next --replace --allowance 1";
     assert_eq!(folder.call(line).status, 0);
     for words in ["next", "next --former last"] {
@@ -97,12 +103,6 @@ fn a_page_without_a_certificate_has_no_sheet() {
             "{words}"
         );
     }
-    let page = page_of(&folder, "--former last");
-    assert_eq!(
-        page.of_class("sheet").len(),
-        3,
-        "what a plan comes to is the best"
-    );
 }
 
 /// Long lists of boxes are printed by the command alone.

@@ -15,7 +15,7 @@ impl Command {
             Command::Stage { file, .. } | Command::Undo { file } | Command::Apply { file } => {
                 vec![file.clone(), staged::path_of(file)]
             }
-            // The text is not written, but has to stay as it is until its layout is.
+            // The text is not written, but has to stay as it is until its layout is; and its history grows.
             Command::Plan(call) => match &call.out {
                 Some(out) => vec![call.source.file.clone(), out.clone()],
                 None => Vec::new(),
@@ -30,7 +30,8 @@ impl Command {
             | Command::Show { .. }
             | Command::Diff { .. }
             | Command::Moves(_)
-            | Command::WhatIf { .. } => Vec::new(),
+            | Command::WhatIf { .. }
+            | Command::History { .. } => Vec::new(),
         }
     }
 }

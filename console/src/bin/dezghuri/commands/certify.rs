@@ -5,6 +5,7 @@ use crate::args;
 use crate::explain;
 use crate::failure::{Failure, REFUSED};
 use crate::files;
+use crate::history::tell_layouts;
 use crate::json::Json;
 use crate::labels;
 use crate::output::Kind;
@@ -19,6 +20,9 @@ pub fn run(call: &args::Certify, warnings: &mut Vec<String>) -> Result<Answer, F
     let known = describe(&call.source, call.former.as_deref(), warnings)?;
     let cluster = &known.described.cluster;
     let plan = files::read_plan(&call.layout)?;
+    let former = call.former.as_deref().zip(known.former.as_ref());
+    let given = Some((call.layout.as_path(), &plan));
+    tell_layouts(&call.source.file, &known.described, former, given, warnings);
     let certificate = match cluster.certify(&plan.layout, plan.size) {
         Ok(certificate) => certificate,
         Err(refused) => return Ok(not_certified(call, &known, &plan, refused)),

@@ -5,6 +5,7 @@ use crate::args::Source;
 use crate::explain;
 use crate::failure::{Failure, REFUSED};
 use crate::files;
+use crate::history::tell_layouts;
 use crate::terminal::shown;
 use crate::units::thousands;
 use std::path::Path;
@@ -14,6 +15,8 @@ pub fn run(source: &Source, layout: &Path, warnings: &mut Vec<String>) -> Result
         described, name, ..
     } = describe(source, None, warnings)?;
     let plan = files::read_plan(layout)?;
+    let given = Some((layout, &plan));
+    tell_layouts(&source.file, &described, None, given, warnings);
     let refused = described.cluster.check(&plan.layout, plan.size).err();
     let why = refused.map(|refused| explain::not_valid(&described, &plan, refused));
     let members = vec![

@@ -4,6 +4,7 @@ use super::{describe, Answer};
 use crate::args::Source;
 use crate::failure::Failure;
 use crate::files;
+use crate::history::{Given, History};
 use crate::json::Json;
 use crate::labels::{self, GONE};
 use crate::table::{self, Column, Side};
@@ -62,6 +63,10 @@ pub fn run(
             shown(new_path),
             new.bits
         )));
+    }
+    let history = History::read(&source.file, warnings);
+    for (path, plan) in [(old_path, &old), (new_path, &new)] {
+        history.tell(&Given::compared(path, plan), &described, warnings);
     }
     let compared = Compared::new(&described, &old, &new);
     let heading = format!(

@@ -5,6 +5,7 @@ use crate::args;
 use crate::explain;
 use crate::failure::Failure;
 use crate::files;
+use crate::history::tell_layouts;
 use crate::json::Json;
 use crate::labels;
 use crate::losses;
@@ -37,6 +38,9 @@ struct Line {
 pub fn run(call: &args::Moves, warnings: &mut Vec<String>) -> Result<Answer, Failure> {
     let known = describe(&call.source, Some(&call.old), warnings)?;
     let new = files::read_plan(&call.new)?;
+    let (file, described) = (&call.source.file, &known.described);
+    let old = known.former.as_ref().map(|old| (call.old.as_path(), old));
+    tell_layouts(file, described, old, Some((&call.new, &new)), warnings);
     let cluster = &known.described.cluster;
     // At its own size and not at 1, as the proved list asks: a layout that fills a disk is none to go to.
     let checked = cluster.check(&new.layout, new.size);

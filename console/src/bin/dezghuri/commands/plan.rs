@@ -2,9 +2,11 @@
 
 use super::{describe, heading, lost_lines, output, rows, unforeseen, wanted, Answer, Known};
 use crate::args;
+use crate::deeds::Deed;
 use crate::explain;
 use crate::failure::Failure;
 use crate::files;
+use crate::history::{Addition, Given, History, Planned};
 use crate::json::Json;
 use crate::output::{Kind, Output};
 use crate::overview::{first_transfers_in_words, transfers_in_words, Overview};
@@ -25,10 +27,16 @@ struct Made<'a> {
 
 pub fn run(call: &args::Plan, warnings: &mut Vec<String>) -> Result<Answer, Failure> {
     let known = describe(&call.source, call.former.as_deref(), warnings)?;
-    known.with_losses(planned(call, &known), warnings)
+    let answer = planned(call, &known, warnings);
+    known.with_losses(answer, warnings)
 }
 
-fn planned(call: &args::Plan, known: &Known) -> Result<Answer, Failure> {
+fn planned(
+    call: &args::Plan,
+    known: &Known,
+    warnings: &mut Vec<String>,
+) -> Result<Answer, Failure> {
+    let history = told_history(call, known, warnings)?;
     let described = &known.described;
     let cluster = &described.cluster;
     let plan = cluster
@@ -43,13 +51,48 @@ fn planned(call: &args::Plan, known: &Known) -> Result<Answer, Failure> {
         described,
         plan: &plan,
     };
+    let text = made.text(call, output.as_ref());
+    let written = history.zip(output.as_ref());
+    let line = written.and_then(|(history, output)| {
+        let planned = made.to_keep(output);
+        history.addition(&planned, warnings)
+    });
     let mut members = made.json(call);
     members.push(("out", output.as_ref().map(Output::json).into()));
-    let answer = Answer::with_json(made.text(call, output.as_ref()), members);
-    Ok(match output {
-        Some(output) => answer.writing(output),
-        None => answer,
+    members.push(("history", line.as_ref().map(Addition::json).into()));
+    // The line goes first: a layout under its name is never unknown.
+    let deeds = [line.map(Deed::Append), output.map(Deed::Write)];
+    Ok(Answer {
+        deeds: deeds.into_iter().flatten().collect(),
+        ..Answer::with_json(text, members)
     })
+}
+
+/// The history, where a layout is read or written. What it says of the former one is told, or that it
+/// begins.
+fn told_history(
+    call: &args::Plan,
+    known: &Known,
+    warnings: &mut Vec<String>,
+) -> Result<Option<History>, Failure> {
+    if call.former.is_none() && call.out.is_none() {
+        return Ok(None);
+    }
+    let history = History::read(&call.source.file, warnings);
+    if let Some(out) = call.out.as_deref().filter(|out| history.is_at(out)) {
+        return Err(Failure::Usage(format!(
+            "--out {} would take the place of the history",
+            shown(out)
+        )));
+    }
+    match call.former.as_deref().zip(known.former.as_ref()) {
+        Some((last, former)) => {
+            let former = Given::former(last, former);
+            history.plan_from(&former, &known.described, call.damaged_anyway, warnings)?;
+        }
+        None => warnings.extend(history.begins()),
+    }
+    Ok(Some(history))
 }
 
 impl Made<'_> {
@@ -101,6 +144,19 @@ impl Made<'_> {
             line += &format!(" --former {}", shown(former));
         }
         line + &format!(" {}` shows why.\n", shown(output.path()))
+    }
+
+    /// What the history is to keep of it.
+    fn to_keep<'m>(&'m self, output: &'m Output) -> Planned<'m> {
+        Planned {
+            out: output.path(),
+            plan: self.plan,
+            former: self.known.former.as_ref(),
+            replaced: output.replaced(),
+            described: self.described,
+            text: self.known.text_sum,
+            staged: self.known.staged,
+        }
     }
 
     /// That the plan is one of boxes that the file has not yet.

@@ -4,6 +4,7 @@ use super::{describe, output, Answer};
 use crate::args::Source;
 use crate::failure::Failure;
 use crate::files;
+use crate::history::of_other_boxes;
 use crate::losses;
 use crate::output::Kind;
 use crate::record_lines;
@@ -21,7 +22,11 @@ pub fn run(
         file: file.into(),
         staged: false,
     };
-    let cluster = describe(&source, former, warnings)?.described.cluster;
+    let known = describe(&source, former, warnings)?;
+    if let (Some(former), Some(plan)) = (former, &known.former) {
+        warnings.extend(of_other_boxes(&known.described, file, former, plan));
+    }
+    let cluster = known.described.cluster;
     warnings.extend(losses::in_words(&cluster));
     let record = cluster.to_record();
     let Some(out) = out else {

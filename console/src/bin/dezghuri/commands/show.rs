@@ -5,6 +5,7 @@ use crate::args::{Shown, Source};
 use crate::explain;
 use crate::failure::Failure;
 use crate::files;
+use crate::history::tell_layouts;
 use crate::json::Json;
 use crate::labels;
 use crate::overview::Overview;
@@ -37,12 +38,15 @@ pub fn run(
     let Known {
         described, name, ..
     } = describe(source, None, warnings)?;
+    let plan = files::read_plan(layout)?;
+    let given = Some((layout, &plan));
+    tell_layouts(&source.file, &described, None, given, warnings);
     let seen = Seen {
         file: &source.file,
         layout,
         name,
         described,
-        plan: files::read_plan(layout)?,
+        plan,
     };
     match what {
         Shown::Overview => Ok(seen.overview()),

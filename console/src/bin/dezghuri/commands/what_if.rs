@@ -6,6 +6,7 @@ use crate::changes::{Step, Tried};
 use crate::explain;
 use crate::failure::{Failure, REFUSED};
 use crate::files;
+use crate::history::tell_layouts;
 use crate::json::Json;
 use crate::table::{self, Column, Side};
 use crate::terminal::shown;
@@ -49,7 +50,8 @@ pub fn run(
     let mut known = files::described(file, &text)?;
     warnings.extend(known.warnings.iter().map(|slip| slip.told_of(file)));
     if let Some(former) = former {
-        start_from(&mut known, file, former, warnings)?;
+        let last = start_from(&mut known, file, former)?;
+        tell_layouts(file, &known, Some((former, &last)), None, warnings);
     }
     let asked = Tried::new(&text, &known, changes, warnings)?;
     let table = Table {

@@ -1,6 +1,7 @@
 //! The file of what is staged: the fields of a change record, with the owner's words between them.
 
 use crate::before;
+use crate::sum;
 use crate::terminal::escaped;
 use dezghuri::{Change, Label, Node, Place, Refusal, Refused};
 use std::fmt;
@@ -82,8 +83,8 @@ pub struct Sums {
 impl Sums {
     pub fn new(before: &[u8], after: &[u8]) -> Sums {
         Sums {
-            before: sum(before),
-            after: sum(after),
+            before: sum::of(before),
+            after: sum::of(after),
         }
     }
 
@@ -127,7 +128,7 @@ pub fn parse(bytes: &[u8]) -> Result<Contents, Fault> {
         at = reader.take(bytes, at).map_err(|why| fault(why, at))?;
     }
     match reader.check {
-        Some((begins, check)) if check != sum(&bytes[..begins]) => Err(Fault {
+        Some((begins, check)) if check != sum::of(&bytes[..begins]) => Err(Fault {
             is_of_check: true,
             ..fault(Refusal::Range, begins)
         }),
@@ -144,7 +145,7 @@ pub fn fields(entries: &[Entry]) -> Vec<u8> {
 
 /// The whole file with these changes.
 pub fn whole(changes: &[u8]) -> Vec<u8> {
-    let check = field(tag::CHECK, &sum(changes).to_be_bytes()).expect("eight bytes fit");
+    let check = field(tag::CHECK, &sum::of(changes).to_be_bytes()).expect("eight bytes fit");
     [changes, &check].concat()
 }
 
@@ -152,14 +153,6 @@ pub fn whole(changes: &[u8]) -> Vec<u8> {
 pub fn sealed(changes: &[u8], sums: Sums) -> Vec<u8> {
     let sums = field(tag::SUMS, &sums.to_body()).expect("sixteen bytes fit");
     whole(&[changes, &sums].concat())
-}
-
-/// A sum of bytes: FNV-1a of 64 bits. Each step is one to one, so that one byte that is another one
-/// makes another sum always; it guards against no one.
-pub fn sum(bytes: &[u8]) -> u64 {
-    bytes.iter().fold(0xcbf2_9ce4_8422_2325, |sum, byte| {
-        (sum ^ u64::from(*byte)).wrapping_mul(0x0000_0100_0000_01b3)
-    })
 }
 
 fn field(tag: u8, body: &[u8]) -> Option<Vec<u8>> {
