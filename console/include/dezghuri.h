@@ -36,7 +36,7 @@ extern "C" {
 
 /* The version of this header and its library; the number grows from each version to the next. */
 #define DEZGHURI_VERSION_MAJOR 0
-#define DEZGHURI_VERSION_MINOR 7
+#define DEZGHURI_VERSION_MINOR 8
 #define DEZGHURI_VERSION_PATCH 0
 #define DEZGHURI_VERSION "0.8.0"
 #define DEZGHURI_VERSION_NUMBER \
