@@ -83,10 +83,11 @@ fn all(name: &str) -> Vec<(Folder, &'static str)> {
     ]
 }
 
-/// Worked out by hand, of all seven: what is usable, over the size and over one more; rooms and their sums; what
-/// the cheapest row costs for the boxes that held a partition; what all cost, less prices times rooms.
+/// The numbers were worked out by hand, of all seven: what is usable, over the size and over one more; rooms and
+/// their sums; what the cheapest row costs for the boxes that held a partition; what all cost, less prices times
+/// rooms. The words are the command's own, and of rows that cost the same it shows the layout's.
 #[test]
-fn sheets_that_were_worked_out_by_hand() {
+fn sheets_with_numbers_worked_out_by_hand() {
     let stored = [
         include_str!("certified/shop.txt"),
         include_str!("certified/ceiling.txt"),

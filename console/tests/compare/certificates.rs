@@ -20,8 +20,8 @@ fn prices_of(c: &Cluster, prices: &[u32]) -> Vec<u64> {
 }
 
 /// Judges a plan: all plans of the comparisons pass by here. A finished one is certified, and the stranger's
-/// check passes; a stopped one both refuse, whatever the prices. It draws by lot apart from its callers, whose
-/// cases stay as they are.
+/// check passes; a stopped one both refuse, the check with prices drawn by lot. It draws apart from its callers,
+/// whose cases stay as they are.
 pub fn judge(record: &[u8], planned: &Planned) {
     let r = &mut Random::new(planned.sent.into());
     let (c, former) = read_cluster(record).expect("it was planned");
