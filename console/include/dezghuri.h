@@ -36,9 +36,9 @@ extern "C" {
 
 /* The version of this header and its library; the number grows from each version to the next. */
 #define DEZGHURI_VERSION_MAJOR 0
-#define DEZGHURI_VERSION_MINOR 8
+#define DEZGHURI_VERSION_MINOR 9
 #define DEZGHURI_VERSION_PATCH 0
-#define DEZGHURI_VERSION "0.8.0"
+#define DEZGHURI_VERSION "0.9.0"
 #define DEZGHURI_VERSION_NUMBER \
     (DEZGHURI_VERSION_MAJOR * 1000000 + DEZGHURI_VERSION_MINOR * 1000 + DEZGHURI_VERSION_PATCH)
 
@@ -47,6 +47,7 @@ extern "C" {
 #define DEZGHURI_MOST_PARTITIONS 256
 #define DEZGHURI_MOST_REPLICATION 8
 #define DEZGHURI_MOST_NODES 32
+#define DEZGHURI_MOST_LOST 4          /* nodes of which the worst loss can be asked */
 #define DEZGHURI_MOST_CEILING 256     /* the ceiling of a node that may hold a copy of every partition */
 #define DEZGHURI_ENOUGH_ALLOWANCE 2048 /* this many improvements always finish */
 
@@ -65,6 +66,8 @@ extern "C" {
 #define DEZGHURI_PLAN_ANSWER 6
 #define DEZGHURI_CHECK_ANSWER 3
 #define DEZGHURI_CERTIFY_ANSWER 35
+#define DEZGHURI_WORST_LOSS_ANSWER 8
+#define DEZGHURI_LOSS_ANSWER 4
 #define DEZGHURI_FIGURES_ANSWER 5
 #define DEZGHURI_WRITE_LAYOUT_ANSWER 2
 #define DEZGHURI_CHANGE_ANSWER 137
@@ -252,6 +255,36 @@ uint32_t dezghuri_certify(const uint8_t *record, size_t record_len,
                           uint32_t size,
                           uint32_t *answer, size_t answer_len);
 #define DEZGHURI_CERTIFY_PRICES 3 /* that of the first node */
+
+/* Answers the most partitions that the loss of so many nodes can cost, and the first nodes that cost so many. A
+ * partition is lost when all its copies are. Of all sets of exactly so many nodes none costs more, and of those
+ * that cost as many it is the one with the smallest ids, compared from the left.
+ *
+ * assignment, 2,048 cells.
+ * number, 0 to 4 nodes, no more than the cluster has.
+ * answer, 8 cells: 0, 1 the byte of a refused reading (high, low); 2 the place, as dezghuri_check; 3 how many
+ * partitions are lost; 4 to 7 the ids of the nodes, rising, then zeros; 3 to 7 are 0 when refused.
+ * Refusals: those of dezghuri_check at size 1, in their order: 1 to 7 of the reading; then 8; 4, number above 4 or
+ * above the number of nodes; rows in order 10 or 11; nodes in order 12. */
+uint32_t dezghuri_worst_loss(const uint8_t *record, size_t record_len,
+                             const uint32_t *assignment, size_t assignment_len,
+                             uint32_t number,
+                             uint32_t *answer, size_t answer_len);
+#define DEZGHURI_WORST_LOSS_LOST 3
+#define DEZGHURI_WORST_LOSS_NODES 4 /* the first id */
+
+/* Counts the partitions that are lost with given nodes: those whose every copy is in one of them.
+ *
+ * assignment, 2,048 cells.
+ * nodes: ids, as many as are given, in any order; one that no node has costs nothing.
+ * answer, 4 cells: 0, 1 the byte of a refused reading (high, low); 2 the place, as dezghuri_check; 3 how many
+ * partitions are lost, 0 when refused.
+ * Refusals: those of dezghuri_check at size 1. */
+uint32_t dezghuri_loss(const uint8_t *record, size_t record_len,
+                       const uint32_t *assignment, size_t assignment_len,
+                       const uint32_t *nodes, size_t nodes_len,
+                       uint32_t *answer, size_t answer_len);
+#define DEZGHURI_LOSS_LOST 3
 
 /* Copies the row of a partition, 0 to 255, out of an assignment.
  *

@@ -144,7 +144,7 @@ impl Cluster {
         let mut answer = [0; ffi::CERTIFY_ANSWER];
         let record = self.to_record();
         let refusal = ffi::certify(&record, layout.cells(), size, &mut answer);
-        self.judge_layout(refusal, &answer, size)?;
+        self.judge_layout(refusal, &answer, size == 0)?;
         let prices = answer[3..][..self.nodes.len()].to_vec();
         let groups = self.groups();
         let by_nodes = self.lines_by_nodes(&groups, layout, &prices);

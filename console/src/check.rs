@@ -27,7 +27,7 @@ impl Cluster {
         let mut answer = [0; ffi::CHECK_ANSWER];
         let record = self.to_record();
         let refusal = ffi::check(&record, layout.cells(), size, &mut answer);
-        self.judge_layout(refusal, &answer, size)
+        self.judge_layout(refusal, &answer, size == 0)
     }
 
     /// Counts the copies of a layout that [`Cluster::check`] passes.
@@ -40,7 +40,7 @@ impl Cluster {
         let mut answer = [0; ffi::FIGURES_ANSWER];
         let record = self.to_record();
         let refusal = ffi::figures(&record, layout.cells(), size, &mut figures, &mut answer);
-        self.judge_layout(refusal, &answer, size)?;
+        self.judge_layout(refusal, &answer, size == 0)?;
         let (copies, zone_copies) = figures.split_at(ffi::FIGURES_CELLS / 2);
         Ok(Figures {
             copies: copies[..self.nodes.len()].to_vec(),
@@ -49,16 +49,17 @@ impl Cluster {
         })
     }
 
-    /// A size of 0 has the number of a bad value too, but no byte: the field at byte 0 is good.
+    /// A bad number of the call itself, as a size of 0, is refused as a bad value of the record is, but has no
+    /// byte: the field at byte 0 is good.
     pub(crate) fn judge_layout(
         &self,
         refusal: u32,
         answer: &[u32],
-        size: u32,
+        bad_number: bool,
     ) -> Result<(), Refused> {
         let byte = wide(answer[0], answer[1]);
-        let of_size = size == 0 && byte == 0 && self.bits <= 8;
-        judge(refusal, (!of_size).then_some(byte), Some(answer[2]))
+        let of_number = bad_number && byte == 0 && self.bits <= 8;
+        judge(refusal, (!of_number).then_some(byte), Some(answer[2]))
             .map_err(|refused| self.in_own_terms(refused))
     }
 }

@@ -33,6 +33,10 @@ pub const PLAN_ANSWER: usize = 6;
 pub const CHECK_ANSWER: usize = 3;
 /// Least length of [`certify`]'s answer.
 pub const CERTIFY_ANSWER: usize = 35;
+/// Least length of [`worst_loss`]'s answer.
+pub const WORST_LOSS_ANSWER: usize = 8;
+/// Least length of [`loss`]'s answer.
+pub const LOSS_ANSWER: usize = 4;
 /// Least length of [`figures`]'s answer.
 pub const FIGURES_ANSWER: usize = 5;
 /// Least length of [`write_layout`]'s answer.
@@ -96,6 +100,27 @@ mod c {
             assignment: *const u32,
             assignment_len: usize,
             size: u32,
+            answer: *mut u32,
+            answer_len: usize,
+        ) -> u32;
+
+        pub fn dezghuri_worst_loss(
+            record: *const u8,
+            record_len: usize,
+            assignment: *const u32,
+            assignment_len: usize,
+            number: u32,
+            answer: *mut u32,
+            answer_len: usize,
+        ) -> u32;
+
+        pub fn dezghuri_loss(
+            record: *const u8,
+            record_len: usize,
+            assignment: *const u32,
+            assignment_len: usize,
+            nodes: *const u32,
+            nodes_len: usize,
             answer: *mut u32,
             answer_len: usize,
         ) -> u32;
@@ -259,6 +284,42 @@ pub fn certify(record: &[u8], assignment: &[u32], size: u32, answer: &mut [u32])
             assignment.as_ptr(),
             assignment.len(),
             size,
+            answer.as_mut_ptr(),
+            answer.len(),
+        )
+    }
+}
+
+/// The most partitions that the loss of so many nodes can cost, and the first nodes that cost so many; the
+/// layout has to be valid at size 1.
+pub fn worst_loss(record: &[u8], assignment: &[u32], number: u32, answer: &mut [u32]) -> u32 {
+    // SAFETY: each pointer and length are those of one live slice, and the slice lent by `&mut`
+    // overlaps no other.
+    unsafe {
+        c::dezghuri_worst_loss(
+            record.as_ptr(),
+            record.len(),
+            assignment.as_ptr(),
+            assignment.len(),
+            number,
+            answer.as_mut_ptr(),
+            answer.len(),
+        )
+    }
+}
+
+/// How many partitions are lost with the nodes whose ids are given; the layout has to be valid at size 1.
+pub fn loss(record: &[u8], assignment: &[u32], nodes: &[u32], answer: &mut [u32]) -> u32 {
+    // SAFETY: each pointer and length are those of one live slice, and the slice lent by `&mut`
+    // overlaps no other.
+    unsafe {
+        c::dezghuri_loss(
+            record.as_ptr(),
+            record.len(),
+            assignment.as_ptr(),
+            assignment.len(),
+            nodes.as_ptr(),
+            nodes.len(),
             answer.as_mut_ptr(),
             answer.len(),
         )

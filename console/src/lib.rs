@@ -78,6 +78,7 @@ mod refusal;
 mod rewrite;
 pub mod terminal;
 pub mod units;
+mod worst_loss;
 
 pub use certificate::{Certificate, Group, Line};
 pub use change::{Change, Changed, Staged};
@@ -91,3 +92,4 @@ pub use losses::Losses;
 pub use moves::{Held, Step, StepKind};
 pub use plan::{Plan, Verdict, ENOUGH};
 pub use refusal::{NoRefusal, Place, Refusal, Refused};
+pub use worst_loss::WorstLoss;

@@ -524,6 +524,6 @@ fn help_and_version_are_printed() {
     for line in ["--version", "-V", "version"] {
         let version = folder.call(line);
         assert_eq!((version.status, version.err.as_str()), (0, ""), "{line}");
-        assert_eq!(version.out, "dezghuri 0.8.0\n", "{line}");
+        assert_eq!(version.out, "dezghuri 0.9.0\n", "{line}");
     }
 }

@@ -17,6 +17,7 @@ mod history;
 mod json;
 mod labels;
 mod lock;
+mod loss;
 mod losses;
 mod output;
 mod overview;
