@@ -1,1 +1,2 @@
 pub mod TermsConsoleLayouts
+pub mod TermsConsoleLosses

@@ -2,4 +2,6 @@
 // numbers go into the lent cells `answer`, and an `answer` that is too short is refused before anything is touched.
 pub mod check;
 pub mod figure;
+pub mod given;
 pub mod row;
+pub mod worst;

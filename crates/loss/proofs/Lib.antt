@@ -1,0 +1,10 @@
+pub mod Sets
+pub mod Costliest
+pub mod Examples
+pub mod Steps
+pub mod Finds
+pub mod LossOrder
+pub mod RowsLost
+pub mod Passed
+pub mod Owed
+pub mod Among

@@ -1,0 +1,4 @@
+pub mod TermsLoss
+pub mod TermsLossAnswer
+pub mod TermsLossExamples
+pub mod ModelSearch
