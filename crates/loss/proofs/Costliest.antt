@@ -13,7 +13,7 @@ use Rattle.cluster.specs.Terms.{Topology, idsOf, rising, Layout}
 use Rattle.cluster.specs.TermsFirst.{RowBefore}
 use Rattle.cluster.proofs.Ordering.{row-once}
 use Rattle.loss.specs.TermsLoss.{lossOf, Chosen, IsWorst, setsOf, costlier, costliest, worstSet}
-use Rattle.loss.proofs.Sets.{In, Ordered, Part, sets-part, part-sets, sets-ordered, sets-first}
+use Rattle.loss.proofs.Sets.{In, Ordered, sets-part, part-sets, sets-ordered, sets-first}
 
 module _ (L : Layout) where
   pub more : (X Y : List ℕ) → lossOf L X < lossOf L Y → costlier L X Y ≡ Y

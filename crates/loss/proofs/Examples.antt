@@ -1,14 +1,13 @@
 -- The table of worst losses holds.
 -- Assumes nothing.
 use Prim.Native.Nat.{ℕ, _≤_}
-use mathlib.Core.Path.{_≡_, refl, ap, _∙_, subst}
+use mathlib.Core.Path.{_≡_, refl, subst}
 use mathlib.Core.Bool.{true}
-use mathlib.Core.List.{List, [], _∷_, map}
+use mathlib.Core.List.{List}
 use native.Mathlib.Omega.{arith}
-use lib.ListN.{length, take}
+use lib.ListN.{length}
 use Rattle.sums.specs.TermsSums.{one-if}
 use Rattle.cluster.specs.Terms.{Topology, idsOf, mem, rising, risingFrom, onlyIn, Layout}
-use Rattle.examples.specs.TermsExamples.{A, C, E}
 use Rattle.loss.specs.TermsLoss.{lossOf, IsWorst, setsOf, costlier, costliest, worstSet}
 use Rattle.loss.specs.TermsLossExamples.{LossTable}
 use Rattle.loss.proofs.Costliest.{worst-is}

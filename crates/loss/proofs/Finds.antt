@@ -5,19 +5,17 @@ use mathlib.Core.Path.{_≡_, refl, sym, ap, ap₂, _∙_}
 use mathlib.Core.Logic.{⊎-elim}
 use mathlib.Core.List.{List, [], _∷_, _++_, map, map-append, append-assoc, append-nil}
 use native.Mathlib.Omega.{arith}
-use lib.Dec.{ltb}
 use lib.ListN.{length, take, drop, getD, drop-of-length-le}
 use lib.Seq.{drop-cons}
 use lib.Pow.{pow-lt}
 use borrow.Author.Tests.{lt-ltb, le-ltb}
-use Rattle.sums.specs.TermsSums.{one-if}
 use Rattle.sums.proofs.Sum.{lt-or-ge}
 use Rattle.sets.specs.ModelBits.{maskBits, bit, withOf, belowOf}
 use Rattle.sets.proofs.Laws.{bit-high, bit-lt, with-lt, bit-with-same, bit-with-other, bit-below, bit-below-not}
 use Rattle.cluster.specs.Terms.{mostNodes, noNode, idsOf, Layout}
 use Rattle.cluster.specs.declared.Node.{Node}
 use Rattle.incidence.specs.ModelIncidence.{idsWhere}
-use Rattle.incidence.proofs.TieRows.{id-at, length-ids, where-out, where-in, where-cong}
+use Rattle.incidence.proofs.TieRows.{id-at, length-ids, where-out, where-in}
 use Rattle.masks.proofs.Where.{where-none, where-empty}
 use Rattle.loss.specs.TermsLoss.{lossOf, setsOf, costlier, costliest}
 use Rattle.loss.proofs.Costliest.{more, no-more, kept-join}

@@ -2,7 +2,7 @@
 -- Assumes nothing.
 use Prim.Native.Nat.{ℕ, _≤_, _<_}
 use mathlib.Core.Path.{_≡_, sym, ap, _∙_}
-use mathlib.Core.Bool.{true, false, _||_}
+use mathlib.Core.Bool.{true, false}
 use mathlib.Core.List.{List}
 use mathlib.Core.Logic.{⊎-elim}
 use native.Mathlib.Omega.{arith}
@@ -14,7 +14,8 @@ use Rattle.sums.proofs.Tests.{true-or-false, neither}
 use Rattle.cluster.specs.Terms.{mostNodes, layoutCells}
 use Rattle.cluster.specs.declared.Cluster.{Cluster}
 use Rattle.layouts.specs.declared.check.Checked.{Checked}
-use Rattle.layouts.specs.TermsCheck.{fault, checkOf}
+use Rattle.layouts.specs.TermsCheck.{fault, clusterFault, checkOf}
+use Rattle.layouts.proofs.CheckOrder as check
 use Rattle.loss.specs.TermsLoss.{mostLost}
 use Rattle.loss.specs.TermsLossAnswer.{tooMany, lossFault}
 
@@ -62,5 +63,16 @@ module _ (c : Cluster) (cells : List ℕ) (number : ℕ) where
       ⊎-elim (λ t. absurd (omega (arith, ap (λ (k : Checked). k .refusal) (order-number w f t))))
       (λ t. let n = enough-few t in (sym (ap (λ (k : Checked). k .refusal) (order-check w f t)) ∙ e, n .0, n .1))
       (true-or-false (tooMany c number)))
+      (lt-or-ge mostNodes (c .count)))
+      (lt-or-ge (length cells) layoutCells)
+
+  -- A number in its range is refused just as check at size 1 refuses, with the same place.
+  pub in-range : number ≤ mostLost → number ≤ c .count → lossFault c cells number ≡ checkOf c cells 1
+  unfolding clusterFault
+  in-range h l =
+      ⊎-elim (λ s. order-short s ∙ sym (check.order-short c cells 1 s)) (λ w.
+      ⊎-elim (λ n. let six : clusterFault c 1 ≡ 6 = simp (lt-ltb mostNodes (c .count) n) in
+      order-nodes w n ∙ sym (check.order-cluster c cells 1 w (λ z. omega (arith, six, z)) ∙ ap (λ (k : ℕ). fault k 0) six)) (λ f.
+      order-check w f (few-enough h l))
       (lt-or-ge mostNodes (c .count)))
       (lt-or-ge (length cells) layoutCells)

@@ -1,35 +1,35 @@
 -- What is found is the worst set of the terms, and what is owed.
 -- Assumes nothing.
-use Prim.Native.Nat.{ℕ, _-_, _≤_, _<_}
-use mathlib.Core.Path.{_≡_, refl, sym, ap, ap₂, _∙_, subst}
-use mathlib.Core.List.{List, [], _∷_, _++_}
+use Prim.Native.Nat.{ℕ, _-_, _≤_}
+use mathlib.Core.Path.{_≡_, sym, ap, ap₂, _∙_, subst}
+use mathlib.Core.Bool.{true≢false}
+use mathlib.Core.List.{List, [], _++_}
+use mathlib.Core.Logic.{⊎-elim}
 use native.Mathlib.Omega.{arith}
-use lib.Dec.{eqb}
-use lib.ListN.{length, take, drop, getD, replicate, length-append, length-replicate}
-use lib.Seq.{ext-getD, take-at}
-use borrow.Author.Tests.{eq-eqb, ne-eqb, le-leb}
+use lib.ListN.{length, getD, replicate, length-append, length-replicate}
+use lib.Seq.{ext-getD}
+use borrow.Author.Tests.{eq-eqb, ne-eqb}
 use Rattle.sums.specs.TermsSums.{tab}
+use Rattle.sums.proofs.Sum.{eq-or-ne}
 use Rattle.sets.specs.ModelBits.{bit, belowOf}
 use Rattle.cells.proofs.Cells.{length-tab, getD-tab}
-use Rattle.cluster.specs.Terms.{bufferRows, topology, partitions, row, mem, idsOf, Layout, rowAt, idsIn, rowsIn}
+use Rattle.cluster.specs.Terms.{mostNodes, topology, idsIn}
 use Rattle.cluster.specs.declared.Cluster.{Cluster}
-use Rattle.cluster.specs.declared.Node.{Node}
+use Rattle.cluster.proofs.Accepting.{few-nodes, nodes-count}
 use Rattle.cell_rows.proofs.CellRows.{getD-zeros, rising-ids}
-use Rattle.cell_rows.proofs.CellLayouts.{row-rowsIn}
-use Rattle.cell_rows.proofs.RowScans.{row-of-buffer}
 use Rattle.incidence.specs.ModelIncidence.{idsWhere}
 use Rattle.incidence.proofs.TieRows.{length-ids}
-use Rattle.masks.specs.ModelMasks.{rowMask, masksRead}
-use Rattle.masks.proofs.Laws.{mask-bits}
-use Rattle.layouts.specs.TermsCheck.{checkOf}
-use Rattle.loss.specs.TermsLoss.{mostLost, lossOf, Chosen, IsWorst, worstSet}
+use Rattle.layouts.specs.TermsCheck.{fault, checkOf}
+use Rattle.layouts.specs.declared.check.Checked.{Checked}
+use Rattle.layouts.proofs.CheckMeaning.{passed-valid, valid-passed}
+use Rattle.loss.specs.TermsLoss.{mostLost, lossOf, IsWorst, worstSet}
 use Rattle.loss.proofs.Costliest.{worst-is}
 use Rattle.loss.specs.ModelSearch.{costing, lostRows, searched}
 use Rattle.loss.specs.declared.search.Found.{Found}
 use Rattle.loss.proofs.Finds.{finds-worst}
-use Rattle.loss.specs.TermsLossAnswer.{lossFault, layoutIn, worstIn, loss, worstLoss, lostWith, givenLoss}
+use Rattle.loss.specs.TermsLossAnswer.{lossFault, layoutIn, worstIn, loss, worstLoss, LossOwed, lostWith, givenLoss}
 use Rattle.loss.specs.declared.worst.Loss.{Loss}
-use Rattle.loss.proofs.LossOrder.{all-pass}
+use Rattle.loss.proofs.LossOrder.{all-pass, few-enough, in-range}
 use Rattle.loss.proofs.RowsLost.{own-ids}
 use Rattle.loss.proofs.Passed.{setRows, cluster-accepted, loss-same}
 
@@ -66,29 +66,62 @@ module _ (c : Cluster) (cells : List ℕ) (number : ℕ) where
     unfolding worstIn
     is-worst = worst-is (topology c) (layoutIn c cells) number (cluster-accepted c cells passed .ids) (omega (arith, length-ids (topology c .nodes)))
 
-    -- The answer.
-    pub answered : (lost : ℕ) (nodes : List ℕ) (set : ℕ) → lost ≡ lossOf (layoutIn c cells) (worstIn c cells number)
-        → nodes ≡ tab (λ j. getD (idsWhere (topology c .nodes) (bit set)) j 0) mostLost → idsWhere (topology c .nodes) (bit set) ≡ worstIn c cells number
-        → (record { refusal = 0; place = 0; lost = lost; nodes = nodes } ≡ worstLoss c cells number)
-        × IsWorst (topology c) (layoutIn c cells) number lost (idsIn nodes)
-    unfolding worstLoss
-    answered lost nodes set l n s =
-        let X = worstIn c cells number in
-        let few : length X ≤ mostLost = omega (arith, is-worst .chosen .many, all-pass c cells number e .1) in
-        let shown : nodes ≡ X ++ replicate (mostLost - length X) 0 = n ∙ (ap (λ (Y : List ℕ). tab (λ j. getD Y j 0) mostLost) s ∙ padded X few) in
-        let back : X ≡ idsIn nodes = sym (ap idsIn shown ∙ rising-ids 0 (mostLost - length X) X (is-worst .chosen .ids)) in (
-          ap₂ (λ (x : ℕ) (y : List ℕ). answer x y) l shown ∙ sym (simp (eq-eqb (lossFault c cells number .refusal) 0 e)),
-          subst (λ (x : ℕ). IsWorst (topology c) (layoutIn c cells) number x (idsIn nodes)) (sym l)
-              (subst (IsWorst (topology c) (layoutIn c cells) number (lossOf (layoutIn c cells) X)) back is-worst),
-        )
-      where
-        answer : ℕ → List ℕ → Loss
-        answer x y = record { refusal = 0; place = 0; lost = x; nodes = y }
+  -- The answer, and a refusal.
+  pub answered : lossFault c cells number .refusal ≡ 0 → worstLoss c cells number ≡ loss 0 0 (lossOf (layoutIn c cells) (worstIn c cells number)) (worstIn c cells number)
+  unfolding worstLoss
+  answered e = simp (eq-eqb (lossFault c cells number .refusal) 0 e)
 
-  -- A refusal.
   pub refused : (lossFault c cells number .refusal ≡ 0 → ⊥) → worstLoss c cells number ≡ loss (lossFault c cells number .refusal) (lossFault c cells number .place) 0 []
   unfolding worstLoss
   refused h = simp (ne-eqb (lossFault c cells number .refusal) 0 h)
+
+  -- Its refusal is that of the first fault, and so is its place, which is 0 where there is none.
+  told : fault (worstLoss c cells number .refusal) (worstLoss c cells number .place) ≡ lossFault c cells number
+  told =
+      ⊎-elim
+      (λ e. let w = all-pass c cells number e in
+      ap (λ (r : Loss). fault (r .refusal) (r .place)) (answered e)
+      ∙ sym (in-range c cells number (w .1) (w .2) ∙ valid-passed c cells 1 (passed-valid c cells 1 (w .0))))
+      (λ d. ap (λ (r : Loss). fault (r .refusal) (r .place)) (refused d))
+      (eq-or-ne (lossFault c cells number .refusal) 0)
+
+  module _ (long : length (c .nodes) ≡ mostNodes) where
+    -- There are as many nodes as are asked for.
+    pub fits : lossFault c cells number .refusal ≡ 0 → number ≤ length (topology c .nodes)
+    fits e =
+        let w = all-pass c cells number e in
+        omega (arith, w .2, nodes-count c long (few-nodes c (passed-valid c cells 1 (w .0) .accepted-cluster)))
+
+    -- All that is owed.
+    pub loss-owed : LossOwed c cells number (worstLoss c cells number)
+    loss-owed = record {
+      refuses = λ h l. told ∙ in-range c cells number h l;
+      over = λ t z. let w = all-pass c cells number (none z) in absurd (true≢false (sym t ∙ few-enough c cells number (w .1) (w .2)));
+      worst = λ z.
+          let e = none z in
+          let X = worstIn c cells number in
+          let w = is-worst e (fits e) in
+          let few : length X ≤ mostLost = omega (arith, w .chosen .many, all-pass c cells number e .1) in
+          let back : X ≡ idsIn (X ++ replicate (mostLost - length X) 0) = sym (rising-ids 0 (mostLost - length X) X (w .chosen .ids)) in
+          subst (λ (r : Loss). IsWorst (topology c) (layoutIn c cells) number (r .lost) (idsIn (r .nodes))) (sym (answered e))
+          (subst (IsWorst (topology c) (layoutIn c cells) number (lossOf (layoutIn c cells) X)) back w);
+    }
+      where
+        none : worstLoss c cells number .refusal ≡ 0 → lossFault c cells number .refusal ≡ 0
+        none z = sym (ap (λ (k : Checked). k .refusal) told) ∙ z
+
+  -- The nodes found, as they are shown.
+  pub nodes-shown : (number ≤ length (topology c .nodes)) → lossFault c cells number .refusal ≡ 0 → (lost : ℕ) (nodes : List ℕ) (set : ℕ)
+      → lost ≡ lossOf (layoutIn c cells) (worstIn c cells number)
+      → nodes ≡ tab (λ j. getD (idsWhere (topology c .nodes) (bit set)) j 0) mostLost → idsWhere (topology c .nodes) (bit set) ≡ worstIn c cells number
+      → record { refusal = 0; place = 0; lost = lost; nodes = nodes } ≡ worstLoss c cells number
+  nodes-shown fit e lost nodes set l n s =
+      let X = worstIn c cells number in
+      let few : length X ≤ mostLost = omega (arith, is-worst e fit .chosen .many, all-pass c cells number e .1) in
+      ap₂ (λ (x : ℕ) (y : List ℕ). answer x y) l (n ∙ (ap (λ (Y : List ℕ). tab (λ j. getD Y j 0) mostLost) s ∙ padded X few)) ∙ sym (answered e)
+    where
+      answer : ℕ → List ℕ → Loss
+      answer x y = record { refusal = 0; place = 0; lost = x; nodes = y }
 
 -- Of given nodes: the answer, and a refusal.
 module _ (c : Cluster) (cells given : List ℕ) where

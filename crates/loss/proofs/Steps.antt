@@ -5,13 +5,12 @@ use mathlib.Core.Path.{_≡_, refl, sym, ap, _∙_}
 use mathlib.Core.List.{List}
 use native.Mathlib.Omega.{arith}
 use native.Mathlib.Numerals.{add-one}
-use lib.Dec.{eqb}
-use lib.ListN.{length, getD}
+use lib.ListN.{getD}
 use borrow.Author.Tests.{eq-eqb, ne-eqb}
 use Rattle.sums.specs.TermsSums.{sumTo, one-if}
 use Rattle.sums.proofs.Sum.{sum-next}
 use Rattle.sets.specs.ModelBits.{withOf, differenceOf}
-use Rattle.loss.specs.ModelSearch.{rowLost, lostRows, keptOf, searched}
+use Rattle.loss.specs.ModelSearch.{rowLost, keptOf, searched}
 use Rattle.loss.specs.declared.search.Found.{Found}
 
 -- ---- counting

@@ -1,15 +1,16 @@
 -- What is answered of losses (2026-08): the refusals in their order, the number of partitions, and for the worst loss the nodes.
 -- Assumes nothing.
-use Prim.Native.Nat.{ℕ, _-_}
-use mathlib.Core.Bool.{Bool, _||_, cond}
+use Prim.Native.Nat.{ℕ, _-_, _≤_}
+use mathlib.Core.Path.{_≡_}
+use mathlib.Core.Bool.{Bool, true, _||_, cond}
 use mathlib.Core.List.{List, [], _++_}
 use lib.Dec.{ltb, eqb}
 use lib.ListN.{length, replicate}
-use Rattle.cluster.specs.Terms.{mostNodes, layoutCells, topology, partitions, Layout, rowsIn}
+use Rattle.cluster.specs.Terms.{mostNodes, layoutCells, topology, partitions, Layout, idsIn, rowsIn}
 use Rattle.cluster.specs.declared.Cluster.{Cluster}
 use Rattle.layouts.specs.declared.check.Checked.{Checked}
 use Rattle.layouts.specs.TermsCheck.{fault, checkOf}
-use Rattle.loss.specs.TermsLoss.{mostLost, lossOf, worstSet}
+use Rattle.loss.specs.TermsLoss.{mostLost, lossOf, IsWorst, worstSet}
 use Rattle.loss.specs.declared.given.Lost.{Lost}
 use Rattle.loss.specs.declared.worst.Loss.{Loss}
 
@@ -44,6 +45,15 @@ worstLoss c assignment number =
     let f = lossFault c assignment number in
     let X = worstIn c assignment number in
     cond (eqb (f .refusal) 0) (loss 0 0 (lossOf (layoutIn c assignment) X) X) (loss (f .refusal) (f .place) 0 [])
+
+-- What a caller can build on.
+pub record LossOwed (c : Cluster) (assignment : List ℕ) (number : ℕ) (r : Loss) : Type 0 where
+  -- "It refuses what check refuses at size 1": of a number in its range refusal and place are those of check;
+  pub refuses : number ≤ mostLost → number ≤ c .count → fault (r .refusal) (r .place) ≡ checkOf c assignment 1
+  -- any other number is refused.
+  pub over : tooMany c number ≡ true → r .refusal ≡ 0 → ⊥
+  -- The answer is the most, and its nodes are the first that cost so many.
+  pub worst : r .refusal ≡ 0 → IsWorst (topology c) (layoutIn c assignment) number (r .lost) (idsIn (r .nodes))
 
 -- ---- of given nodes
 

@@ -3,10 +3,10 @@ ghost use mathlib.Core.Path.{_≡_};
 ghost use lib.ListN.{getD};
 ghost use Rattle.sums.specs.TermsSums.{tab};
 ghost use Rattle.sets.specs.ModelBits.{bit};
-ghost use Rattle.cluster.specs.Terms.{topology, idsIn};
+ghost use Rattle.cluster.specs.Terms.{topology};
 ghost use Rattle.incidence.specs.ModelIncidence.{idsWhere};
-ghost use Rattle.loss.specs.TermsLoss.{mostLost, lossOf, IsWorst};
-ghost use Rattle.loss.specs.TermsLossAnswer.{layoutIn, lossFault, worstIn, worstLoss};
+ghost use Rattle.loss.specs.TermsLoss.{mostLost, lossOf};
+ghost use Rattle.loss.specs.TermsLossAnswer.{layoutIn, lossFault, worstIn, worstLoss, LossOwed};
 use super::search;
 use super::search::Found;
 use cluster::Cluster;
@@ -92,8 +92,7 @@ fn worst_of(c: Cluster, assignment: &[u32], number: u32) -> Found
 
 // The worst loss of so many nodes.
 pub fn worst_loss(c: Cluster, assignment: &[u32], number: u32) -> Loss
-    ensures { λ r. ⌜ (r ≡ worstLoss c (now (assignment .entry)) number)
-        × (r .refusal ≡ 0 → IsWorst (topology c) (layoutIn c (now (assignment .entry))) number (r .lost) (idsIn (r .nodes))) ⌝ }
+    ensures { λ r. ⌜ (r ≡ worstLoss c (now (assignment .entry)) number) × LossOwed c (now (assignment .entry)) number r ⌝ }
 {
     let fault = fault(c, assignment, number);
     if fault.refusal != 0 {

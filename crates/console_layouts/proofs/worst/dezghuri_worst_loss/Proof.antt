@@ -1,7 +1,7 @@
 -- `console_layouts::worst::dezghuri_worst_loss` meets its contract.
 -- Assumes nothing.
 use native.Mathlib.Omega.{arith}
-use mathlib.Core.Path.{_≡_, sym, ap, _∙_, subst}
+use mathlib.Core.Path.{_≡_, ap, _∙_, subst}
 use mathlib.Core.List.{_++_}
 use lib.ListN.{drop}
 use Rattle.cluster.specs.Terms.{topology, idsIn}

@@ -1,9 +1,8 @@
 -- `loss::given::loss_of` meets its contract.
 -- Assumes nothing.
 use borrow.Author.Needs.{needs}
-use mathlib.Core.Path.{_≡_, sym, ap, _∙_}
+use mathlib.Core.Path.{sym, ap, _∙_}
 use Rattle.layouts.specs.declared.check.Checked.{Checked}
-use Rattle.layouts.specs.TermsCheck.{checkOf}
 use Rattle.loss.specs.TermsLossAnswer.{lostWith}
 use Rattle.loss.proofs.Owed.{given-answered, given-refused}
 use Rattle.loss.proofs.given.loss_of.Statement.{statement}

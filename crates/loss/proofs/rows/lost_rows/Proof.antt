@@ -11,9 +11,6 @@ use Rattle.loss.specs.ModelSearch.{rowLost, lostRows}
 use Rattle.loss.proofs.Steps.{row-lost, row-held}
 use Rattle.loss.proofs.rows.lost_rows.Statement.{statement}
 use Rattle.loss.proofs.rows.lost_rows.Tie as tie
-use Rattle.loss.proofs.rows.lost_rows.Reads as reads
-use Rattle.loss.proofs.rows.lost_rows.Lts as lts
-use Rattle.sets.proofs.difference.Reads as difference-reads
 
 abbrev Inv-loop : tie.InvT-loop
 Inv-loop rows set lost₀ p₀ lost p = (p ≤ length rows) × (lost ≤ p) × (lost ≡ sumTo p (rowLost rows set))

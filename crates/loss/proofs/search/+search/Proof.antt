@@ -1,8 +1,7 @@
 -- `loss::search::search` meets its contract.
 -- Assumes nothing.
 use Prim.Native.Nat.{ℕ, _+_, _-_, _≤_, _<_}
-use mathlib.Core.Path.{_≡_, refl, sym, ap, _∙_}
-use native.Mathlib.Omega.{arith}
+use mathlib.Core.Path.{_≡_, sym, ap, _∙_}
 use borrow.Author.Needs.{needs}
 use Rattle.loss.specs.ModelSearch.{searched}
 use Rattle.loss.proofs.Steps.{none-left, too-few, one-more}

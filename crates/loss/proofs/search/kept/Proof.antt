@@ -5,9 +5,6 @@ use borrow.Author.Tests.{lt-ltb, le-ltb}
 use Rattle.loss.specs.ModelSearch.{costing, keptOf}
 use Rattle.loss.proofs.search.kept.Statement.{statement}
 use Rattle.loss.proofs.search.kept.Tie as tie
-use Rattle.loss.proofs.search.kept.Reads as reads
-use Rattle.loss.proofs.search.kept.Lts as lts
-use Rattle.loss.proofs.rows.lost_rows.Reads as lost-rows-reads
 
 lost-rows-requires : tie.Need-lost-rows-requires
 lost-rows-requires c κs = search needs

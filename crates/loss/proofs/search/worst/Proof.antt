@@ -8,11 +8,6 @@ use Rattle.loss.specs.declared.search.Found.{Found}
 use Rattle.loss.specs.ModelSearch.{found, costing, searched}
 use Rattle.loss.proofs.search.worst.Statement.{statement}
 use Rattle.loss.proofs.search.worst.Tie as tie
-use Rattle.loss.proofs.search.worst.Reads as reads
-use Rattle.loss.proofs.search.worst.Lts as lts
-use Rattle.loss.proofs.rows.lost_rows.Reads as lost-rows-reads
-use Rattle.loss.proofs.search.search.Reads as search-reads
-use Rattle.sets.proofs.below.Reads as below-reads
 
 below-requires : tie.Need-below-requires
 below-requires c κs = search needs

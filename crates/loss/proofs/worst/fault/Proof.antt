@@ -6,9 +6,6 @@ use mathlib.Core.Path.{sym, _∙_}
 use Rattle.loss.proofs.LossOrder.{order-short, order-nodes, order-number, order-check, over-most, over-count, few-enough}
 use Rattle.loss.proofs.worst.fault.Statement.{statement}
 use Rattle.loss.proofs.worst.fault.Tie as tie
-use Rattle.loss.proofs.worst.fault.Reads as reads
-use Rattle.loss.proofs.worst.fault.Lts as lts
-use Rattle.layouts.proofs.check.check.Reads as check-reads
 
 returns : tie.Need-returns
 returns c = let a = c .before .before .args in sym (order-short (a .c) (a .assignment .now) (a .number) (omega arith))

@@ -2,7 +2,7 @@
 -- Assumes nothing.
 use borrow.Author.Needs.{needs}
 use native.Mathlib.Omega.{arith}
-use Prim.Native.Nat.{ℕ, _≤_, _+_, _-_}
+use Prim.Native.Nat.{ℕ, _≤_, _-_}
 use mathlib.Core.Path.{_≡_, refl, sym, ap, ap₂, _∙_}
 use mathlib.Core.List.{List, [], _∷_, _++_, append-nil}
 use mathlib.Core.Logic.{⊎-elim}
@@ -18,12 +18,6 @@ use Rattle.masks.proofs.Where.{past-id, id-cell, where-next, where-others}
 use Rattle.loss.specs.TermsLoss.{mostLost}
 use Rattle.loss.proofs.worst.ids_of_set.Statement.{statement}
 use Rattle.loss.proofs.worst.ids_of_set.Tie as tie
-use Rattle.loss.proofs.worst.ids_of_set.Reads as reads
-use Rattle.loss.proofs.worst.ids_of_set.Lts as lts
-use Rattle.incidence.proofs.zones.used.Reads as used-reads
-use Rattle.masks.proofs.ids_of.Reads as ids-of-reads
-use Rattle.sets.proofs.least.Reads as least-reads
-use Rattle.sets.proofs.rest.Reads as rest-reads
 
 abbrev Inv-loop : tie.InvT-loop
 Inv-loop set n ids nodes₀ rest₀ j₀ nodes rest j =

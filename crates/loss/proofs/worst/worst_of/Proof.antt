@@ -2,7 +2,7 @@
 -- Assumes nothing.
 use borrow.Author.Needs.{needs}
 use native.Mathlib.Omega.{arith}
-use Prim.Native.Nat.{ℕ, _≤_}
+use Prim.Native.Nat.{ℕ}
 use mathlib.Core.Path.{_≡_, sym, ap, ap₂, _∙_}
 use mathlib.Core.List.{List}
 use lib.ListN.{length, take}
@@ -10,21 +10,14 @@ use Rattle.sums.specs.TermsSums.{tab}
 use Rattle.sets.specs.ModelBits.{belowOf}
 use Rattle.cells.proofs.Cells.{length-tab, length-of-map}
 use Rattle.cluster.specs.Terms.{mostNodes, topology, partitions}
-use Rattle.cluster.proofs.Accepting.{few-nodes, nodes-count, partitions-in-range}
-use Rattle.layouts.proofs.CheckMeaning.{passed-valid}
+use Rattle.cluster.proofs.Accepting.{partitions-in-range}
 use Rattle.masks.specs.ModelMasks.{rowMask}
 use Rattle.loss.specs.ModelSearch.{costing, searched}
 use Rattle.loss.proofs.LossOrder.{all-pass}
 use Rattle.loss.proofs.Passed.{masks-first, cluster-accepted}
-use Rattle.loss.proofs.Owed.{found-worst}
+use Rattle.loss.proofs.Owed.{fits, found-worst}
 use Rattle.loss.proofs.worst.worst_of.Statement.{statement}
 use Rattle.loss.proofs.worst.worst_of.Tie as tie
-use Rattle.loss.proofs.worst.worst_of.Reads as reads
-use Rattle.loss.proofs.worst.worst_of.Lts as lts
-use Rattle.cluster.proofs.partitions.Reads as partitions-reads
-use Rattle.incidence.proofs.zones.used.Reads as used-reads
-use Rattle.loss.proofs.search.worst.Reads as worst-reads
-use Rattle.masks.proofs.read_masks.Reads as read-masks-reads
 
 partitions-requires : tie.Need-partitions-requires
 partitions-requires c κs = search needs
@@ -43,13 +36,6 @@ array-share-prefix-rows c = search needs
 
 long : (s : tie.Start) → length (s .args .c .nodes) ≡ mostNodes
 long s = search length-of-map
-
--- There are as many nodes as are asked for.
-fits : (s : tie.Start) → s .args .number ≤ length (topology (s .args .c) .nodes)
-fits s =
-    let a = s .args in
-    let w = all-pass (a .c) (a .assignment .now) (a .number) (s .pre) in
-    omega (arith, w .2, nodes-count (a .c) (long s) (few-nodes (a .c) (passed-valid (a .c) (a .assignment .now) 1 (w .0) .accepted-cluster)))
 
 -- The rows that are searched are the masks of the partitions.
 cut : (c : tie.After-rows3) → let s = c .before .before .before .before .before .before .before in
@@ -85,7 +71,7 @@ returns c =
     let u = k .before .before .before .before .used in
     let rows : take (p .result) (k .before .before .read-masks .last .1 .1 .1 .0) ≡ tab (λ q. rowMask (t .nodes) (a .assignment .now) q) (partitions t) =
     cut k ∙ ap (λ (n : ℕ). tab (λ q. rowMask (t .nodes) (a .assignment .now) q) n) (p .ensures .0 ∙ partitions-in-range (a .c .bits) (ok .bits)) in
-    found-worst (a .c) (a .assignment .now) (a .number) e (fits s) (c .worst .result)
+    found-worst (a .c) (a .assignment .now) (a .number) e (fits (a .c) (a .assignment .now) (a .number) (long s) e) (c .worst .result)
     (c .worst .ensures
     ∙ ap₂ (λ (r : List ℕ) (n : ℕ). searched r (a .number) 0 n 0 (costing r (belowOf (a .number)))) rows (u .ensures .0))
 
