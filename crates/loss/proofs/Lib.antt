@@ -6,5 +6,6 @@ pub mod Finds
 pub mod LossOrder
 pub mod RowsLost
 pub mod Passed
+pub mod Safe
 pub mod Owed
 pub mod Among

@@ -31,7 +31,8 @@ use Rattle.loss.specs.TermsLossAnswer.{lossFault, layoutIn, worstIn, los
 use Rattle.loss.specs.declared.worst.Loss.{Loss}
 use Rattle.loss.proofs.LossOrder.{all-pass, few-enough, in-range}
 use Rattle.loss.proofs.RowsLost.{own-ids}
-use Rattle.loss.proofs.Passed.{setRows, cluster-accepted, loss-same}
+use Rattle.loss.proofs.Passed.{setRows, cluster-accepted, layout-valid, loss-same}
+use Rattle.loss.proofs.Safe.{few-safe}
 
 -- Nodes, then zeros, in as many cells as can be asked for.
 padded : (X : List ℕ) → length X ≤ mostLost → tab (λ j. getD X j 0) mostLost ≡ X ++ replicate (mostLost - length X) 0
@@ -76,7 +77,7 @@ module _ (c : Cluster) (cells : List ℕ) (number : ℕ) where
   refused h = simp (ne-eqb (lossFault c cells number .refusal) 0 h)
 
   -- Its refusal is that of the first fault, and so is its place, which is 0 where there is none.
-  told : fault (worstLoss c cells number .refusal) (worstLoss c cells number .place) ≡ lossFault c cells number
+  pub told : fault (worstLoss c cells number .refusal) (worstLoss c cells number .place) ≡ lossFault c cells number
   told =
       ⊎-elim
       (λ e. let w = all-pass c cells number e in
@@ -105,6 +106,11 @@ module _ (c : Cluster) (cells : List ℕ) (number : ℕ) where
           let back : X ≡ idsIn (X ++ replicate (mostLost - length X) 0) = sym (rising-ids 0 (mostLost - length X) X (w .chosen .ids)) in
           subst (λ (r : Loss). IsWorst (topology c) (layoutIn c cells) number (r .lost) (idsIn (r .nodes))) (sym (answered e))
           (subst (IsWorst (topology c) (layoutIn c cells) number (lossOf (layoutIn c cells) X)) back w);
+      safe = λ h. ⊎-elim
+          (λ e. let w = is-worst e (fits e) .chosen in
+          ap (λ (r : Loss). r .lost) (answered e)
+          ∙ few-safe (topology c) (layoutIn c cells) 1 (layout-valid c cells (all-pass c cells number e .0)) (worstIn c cells number) (w .ids) (omega (arith, w .many)))
+          (λ d. ap (λ (r : Loss). r .lost) (refused d)) (eq-or-ne (lossFault c cells number .refusal) 0);
     }
       where
         none : worstLoss c cells number .refusal ≡ 0 → lossFault c cells number .refusal ≡ 0

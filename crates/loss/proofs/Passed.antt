@@ -41,8 +41,8 @@ module _ (c : Cluster) (cells : List ℕ) (e : checkOf c cells 1 .refusal ≡ 0)
   pub cluster-accepted : Accepted (topology c)
   cluster-accepted = accepted c (passed-valid c cells 1 e .accepted-cluster)
 
-  valid : ValidAt (topology c) (layoutIn c cells) 1
-  valid =
+  pub layout-valid : ValidAt (topology c) (layoutIn c cells) 1
+  layout-valid =
       let h = passed-valid c cells 1 e in
       subst (λ (L : Layout). ValidAt (topology c) L 1) (check-layout c cells 1 h) (h .valid)
 
@@ -52,4 +52,4 @@ module _ (c : Cluster) (cells : List ℕ) (e : checkOf c cells 1 .refusal ≡ 0)
       let h = check-holds c cells 1 (passed-valid c cells 1 e) in
       rows-same (topology c .nodes) (a .few) (a .ids) cells (partitions (topology c))
       (λ p l. mask-bits (topology c .nodes) cells p (a .ids) (row-of-buffer cells p (h .whole) (omega (arith, h .few-rows))) (h .ids p l))
-      (λ p l i m. valid .rows p l .known i (ap (mem i) (row-rowsIn (partitions (topology c)) cells p l) ∙ m))
+      (λ p l i m. layout-valid .rows p l .known i (ap (mem i) (row-rowsIn (partitions (topology c)) cells p l) ∙ m))

@@ -1,6 +1,6 @@
 -- What is answered of losses (2026-08): the refusals in their order, the number of partitions, and for the worst loss the nodes.
 -- Assumes nothing.
-use Prim.Native.Nat.{ℕ, _-_, _≤_}
+use Prim.Native.Nat.{ℕ, _-_, _≤_, _<_}
 use mathlib.Core.Path.{_≡_}
 use mathlib.Core.Bool.{Bool, true, _||_, cond}
 use mathlib.Core.List.{List, [], _++_}
@@ -54,6 +54,8 @@ pub record LossOwed (c : Cluster) (assignment : List ℕ) (number : ℕ) (r : Lo
   pub over : tooMany c number ≡ true → r .refusal ≡ 0 → ⊥
   -- The answer is the most, and its nodes are the first that cost so many.
   pub worst : r .refusal ≡ 0 → IsWorst (topology c) (layoutIn c assignment) number (r .lost) (idsIn (r .nodes))
+  -- Fewer nodes than there are copies of a partition cost nothing.
+  pub safe : number < c .replication → r .lost ≡ 0
 
 -- ---- of given nodes
 

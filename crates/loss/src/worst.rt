@@ -64,17 +64,9 @@ fn ids_of_set(c: Cluster, set: u32) -> [u32; MOST]
 {
     let n = zones::used(c);
     let ids = masks::ids_of(c);
-    let mut nodes = [0u32; MOST];
-    let mut rest = set;
-    let mut j = 0;
-    while j < MOST {
-        let b = sets::least(rest) as usize;
-        let id = if b < n { ids[b] } else { 0 };
-        nodes[j] = id;
-        rest = sets::rest(rest);
-        j += 1;
-    }
-    nodes
+    let mut row = [0u32; Cluster::ROW];
+    mask_cells::write_row(&ids, n, set, &mut row, 0);
+    [row[0], row[1], row[2], row[3]]
 }
 
 // The worst set of so many nodes, with what it costs. The rows past the partitions are no rows of the layout: as sets they would be empty, and lost.

@@ -36,7 +36,7 @@ fn blank_row(cells: &mut [u32], from: usize)
 }
 
 // The ids of the first eight nodes of the mask, of the n whose ids are given, then zeros, into the row that starts at cell `from`.
-fn write_row(ids: &[u32], n: usize, mask: u32, cells: &mut [u32], from: usize)
+pub fn write_row(ids: &[u32], n: usize, mask: u32, cells: &mut [u32], from: usize)
     requires { ⌜ (n ≤ mostNodes) × (n ≤ length (now ids)) × (from + rowCells ≤ length (now cells)) ⌝ }
     ensures { λ _. ⌜ ((ns : List Node) → n ≡ length ns → now (ids .entry) ≡ idCells ns
         → now (cells .exit) ≡ put from (λ j. getD (idsWhere ns (bit mask)) j 0) rowCells (now (cells .entry))) ⌝ }

@@ -1,5 +1,6 @@
 -- The operations fit together, of the definitions that the contracts of `plan`, `check`, `write_layout`, `read_layout` and `list` cite: what planning
--- answers passes check, can be written, reads back as it was, asks for moves that can be interrupted, is certified where it is finished, and planned again it stays.
+-- answers passes check, can be written, reads back as it was, asks for moves that can be interrupted, is certified where it is finished, can be asked for
+-- what lost nodes cost, and planned again it stays.
 -- Assumes nothing.
 use Prim.Native.Nat.{ℕ, _+_, _*_, _^_, _≤_, _<_}
 use mathlib.Core.Path.{_≡_, refl, sym, ap, ap₂, _∙_, subst}
@@ -39,12 +40,16 @@ use Rattle.layout_record.specs.RecordLayoutAnswer.{readLayoutOf, assignmentRead
 use Rattle.layout_record.specs.RecordLayoutClaims.{ReadsLayout, WritesLayout}
 use Rattle.layout_record.proofs.RecordLaws.{length-record}
 use Rattle.layout_record.proofs.Exact.{writes-layout, reads-record}
+use Rattle.loss.specs.TermsLoss.{mostLost, lossOf}
+use Rattle.loss.specs.TermsLossAnswer.{worstLoss, lostWith, givenLoss}
+use Rattle.loss.proofs.LossOrder.{in-range as loss-in-range}
+use Rattle.loss.proofs.Owed.{told, given-answered}
 use Rattle.moves.specs.TermsMoves.{movesOf, FitsSixteen, sends}
 use Rattle.moves.proofs.WideRows.{length-wideCells, cells-formed, wide-read}
 use Rattle.moves.proofs.Promises.{sends-sent, eight-fit}
 use Rattle.move_list.specs.TermsMoveList.{formerIn, newIn}
 use Rattle.move_list.proofs.MovesOrder.{pass-all}
-use Rattle.certificate.specs.TermsCertify.{newIn as Certificate·newIn, certifiedOf, Owed as CertifyOwed}
+use Rattle.certificate.specs.TermsCertify.{certifiedOf, Owed as CertifyOwed}
 use Rattle.certificate.proofs.Owing.{pass-all as certify-pass, answer-owed}
 use Rattle.whole.specs.TermsWhole.{planNumbers, Stays, widened, PlanMoves}
 use Rattle.whole.proofs.Alike.{sent-self, sent-none}
@@ -217,7 +222,10 @@ module _ (c : Cluster) (former : List ℕ) (allowance : ℕ) (assignment scratch
           returned-checks =
               ap₂ (checkOf c) held (ap (λ (x : ReadLayout). x .numbers .size) (plan-returns .0)) ∙ laid-checks (drop layoutCells lent)
 
-    -- ---- moves
+    -- ---- at size 1
+
+    own-rows : rowsIn (partitions t) cells ≡ L
+    own-rows = ap₂ rowsIn (sym (valid .partition-rows)) laid ∙ rowsIn-written L (drop layoutCells assignment) fits
 
     at-one : ValidAt t L 1
     at-one = record {
@@ -230,6 +238,23 @@ module _ (c : Cluster) (former : List ℕ) (allowance : ℕ) (assignment scratch
           omega (arith, valid .capacities b l, larger);
       ceilings = valid .ceilings;
     }
+
+    checks-at-one : checkOf c cells 1 ≡ fault 0 0
+    checks-at-one =
+        valid-passed c cells 1
+        (record { whole = omega (arith, ap length laid, whole (drop layoutCells assignment)); accepted-cluster = call .faultless; layout = L; valid = at-one; written = taken })
+
+    -- ---- losses
+
+    -- What the loss of nodes costs the plan is always answered: at worst of so many as can be asked for, and of any given ones.
+    pub plan-loss : ((number : ℕ) → number ≤ mostLost → number ≤ c .count → worstLoss c cells number .refusal ≡ 0)
+        × ((given : List ℕ) → givenLoss c cells given ≡ lostWith 0 0 (lossOf L given))
+    plan-loss = (
+      λ number h l. ap (λ (x : Checked). x .refusal) (told c cells number ∙ (loss-in-range c cells number h l ∙ checks-at-one)),
+      λ given. sym (given-answered c cells given (ap (λ (x : Checked). x .refusal) checks-at-one) (lossOf L given) (ap (λ (x : Layout). lossOf x given) (sym own-rows))),
+    )
+
+    -- ---- moves
 
     -- The rows of the former layout, each in sixteen cells, and the layout of the plan: the moves from the one to the other.
     module _ (rest : List ℕ) where
@@ -247,32 +272,24 @@ module _ (c : Cluster) (former : List ℕ) (allowance : ℕ) (assignment scratch
           wide-read (row F) rest (partitions t) few-rows few-ids (fo .ids)
           ∙ (ap (tab (row F)) (sym (fo .partition-rows)) ∙ tab-getD F [])
 
-      new-rows : newIn c cells ≡ L
-      new-rows = ap₂ rowsIn (sym (valid .partition-rows)) laid ∙ rowsIn-written L (drop layoutCells assignment) fits
-
       -- The list is not refused, sends what planning said, and can be made afresh after every interruption.
       pub plan-moves : PlanMoves c wide cells (r .sent)
       plan-moves = record {
         accepted =
             pass-all c wide cells (omega (arith, length-append (widened c former) rest, length-wideCells (row F)))
-            (ap (λ (x : Checked). x .refusal)
-            (valid-passed c cells 1
-            (record { whole = omega (arith, ap length laid, whole (drop layoutCells assignment)); accepted-cluster = call .faultless; layout = L; valid = at-one; written = taken })))
+            (ap (λ (x : Checked). x .refusal) checks-at-one)
             (every-all (partitions t) (λ p. formed (rowOf wideRowCells wide p)) (λ p h. cells-formed (row F) rest p (omega (arith, few-rows)) (few-ids p h) (fo .ids p h)));
         sending =
-            ap₂ (λ (x y : Layout). sends (movesOf t x y)) former-rows new-rows
+            ap₂ (λ (x y : Layout). sends (movesOf t x y)) former-rows own-rows
             ∙ (sends-sent t F L few-rows (fo .partition-rows) (fo .ids) (valid .partition-rows) (valid .rows)
             ∙ (sym (rules .measured allowance) ∙ sym (ap (λ (x : Planned). x .sent) answer)));
         fits =
             subst (λ (x : Layout). FitsSixteen t x (newIn c cells)) (sym former-rows)
-            (subst (λ (x : Layout). FitsSixteen t F x) (sym new-rows)
+            (subst (λ (x : Layout). FitsSixteen t F x) (sym own-rows)
             (eight-fit t F L few-rows (fo .partition-rows) (fo .ids) (valid .partition-rows) (valid .rows) (fo .few) (acc .replication .1)));
       }
 
     -- ---- the certificate
-
-    own-rows : Certificate·newIn c cells ≡ L
-    own-rows = ap₂ rowsIn (sym (valid .partition-rows)) laid ∙ rowsIn-written L (drop layoutCells assignment) fits
 
     -- What certify owes of the plan, at the size that it answers.
     plan-owed : CertifyOwed t F L (plan .size) (certifiedOf c former cells (plan .size))
@@ -312,9 +329,6 @@ module _ (c : Cluster) (former : List ℕ) (allowance : ℕ) (assignment scratch
 
       abbrev G : Layout
       G = rowsIn (partitions t) cells
-
-      own : G ≡ L
-      own = ap₂ rowsIn (sym (valid .partition-rows)) laid ∙ rowsIn-written L (drop layoutCells assignment) fits
 
       holds : HoldsRows (partitions t) cells
       holds =
@@ -356,14 +370,14 @@ module _ (c : Cluster) (former : List ℕ) (allowance : ℕ) (assignment scratch
             omega (
               arith,
               rules-again .finished b ends .nearest L (subst (ValidAt t L) (sym (same-size b)) valid),
-              ap (sent t L) own,
+              ap (sent t L) own-rows,
               sent-self t L,
             )
 
         unmoved : planOf t G b .layout ≡ L
         unmoved =
             sent-none t (planOf t G b .layout) L (planOf t G b .size) (plan .size) (rules-again .valid b) valid
-            (ap (sent t (planOf t G b .layout)) (sym own) ∙ (sym (rules-again .measured b) ∙ nothing))
+            (ap (sent t (planOf t G b .layout)) (sym own-rows) ∙ (sym (rules-again .measured b) ∙ nothing))
 
         stays : Stays r cells (again b) lent (assignmentAfter c cells b lent (length spare))
         stays =
