@@ -102,40 +102,41 @@ impl Loss {
 
     /// What one box, two boxes and a zone cost at worst, in a sentence.
     pub fn sentence(&self, described: &Description) -> String {
-        let one = self.worst.first();
-        let one = one.expect("a valid layout lies on a box at least");
-        if u64::from(one.lost) == described.cluster.partitions() {
+        let which = |worst: &WorstLoss| labels::boxes(described, &worst.nodes);
+        let cost = |worst: &WorstLoss| short(described, worst.lost);
+        let boxes = match &self.worst[..] {
             // Whatever else is lost with it costs no more.
-            let which = labels::boxes(described, &one.nodes);
-            return format!("{which} alone costs all data.");
-        }
-        let two = self.worst.get(1);
-        let none_by_two = two.is_some_and(|two| two.lost == 0);
-        if none_by_two && self.worst_zone().is_none() {
-            return "no one box, no two and no zone cost a partition.".into();
-        }
-        let mut told = Vec::new();
-        match (none_by_two, one.lost) {
-            (true, _) => told.push("no one box and no two cost a partition".into()),
-            (false, 0) => told.push("no one box costs a partition".into()),
-            (false, _) => told.push(format!("one box costs {}", of_boxes(described, one))),
-        }
-        if let Some(two) = two.filter(|two| two.lost > 0) {
-            told.push(format!("two cost {}", of_boxes(described, two)));
-        }
-        told.push(self.worst_zone_in_words(described));
-        told.join("; ") + "."
+            [one, ..] if u64::from(one.lost) == described.cluster.partitions() => {
+                return format!("{} alone costs all data.", which(one));
+            }
+            [_, two, ..] if two.lost == 0 && self.worst_zone().is_none() => {
+                return "no one box, no two and no zone cost a partition.".into();
+            }
+            [_, two, ..] if two.lost == 0 => "no one box and no two cost a partition".into(),
+            [one, two, ..] => {
+                let one = match one.lost {
+                    0 => "no one box costs a partition".into(),
+                    _ => format!("the worst one, {}, costs {}", which(one), cost(one)),
+                };
+                let two = format!("the worst two, {}, cost {}", which(two), cost(two));
+                format!("{one}; {two}")
+            }
+            _ => unreachable!("who has one box loses all with it"),
+        };
+        format!("{boxes}; {}.", self.worst_zone_in_words(described))
     }
 
     fn worst_zone_in_words(&self, described: &Description) -> String {
         let Some(worst) = self.worst_zone() else {
             return "no zone costs one".into();
         };
+        let which = match self.zones.len() {
+            1 => "only",
+            _ => "worst",
+        };
         let zone = labels::zone(described, worst.zone);
-        match self.zones.len() {
-            1 => format!("the only zone, {zone}, costs all data"),
-            _ => format!("a zone costs {}, as {zone}", short(described, worst.lost)),
-        }
+        let cost = short(described, worst.lost);
+        format!("the {which} zone, {zone}, costs {cost}")
     }
 
     /// All numbers.
@@ -181,8 +182,129 @@ fn short(described: &Description, lost: u32) -> String {
     }
 }
 
-/// What boxes cost at worst, and which they are.
-fn of_boxes(described: &Description, worst: &WorstLoss) -> String {
-    let cost = short(described, worst.lost);
-    format!("{cost}, as {}", labels::boxes(described, &worst.nodes))
+#[cfg(test)]
+mod tests {
+    use super::*;
+
+    /// Boxes 1 to 4, two of them with a name, in these zones; 2^bits partitions.
+    fn described(bits: u8, zones: [&str; 4]) -> Description {
+        let [a, b, c, d] = zones;
+        let text = format!(
+            "copies 2\nzones 1\nbits {bits}\nbox 1 {a} 9 big tower\nbox 2 {b} 9\nbox 3 {c} 9 study\n\
+             box 4 {d} 9\n"
+        );
+        text.parse().unwrap()
+    }
+
+    /// What the first boxes cost at worst, and what each zone costs.
+    fn loss(worst: &[u32], zones: &[u32]) -> Loss {
+        let worst = worst.iter().zip(1..).map(|(lost, number)| WorstLoss {
+            lost: *lost,
+            nodes: (1..=number).collect(),
+        });
+        let zones = zones.iter().zip(0..).map(|(lost, zone)| ZoneLoss {
+            zone,
+            boxes: 2,
+            lost: *lost,
+        });
+        Loss {
+            worst: worst.collect(),
+            zones: zones.collect(),
+        }
+    }
+
+    #[test]
+    fn one_box_two_and_a_zone_are_told_in_a_sentence() {
+        let two = described(8, ["home", "home", "shop", "shop"]);
+        for (worst, zones, told) in [
+            (
+                [0, 0],
+                [0, 0],
+                "no one box, no two and no zone cost a partition.",
+            ),
+            (
+                [0, 0],
+                [0, 40],
+                "no one box and no two cost a partition; the worst zone, shop, costs 40 of 256 partitions.",
+            ),
+            (
+                [0, 103],
+                [0, 0],
+                "no one box costs a partition; the worst two, boxes 1 (big tower) and 2, cost 103 of 256 \
+                 partitions; no zone costs one.",
+            ),
+            (
+                [1, 255],
+                [7, 7],
+                "the worst one, box 1 (big tower), costs 1 of 256 partitions; the worst two, boxes 1 (big \
+                 tower) and 2, cost 255 of 256 partitions; the worst zone, home, costs 7 of 256 \
+                 partitions.",
+            ),
+            (
+                [255, 256],
+                [255, 256],
+                "the worst one, box 1 (big tower), costs 255 of 256 partitions; the worst two, boxes 1 \
+                 (big tower) and 2, cost all data; the worst zone, shop, costs all data.",
+            ),
+            (
+                [256, 256],
+                [256, 3],
+                "box 1 (big tower) alone costs all data.",
+            ),
+        ] {
+            assert_eq!(loss(&worst, &zones).sentence(&two), told);
+        }
+    }
+
+    /// Who has one zone, or one box, loses all with it.
+    #[test]
+    fn the_only_zone_and_the_only_box_are_told_plainly() {
+        let one = described(0, ["home"; 4]);
+        let told = "no one box and no two cost a partition; the only zone, home, costs all data.";
+        assert_eq!(loss(&[0, 0], &[1]).sentence(&one), told);
+        let told = "box 1 (big tower) alone costs all data.";
+        assert_eq!(loss(&[1], &[1]).sentence(&one), told);
+    }
+
+    /// 1 / 256 is 0.39 %, 255 / 256 is 99.61 %.
+    #[test]
+    fn a_share_is_nothing_or_all_only_where_it_is() {
+        let told = |bits, lost| cost_in_words(&described(bits, ["home"; 4]), lost);
+        assert_eq!(told(8, 0), "no partition");
+        assert_eq!(told(8, 1), "1 of 256 partitions, 0.3 % of the data");
+        assert_eq!(told(8, 255), "255 of 256 partitions, 99.6 % of the data");
+        assert_eq!(told(8, 256), "256 of 256 partitions, 100.0 % of the data");
+        assert_eq!(told(0, 1), "1 of 1 partition, 100.0 % of the data");
+    }
+
+    #[test]
+    fn boxes_are_named_where_they_cost_something() {
+        let described = described(8, ["home", "home", "shop", "shop"]);
+        let lost = loss(&[0, 64, 256], &[64, 0]);
+        let lines = [
+            ["1 box", "no partition"],
+            [
+                "2 boxes",
+                "64 of 256 partitions, 25.0 % of the data: boxes 1 (big tower) and 2",
+            ],
+            [
+                "3 boxes",
+                "256 of 256 partitions, 100.0 % of the data: boxes 1 (big tower), 2 and 3 (study)",
+            ],
+        ];
+        assert_eq!(lost.box_lines(&described), lines);
+        let lines = [
+            ["home", "2", "64 of 256 partitions, 25.0 % of the data"],
+            ["shop", "2", "no partition"],
+        ];
+        assert_eq!(lost.zone_lines(&described), lines);
+    }
+
+    /// Of zones that cost as many the first is the worst.
+    #[test]
+    fn the_worst_zone_is_the_first() {
+        let worst = |zones: &[u32]| loss(&[], zones).worst_zone().map(|worst| worst.zone);
+        assert_eq!(worst(&[0, 5, 3, 5]), Some(1));
+        assert_eq!(worst(&[0, 0]), None);
+    }
 }

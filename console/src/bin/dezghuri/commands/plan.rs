@@ -113,7 +113,7 @@ impl Made<'_> {
             self.overview.size(),
             why::not_more(described, plan, upper_bound),
             why::unused(described, plan),
-            format!("Worst loss: {}\n", self.loss.sentence(described)),
+            format!("If lost: {}\n", self.loss.sentence(described)),
             match call.former {
                 Some(_) => transfers_in_words(&self.transfers),
                 None => first_transfers_in_words(&self.transfers),
