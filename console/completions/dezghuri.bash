@@ -2,7 +2,7 @@
 
 _dezghuri() {
     local word=${COMP_WORDS[COMP_CWORD]} before=${COMP_WORDS[COMP_CWORD - 1]} options=
-    local commands='plan check show diff moves certify what-if stage undo apply history report record'
+    local commands='plan check show loss diff moves certify what-if stage undo apply history report record'
     COMPREPLY=()
     if [ "$COMP_CWORD" -eq 1 ]; then
         mapfile -t COMPREPLY < <(compgen -W "$commands help --version" -- "$word")
@@ -22,7 +22,7 @@ _dezghuri() {
     fi
     case ${COMP_WORDS[1]} in
         plan) options='--staged --former --out --allowance --replace --damaged-anyway --record --json --help' ;;
-        check | diff) options='--staged --json --help' ;;
+        check | loss | diff) options='--staged --json --help' ;;
         show) options='--box --all --staged --json --help' ;;
         moves) options='--by-box --done --staged --json --help' ;;
         certify) options='--former --out --staged --json --help' ;;

@@ -5,12 +5,12 @@ function __dezghuri_in
     test (count $words) -ge 2; and contains -- $words[2] $argv
 end
 
-set -l commands plan check show diff moves certify what-if stage undo apply history report record help
+set -l commands plan check show loss diff moves certify what-if stage undo apply history report record help
 complete -c dezghuri -n "not __dezghuri_in $commands" -f -a "$commands"
 complete -c dezghuri -n "not __dezghuri_in $commands" -l version -d 'tell the version'
 complete -c dezghuri -n '__dezghuri_in help' -f -a "$commands"
 complete -c dezghuri -n '__dezghuri_in stage; and test (count (commandline -opc)) -eq 3' -f -a 'add remove resize show'
-complete -c dezghuri -n '__dezghuri_in plan check show diff moves certify report' -l staged -d 'with all staged changes made'
+complete -c dezghuri -n '__dezghuri_in plan check show loss diff moves certify report' -l staged -d 'with all staged changes made'
 complete -c dezghuri -n '__dezghuri_in plan certify what-if report record' -l former -r -d 'the layout to start from'
 complete -c dezghuri -n '__dezghuri_in plan certify report record' -l out -r -d 'where it goes'
 complete -c dezghuri -n '__dezghuri_in plan' -l allowance -x -d 'improvements at most'
@@ -26,5 +26,5 @@ complete -c dezghuri -n '__dezghuri_in what-if' -l remove -x -d 'a box less: its
 complete -c dezghuri -n '__dezghuri_in what-if' -l resize -x -d 'another disk: id=capacity'
 complete -c dezghuri -n '__dezghuri_in what-if' -l ceiling -x -d 'another ceiling: id=number'
 complete -c dezghuri -n '__dezghuri_in stage' -l ceiling -x -d 'the most copies of a new box'
-complete -c dezghuri -n '__dezghuri_in plan check show diff moves certify what-if stage undo apply history' -l json -d 'print one JSON object'
+complete -c dezghuri -n '__dezghuri_in plan check show loss diff moves certify what-if stage undo apply history' -l json -d 'print one JSON object'
 complete -c dezghuri -n "__dezghuri_in $commands" -l help -d 'say how it is called'

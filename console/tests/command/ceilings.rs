@@ -27,7 +27,8 @@ fn done(folder: &Folder, line: &str) -> String {
 }
 
 /// All numbers are known, since the boxes take eight copies at most at 19 MB. The first row has box 1,
-/// and then the second, and box 2 is in each.
+/// and then the second, and box 2 is in each. So boxes 1 and 2 are all that two partitions have, and boxes
+/// 2 and 3, which are the shop, all that the other two have.
 #[test]
 fn a_plan_keeps_to_the_ceiling() {
     let folder = limited("plan", LIMITED);

@@ -18,7 +18,8 @@ fn two_of_three_replaced(name: &str) -> Folder {
 
 /// Of 1.7 and 1.71 TB 1,593,750 and 1,603,125 MB may be filled. At 9,375 MB they take 170 + 171 + 171 =
 /// 512 copies, all that there are; at 9,376 MB each takes one less. Box 3 can keep all 170 that it has, and the other boxes then take the 86
-/// partitions without it and half of the 170 others each; so no plan sends fewer than 342.
+/// partitions without it and half of the 170 others each; so no plan sends fewer than 342. The 86 lie on
+/// boxes 4 and 5 alone, which are the shop; with box 3 each of these has 85.
 #[test]
 fn lost_partitions_are_told_first() {
     let folder = two_of_three_replaced("lost");

@@ -8,6 +8,7 @@ mod cut_short;
 mod documents;
 mod folder;
 mod history;
+mod loss;
 mod lost;
 mod manual;
 mod moved;

@@ -10,7 +10,7 @@ use std::fs::File;
 use std::process::Command;
 
 /// Example E of the paper: both partitions lie on box 2 and have to move to box 1, whose half takes
-/// 5 MB; 14 MB for two copies let hope for 7.
+/// 5 MB; 14 MB for two copies let hope for 7. Box 1 then costs both partitions, with or without box 2.
 fn moving(name: &str) -> Folder {
     let folder = Folder::new(name);
     folder.write(
@@ -224,6 +224,7 @@ fn another_program_reads_the_objects() {
     for line in [
         "show home.txt old --json",
         "diff home.txt old new --json",
+        "loss home.txt old --json",
         "plan home.txt --former old --json",
         "plan b\u{fc}ro.txt --json",
         "plan nowhere\u{fc} --json",

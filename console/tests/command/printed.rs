@@ -63,6 +63,8 @@ fn what_is_not_printed_ends_with_status_2() {
         "check home.txt last",
         "show home.txt last",
         "show home.txt last 7",
+        "loss home.txt last",
+        "loss home.txt last --json",
         "record home.txt",
         "help",
         "--version",

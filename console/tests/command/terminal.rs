@@ -37,7 +37,7 @@ fn are_plain(folder: &Folder, calls: &[(&[&str], i32)]) {
 fn names_of_files_are_shown_with_escapes() {
     let folder = odd_names("files");
     let (file, out, none) = (NAME, &*format!("{NAME}.layout"), &*format!("{NAME}.none"));
-    let calls: [(&[&str], i32); 18] = [
+    let calls: [(&[&str], i32); 20] = [
         (&["plan", file, "--out", out], 0),
         (&["plan", file, "--former", out, "--out", out], 0),
         (&["plan", file, "--out", out], 2),
@@ -47,6 +47,8 @@ fn names_of_files_are_shown_with_escapes() {
         (&["plan", file, "--former", none], 2),
         (&["check", file, out], 0),
         (&["check", file, file], 2),
+        (&["loss", file, out], 0),
+        (&["loss", file, none], 2),
         (&["certify", file, "--former", out, out], 0),
         (&["show", file, out, "--all"], 0),
         (&["show", file, out, "7"], 2),

@@ -10,6 +10,7 @@ fn a_layout_in_the_place_of_the_file_is_told_in_one_line() {
         "check last home.txt",
         "show last home.txt",
         "show last home.txt 7",
+        "loss last home.txt",
         "plan last --former home.txt --out next",
         "record last",
     ] {

@@ -12,7 +12,7 @@ fn planned(name: &str, text: &str) -> String {
 
 /// Of 2 and 1 TB 1,875,000 and 937,500 MB may be filled. At 10,964 MB boxes 2 and 3 take 171 + 85 = 256
 /// copies, at 10,965 MB box 2 takes one less; box 4 takes none. As each partition lies in both zones,
-/// home holds all of them too.
+/// home holds all of them too: boxes 1 and 2 are all that 171 partitions have.
 #[test]
 fn a_zone_that_is_too_small_is_named() {
     let text = "copies 2\nzones 2\nbox 1 home 10T\nbox 2 shop 2T\nbox 3 shop 1T\nbox 4 shop 10G\n";

@@ -38,6 +38,10 @@ pub enum Command {
         layout: PathBuf,
         what: Shown,
     },
+    Loss {
+        source: Source,
+        layout: PathBuf,
+    },
     Diff {
         source: Source,
         old: PathBuf,
@@ -201,6 +205,7 @@ pub fn parse(words: impl IntoIterator<Item = OsString>) -> Result<Call, String> 
         "plan" => plan(words),
         "check" => check(words),
         "show" => show(words),
+        "loss" => loss(words),
         "diff" => diff(words),
         "moves" => moves(words),
         "certify" => certify(words),
@@ -273,12 +278,14 @@ fn plan(mut words: Words) -> Result<Command, String> {
 }
 
 fn check(words: Words) -> Result<Command, String> {
+    let (source, layout) = source_and_layout(words)?;
+    Ok(Command::Check { source, layout })
+}
+
+fn source_and_layout(words: Words) -> Result<(Source, PathBuf), String> {
     let staged = words.flag(STAGED);
     let [file, layout] = words.places("a FILE and a LAYOUT")?;
-    Ok(Command::Check {
-        source: source(file, staged),
-        layout: layout.into(),
-    })
+    Ok((source(file, staged), layout.into()))
 }
 
 fn show(mut words: Words) -> Result<Command, String> {
@@ -306,6 +313,11 @@ fn show(mut words: Words) -> Result<Command, String> {
         layout: layout.into(),
         what,
     })
+}
+
+fn loss(words: Words) -> Result<Command, String> {
+    let (source, layout) = source_and_layout(words)?;
+    Ok(Command::Loss { source, layout })
 }
 
 fn diff(words: Words) -> Result<Command, String> {
@@ -734,6 +746,7 @@ mod tests {
             "plan home.txt --json",
             "check --json home.txt last",
             "show home.txt last 7 --json",
+            "loss home.txt --json last",
             "diff home.txt last next --json",
             "moves home.txt last next --json",
             "certify home.txt next --json",
@@ -774,8 +787,8 @@ mod tests {
         let faults = [
             (
                 "",
-                "say what to do: plan, check, show, diff, moves, certify, what-if, stage, undo, apply, \
-                 history, report, record or help",
+                "say what to do: plan, check, show, loss, diff, moves, certify, what-if, stage, undo, \
+                 apply, history, report, record or help",
             ),
             ("plam home.txt", "there is no command \"plam\""),
             ("plan", "a FILE is wanted, not 0 words"),
@@ -784,6 +797,11 @@ mod tests {
                 "a FILE and a LAYOUT is wanted, not 1 words",
             ),
             ("check home.txt last --out x", "--out is not an option here"),
+            (
+                "loss home.txt last next",
+                "a FILE and a LAYOUT is wanted, not 3 words",
+            ),
+            ("loss home.txt last --box 3", "--box is not an option here"),
             (
                 "certify home.txt last next",
                 "a FILE and a NEW layout is wanted, not 3 words",

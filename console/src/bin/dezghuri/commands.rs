@@ -5,6 +5,7 @@ mod certify;
 mod check;
 mod diff;
 mod history;
+mod loss;
 mod moves;
 mod plan;
 mod record;
@@ -15,6 +16,7 @@ mod what_if;
 
 use crate::args::{Command, Source};
 use crate::deeds::Deed;
+use crate::explain;
 use crate::failure::Failure;
 use crate::files;
 use crate::grammar;
@@ -88,6 +90,7 @@ pub fn run(command: &Command, warnings: &mut Vec<String>) -> Result<Answer, Fail
             layout,
             what,
         } => show::run(source, layout, *what, warnings),
+        Command::Loss { source, layout } => loss::run(source, layout, warnings),
         Command::Diff { source, old, new } => diff::run(source, old, new, warnings),
         Command::Moves(call) => moves::run(call, warnings),
         Command::Certify(call) => certify::run(call, warnings),
@@ -219,6 +222,17 @@ fn start_from(described: &mut Description, file: &Path, former: &Path) -> Result
     }
     described.cluster.former = last.layout.clone();
     Ok(last)
+}
+
+/// That a layout is none of these boxes.
+fn not_valid(layout: &Path, known: &Known, plan: &Plan, refused: Refused) -> Failure {
+    let told = format!(
+        "{} is not valid for {} as it is now: {}",
+        shown(layout),
+        known.name,
+        explain::not_valid(&known.described, plan, refused)
+    );
+    Failure::Refused(told, refused)
 }
 
 /// What the papers say cannot be refused is told as it comes.

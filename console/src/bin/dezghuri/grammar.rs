@@ -93,6 +93,16 @@ pub const COMMANDS: &[Grammar] = &[
         example: "dezghuri show shop.txt shop.layout --box 3",
     },
     Grammar {
+        name: "loss",
+        calls: &[(
+            "FILE LAYOUT",
+            "tells how many partitions are lost at worst with one to four boxes, and which boxes \
+             these are; and what each zone costs that is lost whole",
+        )],
+        options: &[WITH_STAGED, AS_JSON],
+        example: "dezghuri loss shop.txt shop.layout",
+    },
+    Grammar {
         name: "diff",
         calls: &[(
             "FILE OLD NEW",

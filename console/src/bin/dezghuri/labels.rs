@@ -38,6 +38,13 @@ pub fn numbered(id: u32, name: &str) -> String {
     }
 }
 
+/// What the owner calls a zone that some box stands in.
+pub fn zone(described: &Description, zone: u16) -> &str {
+    let mut nodes = described.cluster.nodes.iter().zip(&described.labels);
+    let found = nodes.find(|(node, _)| node.zone == zone);
+    found.map_or(GONE, |(_, label)| &label.zone)
+}
+
 /// The box as an object: its id, what it is called, and whether the file has it.
 pub fn json(described: &Description, id: u32) -> Json {
     let label = described.label(id);

@@ -143,13 +143,7 @@ fn no_larger_disks(described: &Description, ids: &[u32]) -> String {
 }
 
 fn zone_names(described: &Description, zones: &[u16]) -> String {
-    let name = |zone: &u16| {
-        let mut nodes = described.cluster.nodes.iter().zip(&described.labels);
-        let (_, label) = nodes.find(|(node, _)| node.zone == *zone)?;
-        Some(label.zone.clone())
-    };
-    let names: Vec<String> = zones.iter().filter_map(name).collect();
-    listed(names.iter())
+    listed(zones.iter().map(|zone| labels::zone(described, *zone)))
 }
 
 /// A line for each box that holds nothing; but one of capacity or ceiling 0 is meant to hold nothing.

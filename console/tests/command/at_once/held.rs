@@ -24,12 +24,13 @@ const WRITING: [(&str, &str); 8] = [
     ("record shop.txt --out record", "record"),
 ];
 
-const READING: [&str; 8] = [
+const READING: [&str; 9] = [
     "stage shop.txt",
     "plan shop.txt",
     "plan shop.txt --staged --former last",
     "check shop.txt last",
     "show shop.txt last",
+    "loss shop.txt last",
     "diff shop.txt last last",
     "what-if shop.txt --remove 1",
     "record shop.txt",

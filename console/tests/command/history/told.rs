@@ -11,6 +11,7 @@ fn without_a_history_only_a_plan_says_so() {
     for line in [
         "check shop.txt last",
         "show shop.txt last",
+        "loss shop.txt last",
         "diff shop.txt last last",
         "moves shop.txt last last",
         "report shop.txt last --former last --out page",
@@ -112,6 +113,7 @@ fn a_layout_that_is_not_what_was_written_is_refused() {
     for line in [
         "check shop.txt last",
         "show shop.txt last",
+        "loss shop.txt last",
         "diff shop.txt first last",
         "moves shop.txt last.old last",
         "what-if shop.txt --former last --remove 1",

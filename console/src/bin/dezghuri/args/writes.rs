@@ -28,6 +28,7 @@ impl Command {
             | Command::PlanRecord { .. }
             | Command::Check { .. }
             | Command::Show { .. }
+            | Command::Loss { .. }
             | Command::Diff { .. }
             | Command::Moves(_)
             | Command::WhatIf { .. }

@@ -1,8 +1,7 @@
 //! `moves`: the transfers from one layout to another, one after another.
 
-use super::{describe, unforeseen, Answer, Known};
+use super::{describe, not_valid, unforeseen, Answer};
 use crate::args;
-use crate::explain;
 use crate::failure::Failure;
 use crate::files;
 use crate::history::tell_layouts;
@@ -12,7 +11,7 @@ use crate::losses;
 use crate::table::{self, Column, Side};
 use crate::terminal::shown;
 use crate::units::{count, thousands, Unit};
-use dezghuri::{Description, Held, Plan, Refused, Step, StepKind};
+use dezghuri::{Description, Held, Plan, Step, StepKind};
 use std::collections::BTreeSet;
 
 /// The steps that are left, and what the owner calls things.
@@ -44,7 +43,7 @@ pub fn run(call: &args::Moves, warnings: &mut Vec<String>) -> Result<Answer, Fai
     let cluster = &known.described.cluster;
     // At its own size and not at 1, as the proved list asks: a layout that fills a disk is none to go to.
     let checked = cluster.check(&new.layout, new.size);
-    checked.map_err(|refused| not_valid(call, &known, &new, refused))?;
+    checked.map_err(|refused| not_valid(&call.new, &known, &new, refused))?;
     let listed = Listed::new(call, &known.described, &new)?;
     let text = match (listed.left.is_empty(), call.by_box) {
         (true, _) => listed.nothing_left(),
@@ -52,17 +51,6 @@ pub fn run(call: &args::Moves, warnings: &mut Vec<String>) -> Result<Answer, Fai
         (false, false) => listed.in_order(),
     };
     Ok(Answer::with_json(text, listed.json()))
-}
-
-/// That the new layout is none of these boxes.
-fn not_valid(call: &args::Moves, known: &Known, new: &Plan, refused: Refused) -> Failure {
-    let told = format!(
-        "{} is not valid for {} as it is now: {}",
-        shown(&call.new),
-        known.name,
-        explain::not_valid(&known.described, new, refused)
-    );
-    Failure::Refused(told, refused)
 }
 
 impl<'a> Listed<'a> {

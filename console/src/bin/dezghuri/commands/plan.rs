@@ -8,6 +8,7 @@ use crate::failure::Failure;
 use crate::files;
 use crate::history::{Addition, Given, History, Planned};
 use crate::json::Json;
+use crate::loss::Loss;
 use crate::output::{Kind, Output};
 use crate::overview::{first_transfers_in_words, transfers_in_words, Overview};
 use crate::terminal::shown;
@@ -23,6 +24,8 @@ struct Made<'a> {
     plan: &'a Plan,
     overview: Overview<'a>,
     transfers: Transfers,
+    /// What the loss of boxes would cost the layout.
+    loss: Loss,
 }
 
 pub fn run(call: &args::Plan, warnings: &mut Vec<String>) -> Result<Answer, Failure> {
@@ -48,6 +51,7 @@ fn planned(
         known,
         overview: Overview::of_valid(described, &plan).map_err(unforeseen)?,
         transfers: cluster.transfers(&plan.layout),
+        loss: Loss::of(cluster, &plan.layout).map_err(unforeseen)?,
         described,
         plan: &plan,
     };
@@ -109,6 +113,7 @@ impl Made<'_> {
             self.overview.size(),
             why::not_more(described, plan, upper_bound),
             why::unused(described, plan),
+            format!("If lost: {}\n", self.loss.sentence(described)),
             match call.former {
                 Some(_) => transfers_in_words(&self.transfers),
                 None => first_transfers_in_words(&self.transfers),
@@ -194,6 +199,8 @@ impl Made<'_> {
         ];
         members.extend(self.overview.json(Some(transfers)));
         members.extend(why::json(described, plan));
+        let loss = self.loss.json(described);
+        members.push(("loss", Json::Object(loss.into())));
         members.push(("rows", rows(plan)));
         members
     }
