@@ -1,5 +1,7 @@
 //! The page that shows a layout.
 
+mod loss;
+
 use crate::folder::{layout_record, Folder};
 use crate::page::{self, Element};
 use crate::{planned_home, THREE};
@@ -406,6 +408,7 @@ fn bars_and_map_agree_with_the_tables() {
     bars_add_up(&page, &small_capacities(), 110);
     map_agrees_with_table(&page);
     steps_agree_with_table(&page);
+    loss::agrees_with_tables(&page);
     matrix_agrees_with_tables(&page, 26, 1);
 
     let folder = planned_home("report-home");
@@ -419,6 +422,7 @@ fn bars_and_map_agree_with_the_tables() {
     bars_add_up(&page, &BTreeMap::from(capacities), tb(4));
     map_agrees_with_table(&page);
     steps_agree_with_table(&page);
+    loss::agrees_with_tables(&page);
     matrix_agrees_with_tables(&page, 19_531, 1000);
     let folded = page.with_id("steps").named("summary");
     assert_eq!(folded[0].text(), "192 partitions, 242 steps");
@@ -563,33 +567,35 @@ fn record_of(rows: &[Vec<u32>]) -> Vec<u8> {
 
 /// The most boxes with the longest ids, names and zones, each with a ceiling that it may not reach; eight copies
 /// each. All but one are new, or all were there before and nearly all copies move; or eight receive all that the
-/// others send, but for one partition.
+/// others send, but for one partition. In one zone there is room for all copies of a partition, and it has them of
+/// one, so that each zone has a line of what it costs.
 #[test]
 fn the_largest_page_is_not_long() {
     let folder = Folder::new("report-largest");
     let boxes = (0..32u32).map(|b| {
-        let (quotes, zone) = ("\"".repeat(200), format!("{b}-{}", "\"".repeat(100)));
-        let id = FIRST + b;
-        format!(
-            "box {id} {zone} {}T {quotes}\nceiling {id} 255\n",
-            2 + b % 7
-        )
+        let (id, name) = (FIRST + b, "\"".repeat(200));
+        let zone = format!("{}-{}", b.min(24), "\"".repeat(100));
+        let capacity = 2 + b % 7;
+        format!("box {id} {zone} {capacity}T {name}\nceiling {id} 255\n")
     });
     let text = format!("copies 8\nzones 1\n{}", boxes.collect::<String>());
     folder.write("home.txt", text);
     let others = scattered(FIRST + 8, 24, 1);
     let mut gathered = vec![(FIRST..FIRST + 8).collect::<Vec<u32>>(); 256];
     gathered[0].clone_from(&others[0]);
+    let mut spread = scattered(FIRST, 32, 2);
+    spread[255] = (FIRST + 24..FIRST + 32).collect();
     for (before, after) in [
-        (scattered(FIRST - 31, 32, 1), scattered(FIRST, 32, 2)),
+        (scattered(FIRST - 31, 32, 1), spread.clone()),
         (others, gathered),
-        (scattered(FIRST, 32, 1), scattered(FIRST, 32, 2)),
+        (scattered(FIRST, 32, 1), spread),
     ] {
         folder.write("last", record_of(&before));
         folder.write("next", record_of(&after));
         let page = page_of(&folder, "home.txt next --former last");
         map_agrees_with_table(&page);
         steps_agree_with_table(&page);
+        loss::agrees_with_tables(&page);
         match page.of_class("matrix").is_empty() {
             true => senders_agree_with_boxes(&page),
             false => matrix_agrees_with_tables(&page, 1, 1000),

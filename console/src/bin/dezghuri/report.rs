@@ -3,6 +3,7 @@
 mod bars;
 mod facts;
 mod html;
+mod loss;
 mod map;
 mod matrix;
 mod moves;

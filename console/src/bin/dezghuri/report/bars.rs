@@ -360,8 +360,13 @@ impl Scale {
 
     /// The same as a whole number of thousandths.
     fn edge(&self, megabytes: u64) -> u64 {
-        megabytes * 100_000 / self.whole
+        edge(megabytes, self.whole)
     }
+}
+
+/// A part in thousandths of a percent of the whole.
+fn edge(part: u64, whole: u64) -> u64 {
+    part * 100_000 / whole
 }
 
 fn thousandths(number: u64) -> String {
@@ -369,21 +374,35 @@ fn thousandths(number: u64) -> String {
     text.trim_end_matches('0').trim_end_matches('.').into()
 }
 
+/// The parts of a bar from the left, each with its class.
+fn rectangles(parts: &[(&str, u64)], whole: u64) -> String {
+    let mut text = String::new();
+    let mut end = 0;
+    for (class, part) in parts {
+        let (from, to) = (edge(end, whole), edge(end + part, whole));
+        end += part;
+        if *part > 0 {
+            text += &format!(
+                "<rect class=\"{class}\" x=\"{}%\" y=\"3\" width=\"{}%\" height=\"14\"/>",
+                thousandths(from),
+                thousandths(to - from)
+            );
+        }
+    }
+    text
+}
+
+/// A short bar with a part of this class, to stand beside the figure that tells how large it is.
+pub fn of_share(class: &str, part: u64, whole: u64) -> String {
+    format!(
+        "<svg class=\"share\" width=\"120\" height=\"20\" aria-hidden=\"true\">{}</svg>",
+        rectangles(&[(class, part), ("unused", whole - part)], whole)
+    )
+}
+
 impl Bar {
     fn svg(&self, scale: &Scale) -> String {
-        let mut parts = String::new();
-        let mut end = 0;
-        for (class, megabytes) in &self.parts {
-            let (from, to) = (scale.edge(end), scale.edge(end + megabytes));
-            end += megabytes;
-            if *megabytes > 0 {
-                parts += &format!(
-                    "<rect class=\"{class}\" x=\"{}%\" y=\"3\" width=\"{}%\" height=\"14\"/>",
-                    thousandths(from),
-                    thousandths(to - from)
-                );
-            }
-        }
+        let mut parts = rectangles(&self.parts, scale.whole);
         if let Some(ceiling) = self.ceiling {
             let at = thousandths(scale.edge(ceiling));
             parts +=

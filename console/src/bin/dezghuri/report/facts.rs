@@ -1,6 +1,7 @@
 //! What the page tells, gathered before any of it is written.
 
 use crate::labels;
+use crate::loss::Loss;
 use crate::units::{count, Unit};
 use crate::why;
 use dezghuri::{Certificate, Cluster, Description, Held, Layout, Plan, Refused, Step, ENOUGH};
@@ -54,6 +55,8 @@ pub struct Judged {
     pub why: Vec<String>,
     /// Why no layout is better than this one from the former one; nothing without one, or where one is.
     pub certificate: Option<Certificate>,
+    /// What the loss of boxes costs.
+    pub loss: Loss,
 }
 
 /// A row of cells for each box: those of the cluster by id, and those that are gone.
@@ -116,6 +119,12 @@ impl<'a> Facts<'a> {
     pub fn not_valid(&self) -> Option<&Laid> {
         let laid = self.laid.as_ref().ok();
         laid.filter(|laid| laid.judged.is_err())
+    }
+
+    /// What the loss of boxes costs, where the layout is valid.
+    pub fn loss(&self) -> Option<&Loss> {
+        let judged = self.laid.as_ref().ok()?.judged.as_ref().ok()?;
+        Some(&judged.loss)
     }
 
     pub fn has_ceilings(&self) -> bool {
@@ -204,6 +213,7 @@ impl Laid {
             },
             best,
             certificate: former.and_then(|_| cluster.certify(&plan.layout, plan.size).ok()),
+            loss: Loss::of(cluster, &plan.layout)?,
         };
         let laid = Laid::drawn(cluster, plan, former, Ok(judged));
         Ok(Laid {

@@ -1,7 +1,7 @@
 //! The page as a whole, and the writing of text into it.
 
 use super::facts::{Facts, Laid};
-use super::{bars, map, moves, sheet, tables, words};
+use super::{bars, loss, map, moves, sheet, tables, words};
 
 /// How each page begins; by this and its end a page is known, whatever its version.
 const BEGINNING: &str = "<!DOCTYPE html>\n<html lang=\"en\">\n<head>\n<meta charset=\"utf-8\"/>\n\
@@ -13,6 +13,8 @@ const STYLE: &str = include_str!("style.css");
 const CEILINGS: &str = include_str!("ceilings.css");
 /// What a page needs besides where the layout is not valid.
 const FAULTS: &str = include_str!("faults.css");
+/// What a page needs besides where the layout is valid.
+const LOSS: &str = include_str!("loss.css");
 /// What a page needs besides where copies move.
 const MOVES: &str = include_str!("moves.css");
 const PATTERNS: &str = include_str!("patterns.svg");
@@ -32,13 +34,6 @@ pub fn is_page(bytes: &[u8]) -> bool {
 /// The whole page, well-formed as XML too.
 pub fn page(facts: &Facts) -> String {
     let title = name(last_part(&facts.names.file));
-    let ceilings = if facts.has_ceilings() { CEILINGS } else { "" };
-    let moves = if facts.has_steps() { MOVES } else { "" };
-    let faults = if facts.not_valid().is_some() {
-        FAULTS
-    } else {
-        ""
-    };
     let figures = match &facts.laid {
         Ok(laid) => of_layout(facts, laid),
         Err(_) => [
@@ -50,7 +45,10 @@ pub fn page(facts: &Facts) -> String {
     [
         BEGINNING,
         "<meta name=\"viewport\" content=\"width=device-width, initial-scale=1\"/>\n",
-        &format!("<title>Layout of {title}</title>\n<style>\n{STYLE}{ceilings}{moves}{faults}</style>\n</head>\n<body>\n"),
+        &format!(
+            "<title>Layout of {title}</title>\n<style>\n{}</style>\n</head>\n<body>\n",
+            styles(facts)
+        ),
         PATTERNS,
         &format!("<main>\n<h1>Layout of {title}</h1>\n"),
         &first_words(facts),
@@ -58,6 +56,19 @@ pub fn page(facts: &Facts) -> String {
         END,
     ]
     .concat()
+}
+
+/// The styles of the parts that this page has.
+fn styles(facts: &Facts) -> String {
+    let styles = [
+        (true, STYLE),
+        (facts.has_ceilings(), CEILINGS),
+        (facts.loss().is_some(), LOSS),
+        (facts.has_steps(), MOVES),
+        (facts.not_valid().is_some(), FAULTS),
+    ];
+    let needed = styles.iter().filter(|(is_needed, _)| *is_needed);
+    needed.map(|(_, style)| *style).collect()
 }
 
 /// The name of a file without its folders.
@@ -93,6 +104,7 @@ fn of_layout(facts: &Facts, laid: &Laid) -> String {
     };
     [
         bars::of_layout(facts, laid),
+        loss::of_layout(facts),
         map::of_layout(facts, laid),
         moves::by_box(facts, laid),
         why,

@@ -1,8 +1,8 @@
 //! Who sends to whom, as a matrix: a line for each box that sends, a column for each that receives.
 
 use super::facts::{Facts, Laid};
-use super::html::label;
 use super::moves::{BACKUP, NO_SOURCE};
+use super::tables::called;
 use crate::units::{count, thousands};
 use dezghuri::{Step, StepKind};
 use std::collections::BTreeSet;
@@ -72,7 +72,7 @@ impl Matrix<'_> {
 
     /// The heads over the boxes that receive.
     fn heads(&self) -> String {
-        let head = |id: &u32| format!("<th scope=\"col\">to {}</th>", self.called(*id));
+        let head = |id: &u32| format!("<th scope=\"col\">to {}</th>", called(self.facts, *id));
         self.columns.iter().map(head).collect()
     }
 
@@ -80,7 +80,7 @@ impl Matrix<'_> {
         let cells = self.cells(|step| step.source == Some(id), thousands);
         format!(
             "<tr><th scope=\"row\">{}</th>{cells}</tr>\n",
-            self.called(id)
+            called(self.facts, id)
         )
     }
 
@@ -102,17 +102,6 @@ impl Matrix<'_> {
         };
         let columns: String = self.columns.iter().map(column).collect();
         columns + &cell("all", line.len())
-    }
-
-    /// A box by its id and its name, of which the table of the boxes has all.
-    fn called(&self, id: u32) -> String {
-        let nodes = &self.facts.cluster().nodes;
-        let place = nodes.iter().position(|node| node.id == id);
-        let name = place.map_or("", |b| &self.facts.described.labels[b].name);
-        match name {
-            "" => id.to_string(),
-            name => format!("{id} {}", label(name)),
-        }
     }
 }
 

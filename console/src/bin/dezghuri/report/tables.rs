@@ -1,7 +1,7 @@
 //! The tables: all numbers of the page, to be read and linked to.
 
 use super::facts::{Cell, Facts, Laid, MOST_GONE};
-use super::html::{isolated, red_where, section};
+use super::html::{isolated, label, red_where, section};
 use crate::labels::{self, GONE};
 use crate::units::{percent, thousands};
 use dezghuri::Layout;
@@ -226,6 +226,14 @@ fn box_head(facts: &Facts, b: usize) -> String {
     )
 }
 
+/// A box by its id and its name where little room is; the table of the boxes has all of it.
+pub fn called(facts: &Facts, id: u32) -> String {
+    match facts.described.label(id).map(|label| &label.name[..]) {
+        None | Some("") => id.to_string(),
+        Some(name) => format!("{id} {}", label(name)),
+    }
+}
+
 /// Heads of the columns with numbers.
 fn numbers(facts: &Facts) -> Vec<&'static str> {
     let heads = [
@@ -254,6 +262,7 @@ pub fn table(class: &str, caption: &str, heads: &[&str], lines: &str) -> String 
         "its boxes",
         "cheapest boxes",
         "their cost",
+        "which boxes",
     ];
     let heads = heads.iter().map(|head| match left.contains(head) {
         true => format!("<th class=\"l\">{head}</th>"),
