@@ -1,9 +1,7 @@
 // The worst loss of a layout in hand, asked through C.
 ghost use mathlib.Core.Path.{_≡_};
-ghost use Rattle.cluster.specs.Terms.{topology, idsIn};
 ghost use Rattle.answers.specs.TermsAnswers.{unlessShort, answerAfter, reading};
-ghost use Rattle.loss.specs.TermsLoss.{IsWorst};
-ghost use Rattle.loss.specs.TermsLossAnswer.{layoutIn};
+ghost use Rattle.loss.specs.TermsLossAnswer.{LossOwed};
 ghost use Rattle.console_layouts.specs.TermsConsoleLosses.{worstCells, worstFound, worstNumbers};
 use answers::entering;
 use cluster::refusal;
@@ -17,7 +15,7 @@ const ANSWER: usize = 8;
 // Reading's refusal, or else the worst loss for the cluster read.
 fn worst_read(read: ReadCluster, assignment: &[u32], number: u32) -> Loss
     ensures { λ r. ⌜ (r ≡ worstFound read (now (assignment .entry)) number)
-        × (r .refusal ≡ 0 → IsWorst (topology (read .cluster)) (layoutIn (read .cluster) (now (assignment .entry))) number (r .lost) (idsIn (r .nodes))) ⌝ }
+        × (r .refusal ≡ 0 → LossOwed (read .cluster) (now (assignment .entry)) number r) ⌝ }
 {
     if read.refusal != 0 {
         return Loss {
@@ -42,7 +40,7 @@ pub extern "C" fn dezghuri_worst_loss(
     ensures { λ r. let read = reading (now (bytes .entry)) in let found = worstFound read (now (assignment .entry)) number in let lent = now (answer .entry) in
         ⌜ (r ≡ unlessShort worstCells lent 8 (found .refusal))
         × (now (answer .exit) ≡ answerAfter worstCells lent (worstNumbers read found))
-        × (r ≡ 0 → IsWorst (topology (read .cluster)) (layoutIn (read .cluster) (now (assignment .entry))) number (found .lost) (idsIn (found .nodes))) ⌝ }
+        × (r ≡ 0 → LossOwed (read .cluster) (now (assignment .entry)) number found) ⌝ }
 {
     if answer.len() < ANSWER {
         return refusal::BUFFER;

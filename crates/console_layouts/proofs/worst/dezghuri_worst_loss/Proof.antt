@@ -4,11 +4,9 @@ use native.Mathlib.Omega.{arith}
 use mathlib.Core.Path.{_≡_, ap, _∙_, subst}
 use mathlib.Core.List.{_++_}
 use lib.ListN.{drop}
-use Rattle.cluster.specs.Terms.{topology, idsIn}
 use Rattle.cluster_record.specs.declared.ReadCluster.{ReadCluster}
-use Rattle.loss.specs.TermsLoss.{IsWorst}
 use Rattle.loss.specs.declared.worst.Loss.{Loss}
-use Rattle.loss.specs.TermsLossAnswer.{layoutIn}
+use Rattle.loss.specs.TermsLossAnswer.{LossOwed}
 use Rattle.answers.specs.TermsAnswers.{reading}
 use Rattle.console_layouts.specs.TermsConsoleLosses.{worstCells, worstFound, worstNumbers}
 use Rattle.answers.proofs.Answered.{short, long}
@@ -63,9 +61,8 @@ returns-2 c =
     told ∙ ap (λ (x : ReadCluster). worstFound x (a .assignment .now) (a .number)) read in (
       long _ worstCells lent h (ap (λ (x : Loss). x .refusal) found),
       long _ worstCells lent h (c .before .before .put-after .ensures ∙ (λ i. worstNumbers (read i) (found i) ++ drop worstCells lent)),
-      λ z. subst (λ (x : Loss). IsWorst (topology (reading (a .bytes .now) .cluster)) (layoutIn (reading (a .bytes .now) .cluster) (a .assignment .now)) (a .number) (x .lost) (idsIn (x .nodes))) found
-          (subst (λ (x : ReadCluster). IsWorst (topology (x .cluster)) (layoutIn (x .cluster) (a .assignment .now)) (a .number) (f .worst-read .result .lost) (idsIn (f .worst-read .result .nodes))) read
-          (f .worst-read .ensures .1 z)),
+      λ z. subst (λ (x : Loss). LossOwed (reading (a .bytes .now) .cluster) (a .assignment .now) (a .number) x) found
+          (subst (λ (x : ReadCluster). LossOwed (x .cluster) (a .assignment .now) (a .number) (f .worst-read .result)) read (f .worst-read .ensures .1 z)),
     )
 
 pub dezghuri-worst-loss-spec : {M : Type 1} → statement M

@@ -17,7 +17,7 @@ returns-2 : tie.Need-returns-2
 unfolding worstFound
 returns-2 c =
     let t = c .before .before in
-    (accepted _ (t .before .before .before .args .read) (t .if1 .left) (c .worst-loss .ensures .0), c .worst-loss .ensures .1 .worst)
+    (accepted _ (t .before .before .before .args .read) (t .if1 .left) (c .worst-loss .ensures .0), λ z. c .worst-loss .ensures .1)
 
 pub worst-read-spec : {M : Type 1} → statement M
 worst-read-spec = tie.close (tie.spec returns worst-loss-requires returns-2)
