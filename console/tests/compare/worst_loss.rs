@@ -45,10 +45,7 @@ fn some_case(kind: Kind, r: &mut Random) -> (Cluster, Layout) {
             }
         }
         let few = r.chance(40).then(|| clumped(&c, r)).flatten();
-        if let Some(mut layout) = few.or_else(|| some_layout(&c, r)) {
-            if r.chance(30) {
-                raise(&mut c, &mut layout, r);
-            }
+        if let Some(layout) = few.or_else(|| some_layout(&c, r)) {
             return (c, layout);
         }
     }
@@ -133,7 +130,10 @@ fn try_losses(seed: u64, cases: u64, kind: Kind) -> Seen {
     let mut r = Random::new(seed);
     let mut seen = Seen::default();
     for _ in 0..cases {
-        let (c, layout) = some_case(kind, &mut r);
+        let (mut c, mut layout) = some_case(kind, &mut r);
+        if r.chance(30) {
+            raise(&mut c, &mut layout, &mut r);
+        }
         seen.try_worst(&c, &layout, &mut r);
         seen.try_given(&c, &layout, &mut r);
     }
@@ -155,7 +155,8 @@ fn losses_are_those_of_all_sets_listed() {
     }
 }
 
-/// 32 nodes and 256 partitions with every number of copies, in every number of zones.
+/// 32 nodes and 256 partitions with every number of copies, in every number of zones. As many nodes as there are
+/// copies cost something: for one copy four of the numbers do, for two three, for three two, for four one.
 fn try_largest(seed: u64) {
     let mut r = Random::new(seed);
     let mut seen = Seen::default();
@@ -181,7 +182,8 @@ fn try_largest(seed: u64) {
         }
     }
     assert_eq!(seen.worst, 36 * 5);
-    assert!(seen.costly > 20 && seen.higher > 20, "{seen:?}");
+    assert_eq!(seen.costly, 4 + 2 * 3 + 3 * 2 + 4, "{seen:?}");
+    assert!(seen.higher > 10, "{seen:?}");
 }
 
 #[test]
