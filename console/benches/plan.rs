@@ -25,11 +25,17 @@
 //! A certificate is timed beside a check of the same layout, which it contains: beyond that it is to take no more
 //! than 60 microseconds for 32 nodes. "plain" there is the plain program's way to the same prices.
 //!
+//! Losses are timed of finished plans of 32 nodes, beside a plain program that makes words of the rows and counts
+//! for each set of nodes: the worst loss of four nodes is to take no more than 2 ms, and no more than 1.5 times as
+//! long as that.
+//!
 //!     cargo bench --bench plan                     all tables (`make bench`)
 //!     cargo bench --bench plan -- ordering         the tables of what the ordering adds
 //!     cargo bench --bench plan -- certify          the table of certificates
+//!     cargo bench --bench plan -- loss             the table of losses
 //!     cargo bench --bench plan -- proved           the proved planner's times alone
 //!     cargo bench --bench plan -- once worst       one call of proved, plain and search, to be counted
+//!     cargo bench --bench plan -- once loss        one call of proved and plain for four nodes lost, to be counted
 //!
 //! Two builds of the static library are compared by two programs that are run in turn: put the one
 //! library into `build/`, run `cargo bench --bench plan --no-run`, and copy the program that it names;
@@ -42,6 +48,7 @@
 
 use dezghuri::ffi;
 use reference::exchanges::{certify_record, plan_record, Path};
+use reference::losses::{loss_record, worst_loss_record};
 use reference::random::Random;
 use reference::records::{cluster_record, read_cluster};
 use reference::{capacity_for, report, sent, Cluster, Layout, Node};
@@ -89,9 +96,11 @@ fn main() {
         [] => all_tables(),
         ["ordering"] => ordering_tables(),
         ["certify"] => certify_table(),
+        ["loss"] => loss_table(),
         ["proved"] => proved_alone(),
+        ["once", "loss"] => once_loss(),
         ["once", name] => once(name),
-        _ => panic!("ordering, certify, proved, once KIND, or nothing"),
+        _ => panic!("ordering, certify, loss, proved, once KIND, once loss, or nothing"),
     }
 }
 
@@ -127,6 +136,8 @@ fn all_tables() {
     ordering_tables();
     println!();
     certify_table();
+    println!();
+    loss_table();
 }
 
 fn head(name: &str) {
@@ -294,6 +305,108 @@ fn certify(_: &mut Lent, (record, cells, size): &Finished) {
 
 fn plain_certify(_: &mut Lent, (record, cells, size): &Finished) {
     assert!(certify_record(record, cells, *size).is_ok());
+}
+
+/// A finished plan, and which nodes are lost: at worst so many, or those of one house.
+struct Losing {
+    plan: Finished,
+    number: u32,
+    house: Vec<u32>,
+}
+
+/// What the losses of a layout take, beside the plain program; both have to answer the same.
+fn loss_table() {
+    println!("microseconds for the losses of a finished plan of 32 nodes in eight houses, 256 partitions, R 3, Z 2");
+    println!(
+        "{:<55} {:>7} {:>7} {:>7} {:>12}",
+        "lost (four: at most 2000, and 1.50 times as long)",
+        "proved",
+        "most",
+        "plain",
+        "proved/plain"
+    );
+    for number in 1..=4 {
+        let calls: [fn(&mut Lent, &Losing) -> u32; 2] = [worst_loss, plain_worst_loss];
+        loss_line(&format!("at worst {number} of 32 nodes"), number, calls);
+    }
+    let calls: [fn(&mut Lent, &Losing) -> u32; 2] = [house_loss, plain_house_loss];
+    loss_line("the four nodes of a house", 4, calls);
+}
+
+fn loss_line(name: &str, number: u32, calls: [fn(&mut Lent, &Losing) -> u32; 2]) {
+    let cases = drawn(|r| by_lot(8, 32, 3, 2, r));
+    let runs: Vec<Losing> = cases.iter().map(|case| losing(case, number)).collect();
+    let mut lent = Lent::new();
+    for run in &runs {
+        assert_eq!(calls[0](&mut lent, run), calls[1](&mut lent, run));
+    }
+    let timed = calls.map(|call| {
+        move |lent: &mut Lent, run: &Losing| {
+            std::hint::black_box(call(lent, run));
+        }
+    });
+    let times = in_turn(&runs, &timed);
+    let column = |part: fn(&[f64; 2]) -> f64| times.iter().map(part).collect::<Vec<f64>>();
+    println!(
+        "{name:<55} {:>7.1} {:>7.1} {:>7.1} {:>12.2}",
+        median(column(|t| t[0])),
+        most(column(|t| t[0])),
+        median(column(|t| t[1])),
+        median(column(|t| t[0] / t[1])),
+    );
+}
+
+fn losing(case: &Case, number: u32) -> Losing {
+    let nodes = &case.0.nodes;
+    let house = nodes.iter().filter(|node| node.zone == nodes[0].zone);
+    Losing {
+        plan: finished(case),
+        number,
+        house: house.map(|node| node.id).collect(),
+    }
+}
+
+/// How many partitions are lost, and with which nodes, in one number.
+fn worst_loss(_: &mut Lent, losing: &Losing) -> u32 {
+    let (record, cells, _) = &losing.plan;
+    let mut answer = [0; ffi::WORST_LOSS_ANSWER];
+    assert_eq!(
+        ffi::worst_loss(record, cells, losing.number, &mut answer),
+        0
+    );
+    in_one(answer[3], &answer[4..])
+}
+
+#[inline(never)]
+fn plain_worst_loss(_: &mut Lent, losing: &Losing) -> u32 {
+    let (record, cells, _) = &losing.plan;
+    let worst = worst_loss_record(record, cells, losing.number);
+    let (lost, ids) = worst.expect("a layout");
+    in_one(lost, &ids)
+}
+
+fn in_one(lost: u32, ids: &[u32]) -> u32 {
+    ids.iter().fold(lost, |all, id| all * 33 + id)
+}
+
+fn house_loss(_: &mut Lent, losing: &Losing) -> u32 {
+    let (record, cells, _) = &losing.plan;
+    let mut answer = [0; ffi::LOSS_ANSWER];
+    assert_eq!(ffi::loss(record, cells, &losing.house, &mut answer), 0);
+    answer[3]
+}
+
+fn plain_house_loss(_: &mut Lent, losing: &Losing) -> u32 {
+    let (record, cells, _) = &losing.plan;
+    loss_record(record, cells, &losing.house).expect("a layout")
+}
+
+/// One call of each for the worst loss of four nodes, to be counted.
+fn once_loss() {
+    let losing = losing(&by_lot(8, 32, 3, 2, &mut Random::new(1)), 4);
+    let mut lent = Lent::new();
+    let proved = worst_loss(&mut lent, &losing);
+    assert_eq!(proved, plain_worst_loss(&mut lent, &losing));
 }
 
 /// For each of the runs the median of the times of some calls, which are made in turn, each on one run

@@ -144,7 +144,7 @@ static inline const char *dezghuri_refusal_text(uint32_t refusal) {
 /* Cells that several answers have in the same place. */
 #define DEZGHURI_BYTE_HIGH 0 /* the byte of a refused reading, its high 32 bits: all answers but that of writing */
 #define DEZGHURI_BYTE_LOW 1 /* and its low ones */
-#define DEZGHURI_PLACE 2 /* of check, figures, certify and moves: the partition with 10 and 11, the node id with 12 */
+#define DEZGHURI_PLACE 2 /* of all that check an assignment: the partition with 10 and 11, the node id with 12 */
 
 /* Cells of a node in an answer, from its first one on; and of a step in a list of moves. */
 #define DEZGHURI_NODE_ID 0

@@ -1,6 +1,6 @@
 //! The header as a C program uses it.
 
-use dezghuri::{ffi, Node, Refusal, ENOUGH};
+use dezghuri::{ffi, Cluster, Node, Refusal, ENOUGH};
 use std::collections::BTreeSet;
 use std::io::Write;
 use std::path::Path;
@@ -80,6 +80,8 @@ fn the_header_has_the_numbers_of_the_library() {
         ("PLAN_ANSWER", ffi::PLAN_ANSWER),
         ("CHECK_ANSWER", ffi::CHECK_ANSWER),
         ("CERTIFY_ANSWER", ffi::CERTIFY_ANSWER),
+        ("WORST_LOSS_ANSWER", ffi::WORST_LOSS_ANSWER),
+        ("LOSS_ANSWER", ffi::LOSS_ANSWER),
         ("FIGURES_ANSWER", ffi::FIGURES_ANSWER),
         ("WRITE_LAYOUT_ANSWER", ffi::WRITE_LAYOUT_ANSWER),
         ("CHANGE_ANSWER", ffi::CHANGE_ANSWER),
@@ -89,9 +91,30 @@ fn the_header_has_the_numbers_of_the_library() {
         ("LAYOUT_RECORD_BYTES", ffi::LAYOUT_RECORD_BYTES),
         ("ENOUGH_ALLOWANCE", usize::from(ENOUGH)),
         ("MOST_CEILING", usize::from(Node::NO_CEILING)),
+        ("MOST_LOST", Cluster::MOST_LOST as usize),
     ];
     for (name, length) in lengths {
         assert_eq!(defined(&header, name) as usize, length, "{name}");
+    }
+}
+
+/// Each function of the header is bound in Rust and called from C, and there is no other.
+#[test]
+fn each_function_is_bound_and_called() {
+    let read = |name: &str| std::fs::read_to_string(Path::new(HERE).join(name)).unwrap();
+    let names = |text: &str, before: &str| -> BTreeSet<String> {
+        let lines = text
+            .lines()
+            .filter_map(|line| line.trim().strip_prefix(before));
+        let names = lines.filter_map(|line| line.split_once('('));
+        names.map(|(name, _)| name.to_string()).collect()
+    };
+    let declared = names(&read("include/dezghuri.h"), "uint32_t dezghuri_");
+    assert_eq!(declared.len(), 13);
+    assert_eq!(declared, names(&read("src/ffi.rs"), "pub fn dezghuri_"));
+    let calls = read("tests/c/calls.c");
+    for name in declared {
+        assert!(calls.contains(&format!("dezghuri_{name}(")), "{name}");
     }
 }
 

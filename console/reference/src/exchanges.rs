@@ -21,6 +21,7 @@ use first::Order;
 use ground::{members, Ground, PARTITIONS};
 use held::Held;
 pub use prices::certify_record;
+pub(crate) use prices::rows;
 use search::{Found, Levels};
 
 /// What comes after a turn.

@@ -1,7 +1,7 @@
 //! Unverified programs that the proved planner is compared with, each written from the papers and
 //! from nothing else: a listing of all layouts, a planner by the report's own method, a planner by
 //! the method of exchanges, a parser, changes of the nodes, the list of moves, what the papers say of
-//! lent cells, and a stranger's check of certificates.
+//! lent cells, a stranger's check of certificates, and a listing of all sets of nodes that can be lost.
 
 pub mod ceilings;
 pub mod cells;
@@ -10,6 +10,7 @@ pub mod changes;
 mod dealing;
 pub mod exchanges;
 pub mod listing;
+pub mod losses;
 pub mod moves;
 pub mod random;
 pub mod records;

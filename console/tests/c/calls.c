@@ -1,5 +1,5 @@
-/* Calls each function of dezghuri.h from C and checks its answers on example A of the paper, of moves on E, and of
- * certificates on E, F and K.
+/* Calls each function of dezghuri.h from C and checks its answers on example A of the paper, of moves on E, of
+ * certificates on E, F and K, and of losses on A, E and K.
  * Prints what is wrong, and ends with status 1 if anything is. */
 #include "dezghuri.h"
 
@@ -83,6 +83,8 @@ enum {
     WIDE_ROW = DEZGHURI_WIDE_ROW_CELLS,
     MOVES = DEZGHURI_MOVES_ANSWER,
     CERTIFY = DEZGHURI_CERTIFY_ANSWER,
+    WORST = DEZGHURI_WORST_LOSS_ANSWER,
+    LOSS = DEZGHURI_LOSS_ANSWER,
 };
 static uint32_t cells[CELLS + 1];
 static uint32_t scratch[SCRATCH + 1];
@@ -126,15 +128,38 @@ static uint32_t check(const uint8_t *record, uint32_t size) {
     return dezghuri_check(record, 57, cells, CELLS, size, answer, DEZGHURI_CHECK_ANSWER);
 }
 
-/* Certifies a layout of one partition or two in rows of so many ids, which come one after the other. */
-static uint32_t certify(const uint8_t *record, size_t length, const uint32_t *ids, size_t rows, uint32_t size) {
+/* Leaves so many rows in `cells`, whose ids come one after the other, as many to a row as the record has copies. */
+static void lay(const uint8_t *record, const uint32_t *ids, size_t rows) {
     memset(cells, 0, CELLS * sizeof *cells);
     const size_t width = record[7];
     for (size_t i = 0; i < rows * width; i++) cells[i / width * DEZGHURI_ROW_CELLS + i % width] = ids[i];
+}
+
+/* Certifies a layout of one partition or two. */
+static uint32_t certify(const uint8_t *record, size_t length, const uint32_t *ids, size_t rows, uint32_t size) {
+    lay(record, ids, rows);
     fill(answer, ANSWER + 1);
     const uint32_t refusal = dezghuri_certify(record, length, cells, CELLS, size, answer, CERTIFY);
     EXPECT(answer[CERTIFY] == PATTERN);
     EXPECT(refusal == DEZGHURI_OK || all(answer, DEZGHURI_CERTIFY_PRICES, CERTIFY, 0));
+    return refusal;
+}
+
+/* The worst loss of so many nodes, of the layout in so many of `cells`. */
+static uint32_t worst(const uint8_t *record, size_t length, size_t rows, uint32_t number) {
+    fill(answer, ANSWER + 1);
+    const uint32_t refusal = dezghuri_worst_loss(record, length, cells, rows, number, answer, WORST);
+    EXPECT(all(answer, WORST, ANSWER + 1, PATTERN));
+    EXPECT(refusal == DEZGHURI_OK || all(answer, DEZGHURI_WORST_LOSS_LOST, WORST, 0));
+    return refusal;
+}
+
+/* The loss of the nodes of so many ids, of the layout in so many of `cells`. */
+static uint32_t loss(const uint8_t *record, size_t length, size_t rows, const uint32_t *ids, size_t many) {
+    fill(answer, ANSWER + 1);
+    const uint32_t refusal = dezghuri_loss(record, length, cells, rows, ids, many, answer, LOSS);
+    EXPECT(all(answer, LOSS, ANSWER + 1, PATTERN));
+    EXPECT(refusal == DEZGHURI_OK || answer[DEZGHURI_LOSS_LOST] == 0);
     return refusal;
 }
 
@@ -485,6 +510,86 @@ static void refused_certificates(void) {
     EXPECT(all(answer, 0, ANSWER + 1, PATTERN));
 }
 
+/* Whether nothing is refused, and so many partitions are lost with the nodes 1, 2 and on up to `nodes`. */
+static int costs(uint32_t refusal, uint32_t lost, uint32_t nodes) {
+    const uint32_t *ids = answer + DEZGHURI_WORST_LOSS_NODES;
+    int is_so = refusal == DEZGHURI_OK && all(answer, 0, DEZGHURI_WORST_LOSS_LOST, 0);
+    for (uint32_t i = 0; i < nodes; i++) is_so = is_so && ids[i] == i + 1;
+    return is_so && answer[DEZGHURI_WORST_LOSS_LOST] == lost && all(ids, nodes, DEZGHURI_MOST_LOST, 0);
+}
+
+/* Of A both partitions lie at nodes 1, 2 and 3: nothing is lost before all three are. Of E both lie at node 1. Of K
+ * the only one lies at nodes 1, 2 and 4, which cost it; of four nodes there is one set. */
+static void losing(void) {
+    static const uint32_t threes[6] = {1, 2, 3, 1, 2, 3}, ones[2] = {1, 1}, row[3] = {1, 2, 4};
+    static const uint32_t found[WORST] = {0, 0, 0, 1, 1, 2, 4, 0};
+    lay(CLUSTER, threes, 2);
+    for (uint32_t n = 0; n < 3; n++) EXPECT(costs(worst(CLUSTER, 57, CELLS, n), 0, n));
+    EXPECT(costs(worst(CLUSTER, 57, CELLS, 3), 2, 3));
+    EXPECT(costs(worst(CLUSTER, 57, CELLS + 1, 3), 2, 3)); /* the last cell is not looked at */
+    lay(HELD, ones, 2);
+    EXPECT(costs(worst(HELD, 60, CELLS, 0), 0, 0) && costs(worst(HELD, 60, CELLS, 1), 2, 1));
+    EXPECT(costs(worst(HELD, 60, CELLS, 2), 2, 2));
+    lay(ZONES, row, 1);
+    EXPECT(costs(worst(ZONES, 89, CELLS, 2), 0, 2));
+    EXPECT(worst(ZONES, 89, CELLS, 3) == DEZGHURI_OK && holds(answer, found, WORST));
+    EXPECT(costs(worst(ZONES, 89, CELLS, 4), 1, 4));
+}
+
+/* Whether so many partitions of A are lost with these nodes. */
+static int lost(uint32_t expected, const uint32_t *ids, size_t many) {
+    const uint32_t refusal = loss(CLUSTER, 57, CELLS, ids, many);
+    return refusal == DEZGHURI_OK && all(answer, 0, DEZGHURI_LOSS_LOST, 0) && answer[DEZGHURI_LOSS_LOST] == expected;
+}
+
+/* Ids in any order, repeated, and of no node: 0, 9 and the highest there is. */
+static void losing_given_nodes(void) {
+    static const uint32_t threes[6] = {1, 2, 3, 1, 2, 3};
+    static const uint32_t ids[9] = {9, 3, 1, 0, 3, 0xFFFFFFFF, 1, 2, 2};
+    static uint32_t many[1000];
+    lay(CLUSTER, threes, 2);
+    EXPECT(lost(0, ids, 0) && lost(0, ids, 1) && lost(0, ids, 7) && lost(2, ids, 8) && lost(2, ids, 9));
+    for (size_t i = 0; i < 1000; i++) many[i] = (uint32_t)(i % 3 == 0 ? 3 : 1);
+    EXPECT(lost(0, many, 1000));
+    many[999] = 2;
+    EXPECT(lost(0, many, 999) && lost(2, many, 1000));
+}
+
+/* Each call has what is refused later, too: the row of partition 1 lacks node 3 or the second zone, and node 2 may
+ * hold one copy. */
+static void refused_losses(void) {
+    static const uint32_t threes[6] = {1, 2, 3, 1, 2, 3}, gone[6] = {1, 2, 3, 1, 2, 9}, ids[3] = {1, 2, 3};
+    uint8_t other[57];
+    memcpy(other, CLUSTER, 57);
+    other[40] = 0, other[41] = 1;
+    lay(CLUSTER, gone, 2);
+    EXPECT(worst(other, 0, 0, 5) == DEZGHURI_MISSING && all(answer, 0, WORST, 0));
+    EXPECT(worst(other, 56, 0, 5) == DEZGHURI_CUT && answer[DEZGHURI_BYTE_LOW] == 42 && answer[DEZGHURI_PLACE] == 0);
+    EXPECT(loss(other, 56, 0, ids, 3) == DEZGHURI_CUT && answer[DEZGHURI_BYTE_LOW] == 42);
+    EXPECT(worst(other, 57, CELLS - 1, 5) == DEZGHURI_SHORT && all(answer, 0, WORST, 0));
+    EXPECT(loss(other, 57, CELLS - 1, ids, 3) == DEZGHURI_SHORT && all(answer, 0, LOSS, 0));
+    EXPECT(worst(other, 57, CELLS, 4) == DEZGHURI_RANGE && all(answer, 0, WORST, 0)); /* there are three */
+    EXPECT(worst(other, 57, CELLS, 5) == DEZGHURI_RANGE && all(answer, 0, WORST, 0));
+    EXPECT(worst(other, 57, CELLS, 0xFFFFFFFF) == DEZGHURI_RANGE && all(answer, 0, WORST, 0));
+    EXPECT(worst(other, 57, CELLS, 3) == DEZGHURI_ROW && answer[DEZGHURI_PLACE] == 1);
+    EXPECT(loss(other, 57, CELLS, ids, 3) == DEZGHURI_ROW && answer[DEZGHURI_PLACE] == 1);
+    lay(CLUSTER, threes, 2);
+    EXPECT(worst(other, 57, CELLS, 3) == DEZGHURI_CAPACITY && answer[DEZGHURI_PLACE] == 2);
+    EXPECT(loss(other, 57, CELLS, ids, 0) == DEZGHURI_CAPACITY && answer[DEZGHURI_PLACE] == 2);
+    other[48] = 2; /* node 3 has the id of node 2 */
+    EXPECT(worst(other, 57, CELLS, 2) == DEZGHURI_ORDER && answer[DEZGHURI_BYTE_LOW] == 42);
+
+    lay(ZONES, ids, 1);
+    EXPECT(worst(ZONES, 89, CELLS, 1) == DEZGHURI_ZONES && all(answer, 0, WORST, 0)); /* partition 0 */
+    EXPECT(loss(ZONES, 89, CELLS, ids, 3) == DEZGHURI_ZONES && all(answer, 0, LOSS, 0));
+    fill(answer, ANSWER + 1);
+    EXPECT(dezghuri_worst_loss(ZONES, 89, cells, CELLS, 1, answer, WORST - 1) == DEZGHURI_SHORT);
+    EXPECT(dezghuri_worst_loss(ZONES, 89, cells, CELLS, 1, answer, 0) == DEZGHURI_SHORT);
+    EXPECT(dezghuri_loss(ZONES, 89, cells, CELLS, ids, 3, answer, LOSS - 1) == DEZGHURI_SHORT);
+    EXPECT(dezghuri_loss(ZONES, 89, cells, CELLS, ids, 3, answer, 0) == DEZGHURI_SHORT);
+    EXPECT(all(answer, 0, ANSWER + 1, PATTERN));
+}
+
 /* With the word `texts` it prints the refusals in words, a line for each number from 0 on, and calls nothing. */
 int main(int given, char **words) {
     if (given == 2 && strcmp(words[1], "texts") == 0) {
@@ -505,5 +610,8 @@ int main(int given, char **words) {
     refused_moves();
     certifying();
     refused_certificates();
+    losing();
+    losing_given_nodes();
+    refused_losses();
     return faults != 0;
 }

@@ -137,7 +137,7 @@ fn a_ceiling_of_257_is_refused_by_every_call() {
     }
 }
 
-/// Reading, planning, check, figures, certify and changing refuse the record alike, with the byte.
+/// Reading, planning, check, figures, certify, losses and changing refuse the record alike, with the byte.
 fn refused_by_all(record: &[u8], refused: (u32, u64), r: &mut Random) {
     assert_eq!(lent::read_cluster(record, r), Err(refused));
     assert_eq!(lent::plan(record, 2048, r), Err(refused));
@@ -148,6 +148,10 @@ fn refused_by_all(record: &[u8], refused: (u32, u64), r: &mut Random) {
     assert_eq!(figures, Err((refusal, byte, 0)));
     let certified = lent::certify(record, &cells, 1, r);
     assert_eq!(certified, Err((refusal, byte, 0)));
+    let worst = lent::worst_loss(record, &cells, 5, r);
+    assert_eq!(worst, Err((refusal, byte, 0)));
+    let lost = lent::loss(record, &cells, &[1], r);
+    assert_eq!(lost, Err((refusal, byte, 0)));
     let changed = lent::change(record, &Change::Remove(1).field(), 0, r);
     assert_eq!((changed.refusal, changed.read), refused);
     assert_eq!(changed.cluster, lent::no_nodes());

@@ -267,6 +267,11 @@ fn short_cells_are_refused_and_nothing_is_touched() {
     let mut prices = [7; ffi::CERTIFY_ANSWER];
     assert_eq!(ffi::certify(&record, &cells, 0, &mut prices), 8);
     assert_eq!(prices, [0; ffi::CERTIFY_ANSWER]);
+    let mut lost = [7; ffi::WORST_LOSS_ANSWER];
+    assert_eq!(ffi::worst_loss(&record, &cells, 5, &mut lost), 8);
+    assert_eq!(lost, [0; ffi::WORST_LOSS_ANSWER]);
+    assert_eq!(ffi::loss(&record, &cells, &[], &mut answer[..4]), 8);
+    assert_eq!(answer, [0, 0, 0, 0, 7, 7]);
     let mut counts = [5; 64];
     assert_eq!(
         ffi::figures(&record, &cells, 0, &mut counts, &mut answer[..5]),
@@ -309,6 +314,10 @@ fn a_short_answer_is_refused_before_all_and_nothing_is_touched() {
     assert_eq!(ffi::plan(&record, 0, &mut a, &mut s, &mut lent[..5]), 8);
     assert_eq!(ffi::check(&record, &a, 0, &mut lent[..2]), 8);
     assert_eq!(ffi::certify(&record, &a, 0, &mut lent[..34]), 8);
+    assert_eq!(ffi::worst_loss(&record, &a, 5, &mut lent[..7]), 8);
+    assert_eq!(ffi::worst_loss(&record, &[], 5, &mut []), 8);
+    assert_eq!(ffi::loss(&record, &a, &[1], &mut lent[..3]), 8);
+    assert_eq!(ffi::loss(&record, &[], &[], &mut []), 8);
     assert_eq!(ffi::figures(&record, &a, 0, &mut f, &mut lent[..4]), 8);
     assert_eq!(ffi::write_layout(numbers, &a, &mut out, &mut lent[..1]), 8);
     assert_eq!(ffi::plan(&record, 0, &mut [], &mut [], &mut []), 8);

@@ -191,6 +191,42 @@ pub fn certify(
     Ok(prices)
 }
 
+/// The worst loss of so many nodes: how many partitions are lost, and the ids; refused, the refusal, byte and place.
+pub fn worst_loss(
+    record: &[u8],
+    assignment: &[u32],
+    number: u32,
+    r: &mut Random,
+) -> Result<(u32, Vec<u32>), (u32, u64, u32)> {
+    let lent = lend(ffi::WORST_LOSS_ANSWER, r);
+    let mut answer = lent.clone();
+    let refusal = ffi::worst_loss(record, assignment, number, &mut answer);
+    kept(&answer, &lent, ffi::WORST_LOSS_ANSWER);
+    if refusal != 0 {
+        let numbers = &answer[3..ffi::WORST_LOSS_ANSWER];
+        assert_eq!(numbers, [0; 5], "numbers of a refusal");
+        return Err((refusal, byte(&answer), answer[2]));
+    }
+    assert_eq!(answer[..3], [0; 3], "byte and place without a refusal");
+    let (ids, zeros) = answer[4..ffi::WORST_LOSS_ANSWER].split_at(number as usize);
+    assert!(zeros.iter().all(|cell| *cell == 0), "past the ids");
+    Ok((answer[3], ids.to_vec()))
+}
+
+/// How many partitions are lost with nodes; refused, the refusal, byte and place.
+pub fn loss(
+    record: &[u8],
+    assignment: &[u32],
+    nodes: &[u32],
+    r: &mut Random,
+) -> Result<u32, (u32, u64, u32)> {
+    let lent = lend(ffi::LOSS_ANSWER, r);
+    let mut answer = lent.clone();
+    let refusal = ffi::loss(record, assignment, nodes, &mut answer);
+    kept(&answer, &lent, ffi::LOSS_ANSWER);
+    number_answered(refusal, &answer)
+}
+
 /// The 64 figures and the size to hope for; refused, the refusal, byte and place.
 pub fn figures(
     record: &[u8],
@@ -294,7 +330,7 @@ pub fn count_moves(
     let mut answer = lent.clone();
     let refusal = ffi::count_moves(record, former, assignment, &mut answer);
     kept(&answer, &lent, ffi::MOVES_ANSWER);
-    steps_answered(refusal, &answer)
+    number_answered(refusal, &answer)
 }
 
 /// The steps that a list makes in so many cells; refused, the refusal, byte and place.
@@ -309,7 +345,7 @@ pub fn moves(
     let (mut moves, mut answer) = lent.clone();
     let refusal = ffi::moves(record, former, assignment, &mut moves, &mut answer);
     kept(&answer, &lent.1, ffi::MOVES_ANSWER);
-    let steps = steps_answered(refusal, &answer);
+    let steps = number_answered(refusal, &answer);
     let written = 4 * steps.unwrap_or(0) as usize;
     kept(&moves, &lent.0, written);
     steps?;
@@ -317,10 +353,10 @@ pub fn moves(
     Ok(moves[..written].chunks(4).map(step).collect())
 }
 
-/// The number of steps of an answer.
-fn steps_answered(refusal: u32, answer: &[u32]) -> Result<u32, (u32, u64, u32)> {
+/// The number of an answer that has one, behind byte and place.
+fn number_answered(refusal: u32, answer: &[u32]) -> Result<u32, (u32, u64, u32)> {
     if refusal != 0 {
-        assert_eq!(answer[3], 0, "steps of a refusal");
+        assert_eq!(answer[3], 0, "the number of a refusal");
         return Err((refusal, byte(answer), answer[2]));
     }
     assert_eq!(answer[..3], [0; 3], "byte and place without a refusal");

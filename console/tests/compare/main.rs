@@ -1,6 +1,7 @@
 //! The C functions compared with unverified programs, each written from the papers alone: a listing
 //! of all layouts, the report's method, a parser, changes of the nodes, the list of moves, what the
-//! papers say of lent cells, and a stranger's check of certificates, which judges every plan.
+//! papers say of lent cells, a listing of all sets of nodes that can be lost, and a stranger's check of
+//! certificates, which judges every plan.
 //!
 //! Every run tries the same cases. `make soak` tries many more: the tests that are ignored here.
 
@@ -20,6 +21,7 @@ mod records;
 mod sent;
 mod usable;
 mod worst;
+mod worst_loss;
 
 /// How many times as many cases a soak tries.
 fn soak_factor() -> u64 {

@@ -206,7 +206,7 @@ fn former_rows_of_the_record_are_read_and_not_used() {
 }
 
 /// A layout that is valid at size 1: a plan, or any that is drawn.
-fn some_layout(c: &Cluster, r: &mut Random) -> Option<Layout> {
+pub fn some_layout(c: &Cluster, r: &mut Random) -> Option<Layout> {
     let drawn: Option<Layout> = (0..c.partitions()).map(|_| some_row(c, r)).collect();
     match drawn.filter(|layout| r.chance(60) && is_valid(c, layout, 1)) {
         Some(layout) => Some(layout),
@@ -219,7 +219,7 @@ fn some_layout(c: &Cluster, r: &mut Random) -> Option<Layout> {
 }
 
 /// So many different nodes; whether they lie in enough zones is not asked.
-fn some_row(c: &Cluster, r: &mut Random) -> Option<Vec<u32>> {
+pub fn some_row(c: &Cluster, r: &mut Random) -> Option<Vec<u32>> {
     if c.nodes.len() < c.replication {
         return None;
     }
@@ -454,7 +454,7 @@ fn some_call(r: &mut Random) -> Lent {
 }
 
 /// At times a node may hold nothing, more zones are wanted, or there are 33 nodes.
-fn alter_cluster(c: &mut Cluster, r: &mut Random) {
+pub fn alter_cluster(c: &mut Cluster, r: &mut Random) {
     let node = r.below(c.nodes.len() as u64) as usize;
     match r.below(20) {
         0 => c.nodes[node].capacity = 0,
@@ -469,7 +469,7 @@ fn alter_cluster(c: &mut Cluster, r: &mut Random) {
 }
 
 /// Alters a cell: mostly one of the first so many, at times another of those that there are.
-fn alter(cells: &mut [u32], first: usize, all: usize, r: &mut Random) {
+pub fn alter(cells: &mut [u32], first: usize, all: usize, r: &mut Random) {
     let within = if r.chance(80) { first } else { all };
     let at = r.below(within as u64) as usize;
     cells[at] = match r.below(4) {

@@ -131,7 +131,7 @@ fn the_most_copies_are_sent_and_written() {
 }
 
 /// The header promises both of every call; planning the largest cluster is the one that takes most, and each plan
-/// is certified on the same stack.
+/// is certified on the same stack, and asked for its worst loss: of eight copies no four nodes have all.
 #[test]
 fn threads_with_little_stack_call_at_once() {
     let (c, former) = (largest(4, 9, |b| 5000 + 97 * b), neighbours());
@@ -140,12 +140,16 @@ fn threads_with_little_stack_call_at_once() {
     std::thread::scope(|scope| {
         for seed in 0..4 {
             let (record, expected) = (&record, &expected);
-            let planned =
-                move || assert_eq!(&lent::plan(record, 2048, &mut Random::new(seed)), expected);
+            let called = move || {
+                let r = &mut Random::new(seed);
+                let planned = lent::plan(record, 2048, r);
+                assert_eq!(&planned, expected);
+                let cells = cells_of(&planned.expect("a layout exists").layout);
+                let four = lent::worst_loss(record, &cells, 4, r);
+                assert_eq!(four, Ok((0, vec![1, 2, 3, 4])));
+            };
             let thread = std::thread::Builder::new().stack_size(64 * 1024);
-            thread
-                .spawn_scoped(scope, planned)
-                .expect("a thread starts");
+            thread.spawn_scoped(scope, called).expect("a thread starts");
         }
     });
 }

@@ -32,7 +32,7 @@ pub fn certify_record(record: &[u8], cells: &[u32], at: u32) -> Result<[u32; NOD
 }
 
 /// The rows of the cells as sets of nodes; refused where one is no row of the cluster, or in too few zones.
-fn rows(c: &Cluster, ground: &Ground, cells: &[u32]) -> Result<[u32; PARTITIONS], u32> {
+pub(crate) fn rows(c: &Cluster, ground: &Ground, cells: &[u32]) -> Result<[u32; PARTITIONS], u32> {
     let mut rows = [0; PARTITIONS];
     let (used, unused) = cells[..8 * PARTITIONS].split_at(8 * c.partitions());
     for (row, cells) in rows.iter_mut().zip(used.chunks_exact(8)) {
