@@ -19,13 +19,17 @@ pub fn worst_loss_record(
     if number > MOST_LOST || number as usize > c.nodes.len() {
         return Err(4);
     }
-    let rows = &checked(&c, cells)?[..c.partitions()];
-    let lowest = (1 << number) - 1;
+    let mut rows = checked(&c, cells)?;
+    rows[c.partitions()..].fill(u32::MAX);
     let walk = Walk {
-        rows,
+        rows: &rows,
         nodes: c.nodes.len() as u32,
     };
-    let (lost, set) = walk.worst(0, number, 0, (lost(rows, lowest), lowest));
+    let mut worst = (0, (1 << number) - 1);
+    if number > 0 {
+        worst = walk.worst(0, number, 0, worst);
+    }
+    let (lost, set) = worst;
     let mut ids = [0; MOST_LOST as usize];
     for (id, b) in ids.iter_mut().zip(members(set)) {
         *id = c.nodes[b].id;
@@ -62,23 +66,27 @@ fn lost(rows: &[u32], set: u32) -> u32 {
     rows.iter().map(is_lost).sum()
 }
 
-/// The rows of a layout and the number of nodes.
+/// The rows of a layout and the number of nodes. Rows past the layout have all 32 nodes, and so are never lost: the
+/// compiler knows how many rows there are, and counts quicker.
 struct Walk<'a> {
-    rows: &'a [u32],
+    rows: &'a [u32; PARTITIONS],
     nodes: u32,
 }
 
 impl Walk<'_> {
     /// The best so far, or the first of those that cost most of the sets that have this one and so many nodes
-    /// more, from one on, where it costs more.
-    fn worst(&self, from: u32, left: u32, set: u32, best: (u32, u32)) -> (u32, u32) {
-        if left == 0 {
-            let lost = lost(self.rows, set);
-            return if lost > best.0 { (lost, set) } else { best };
-        }
-        let mut best = best;
+    /// more, one at least, from one on, where it costs more. The last of them are counted without a call for each.
+    fn worst(&self, from: u32, left: u32, set: u32, mut best: (u32, u32)) -> (u32, u32) {
         for b in from..=self.nodes - left {
-            best = self.worst(b + 1, left - 1, set | 1 << b, best);
+            let set = set | 1 << b;
+            if left > 1 {
+                best = self.worst(b + 1, left - 1, set, best);
+                continue;
+            }
+            let lost = lost(self.rows, set);
+            if lost > best.0 {
+                best = (lost, set);
+            }
         }
         best
     }
