@@ -71,8 +71,9 @@ where-below ns n few =
 
 -- ---- the search
 
-module _ (ns : List Node) (rows : List ℕ) (L : Layout) (few : length ns ≤ mostNodes)
-    (same : (set : ℕ) → lostRows rows set ≡ lossOf L (idsWhere ns (bit set))) where
+-- The rows that are searched are those of the layout and `past` more, which are lost with every set.
+module _ (ns : List Node) (rows : List ℕ) (L : Layout) (past : ℕ) (few : length ns ≤ mostNodes)
+    (same : (set : ℕ) → lostRows rows set ≡ lossOf L (idsWhere ns (bit set)) + past) where
   abbrev ids : ℕ → List ℕ
   ids set = idsWhere ns (bit set)
 

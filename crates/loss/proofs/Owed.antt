@@ -1,6 +1,6 @@
 -- What is found is the worst set of the terms, and what is owed.
 -- Assumes nothing.
-use Prim.Native.Nat.{ℕ, _-_, _≤_}
+use Prim.Native.Nat.{ℕ, _+_, _-_, _≤_}
 use mathlib.Core.Path.{_≡_, sym, ap, ap₂, _∙_, subst}
 use mathlib.Core.Bool.{true≢false}
 use mathlib.Core.List.{List, [], _++_}
@@ -13,7 +13,7 @@ use Rattle.sums.specs.TermsSums.{tab}
 use Rattle.sums.proofs.Sum.{eq-or-ne}
 use Rattle.sets.specs.ModelBits.{bit, belowOf}
 use Rattle.cells.proofs.Cells.{length-tab, getD-tab}
-use Rattle.cluster.specs.Terms.{mostNodes, topology, idsIn}
+use Rattle.cluster.specs.Terms.{mostNodes, bufferRows, topology, partitions, idsIn}
 use Rattle.cluster.specs.declared.Cluster.{Cluster}
 use Rattle.cluster.proofs.Accepting.{few-nodes, nodes-count}
 use Rattle.cell_rows.proofs.CellRows.{getD-zeros, rising-ids}
@@ -31,7 +31,7 @@ use Rattle.loss.specs.TermsLossAnswer.{lossFault, layoutIn, worstIn, los
 use Rattle.loss.specs.declared.worst.Loss.{Loss}
 use Rattle.loss.proofs.LossOrder.{all-pass, few-enough, in-range}
 use Rattle.loss.proofs.RowsLost.{own-ids}
-use Rattle.loss.proofs.Passed.{setRows, cluster-accepted, layout-valid, loss-same}
+use Rattle.loss.proofs.Passed.{SetRows, cluster-accepted, layout-valid, loss-same}
 use Rattle.loss.proofs.Safe.{few-safe}
 
 -- Nodes, then zeros, in as many cells as can be asked for.
@@ -46,19 +46,18 @@ module _ (c : Cluster) (cells : List ℕ) (number : ℕ) where
     abbrev passed : checkOf c cells 1 .refusal ≡ 0
     passed = all-pass c cells number e .0
 
-    abbrev rows : List ℕ
-    rows = setRows c cells
-
-    -- What the search over the masks of the rows finds.
-    pub found-worst : (r : Found) → r ≡ searched rows number 0 (length (topology c .nodes)) 0 (costing rows (belowOf number))
-        → (r .lost ≡ lossOf (layoutIn c cells) (worstIn c cells number)) × (idsWhere (topology c .nodes) (bit (r .set)) ≡ worstIn c cells number)
+    -- What the search over the rows finds.
+    pub found-worst : (rows : List ℕ) → SetRows c cells rows → (r : Found) → r ≡ searched rows number 0 (length (topology c .nodes)) 0 (costing rows (belowOf number))
+        → (r .lost ≡ lossOf (layoutIn c cells) (worstIn c cells number) + (bufferRows - partitions (topology c)))
+        × (idsWhere (topology c .nodes) (bit (r .set)) ≡ worstIn c cells number)
     unfolding worstIn worstSet costing
-    found-worst r q =
-        let same : (m : ℕ) → lostRows rows m ≡ lossOf (layoutIn c cells) (idsWhere (topology c .nodes) (bit m)) =
-        λ m. loss-same c cells passed m (idsWhere (topology c .nodes) (bit m)) (own-ids (topology c .nodes) (cluster-accepted c cells passed .few) (cluster-accepted c cells passed .ids) m) in
-        let w = finds-worst (topology c .nodes) rows (layoutIn c cells) (cluster-accepted c cells passed .few) same number in
+    found-worst rows are r q =
+        let past = bufferRows - partitions (topology c) in
+        let same : (m : ℕ) → lostRows rows m ≡ lossOf (layoutIn c cells) (idsWhere (topology c .nodes) (bit m)) + past =
+        λ m. loss-same c cells passed rows are m (idsWhere (topology c .nodes) (bit m)) (own-ids (topology c .nodes) (cluster-accepted c cells passed .few) (cluster-accepted c cells passed .ids) m) in
+        let w = finds-worst (topology c .nodes) rows (layoutIn c cells) past (cluster-accepted c cells passed .few) same number in
         let s : r .set ≡ w .0 = ap (λ (f : Found). f .set) (q ∙ w .1) in (
-          ap (λ (f : Found). f .lost) (q ∙ w .1) ∙ (same (w .0) ∙ ap (lossOf (layoutIn c cells)) (w .2)),
+          ap (λ (f : Found). f .lost) (q ∙ w .1) ∙ (same (w .0) ∙ ap (λ (Y : List ℕ). lossOf (layoutIn c cells) Y + past) (w .2)),
           ap (λ (m : ℕ). idsWhere (topology c .nodes) (bit m)) s ∙ w .2,
         )
 

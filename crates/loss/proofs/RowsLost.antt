@@ -1,6 +1,6 @@
 -- A row, as a set of nodes, is lost with a set of nodes where its ids are lost with the ids of these, so that as many rows are lost.
 -- Assumes nothing.
-use Prim.Native.Nat.{ℕ, _+_, _≤_, _<_}
+use Prim.Native.Nat.{ℕ, _+_, _-_, _*_, _≤_, _<_}
 use mathlib.Core.Path.{_≡_, refl, sym, ap, _∙_}
 use mathlib.Core.Bool.{true, not}
 use mathlib.Core.List.{List, [], _∷_}
@@ -9,19 +9,17 @@ use native.Mathlib.Omega.{arith}
 use lib.Dec.{eqb}
 use lib.ListN.{length, getD}
 use borrow.Author.Tests.{eqb-true, eq-eqb, ne-eqb}
-use Rattle.sums.specs.TermsSums.{sumTo, one-if, tab}
-use Rattle.sums.proofs.Sum.{lt-or-ge, sum-first, sum-cong}
+use Rattle.sums.specs.TermsSums.{sumTo, one-if}
+use Rattle.sums.proofs.Sum.{lt-or-ge, sum-first, sum-cong, sum-const, sum-part}
 use Rattle.sums.proofs.Tests.{true-or-false, one-if-le}
 use Rattle.sets.specs.ModelBits.{maskBits, bit, maskOf, differenceOf}
 use Rattle.sets.proofs.Laws.{bit-le, bit-zero, bit-none, bit-maskOf, bit-mask-high, difference-lt, bit-difference}
-use Rattle.cells.proofs.Cells.{length-tab, getD-tab}
-use Rattle.cluster.specs.Terms.{mostNodes, noNode, idsOf, mem, rising, Layout, row, onlyIn, rowAt, idsIn, rowsIn}
+use Rattle.cluster.specs.Terms.{mostNodes, bufferRows, noNode, idsOf, mem, rising, Layout, row, onlyIn, rowAt, idsIn, rowsIn}
 use Rattle.cluster.specs.declared.Node.{Node}
 use Rattle.cluster.proofs.Lists.{same-test}
 use Rattle.cell_rows.proofs.CellLayouts.{length-rowsIn, row-rowsIn}
 use Rattle.incidence.specs.ModelIncidence.{bitsOf, idsWhere}
 use Rattle.incidence.proofs.TieRows.{known-id, where-bit}
-use Rattle.masks.specs.ModelMasks.{rowMask}
 use Rattle.layouts.proofs.RowFaults.{only-none, none-only}
 use Rattle.loss.specs.TermsLoss.{lossOf}
 use Rattle.loss.specs.ModelSearch.{rowLost, lostRows}
@@ -89,17 +87,24 @@ module _ (ns : List Node) (few : length ns ≤ mostNodes) (ids : rising (idsOf n
         same-test (eqb left 0) (eqb (onlyIn r X) 0) (λ e. eq-eqb (onlyIn r X) 0 (only-none r X (inside (eqb-true left 0 e))))
         (λ e. eq-eqb left 0 (bit-none maskBits left (difference-lt mask set) (outside (eqb-true (onlyIn r X) 0 e))))
 
-  -- As many rows are lost.
-  pub rows-same : (cells : List ℕ) (n : ℕ) → ((p : ℕ) → p < n → rowMask ns cells p ≡ maskOf (bitsOf ns (idsIn (rowAt cells p))) (length ns))
-      → ((p : ℕ) → p < n → (i : ℕ) → mem i (idsIn (rowAt cells p)) ≡ true → mem i (idsOf ns) ≡ true)
-      → (set : ℕ) (X : List ℕ) → HasThose ns set X → lostRows (tab (λ p. rowMask ns cells p) n) set ≡ lossOf (rowsIn n cells) X
-  unfolding lostRows
-  rows-same cells n masks known set X those =
-      let rows = tab (λ p. rowMask ns cells p) n in
-      ap (λ (k : ℕ). sumTo k (rowLost rows set)) (length-tab (λ p. rowMask ns cells p) n)
-      ∙ (sum-cong n (rowLost rows set) (λ p. one-if (eqb (onlyIn (row (rowsIn n cells) p) X) 0))
-      (λ p h. ap (λ (m : ℕ). one-if (eqb (differenceOf m set) 0)) (getD-tab (λ q. rowMask ns cells q) n p 0 h ∙ masks p h)
-      ∙ (ap one-if (row-same (idsIn (rowAt cells p)) set X those (known p h))
-      ∙ ap (λ (r : List ℕ). one-if (eqb (onlyIn r X) 0)) (sym (row-rowsIn n cells p h))))
+  -- As many rows are lost, and those past the layout's own, which are empty.
+  pub rows-same : (cells rows : List ℕ) (n : ℕ) → n ≤ bufferRows → ((p : ℕ) → p < n → getD rows p 0 ≡ maskOf (bitsOf ns (idsIn (rowAt cells p))) (length ns))
+      → ((p : ℕ) → n ≤ p → getD rows p 0 ≡ 0) → ((p : ℕ) → p < n → (i : ℕ) → mem i (idsIn (rowAt cells p)) ≡ true → mem i (idsOf ns) ≡ true)
+      → (set : ℕ) (X : List ℕ) → HasThose ns set X → lostRows rows set ≡ lossOf (rowsIn n cells) X + (bufferRows - n)
+  unfolding lostRows one-if
+  rows-same cells rows n h masks past known set X those =
+      let own : sumTo n (rowLost rows set) ≡ lossOf (rowsIn n cells) X =
+      sum-cong n (rowLost rows set) (λ p. one-if (eqb (onlyIn (row (rowsIn n cells) p) X) 0))
+      (λ p l. ap (λ (m : ℕ). one-if (eqb (differenceOf m set) 0)) (masks p l)
+      ∙ (ap one-if (row-same (idsIn (rowAt cells p)) set X those (known p l))
+      ∙ ap (λ (r : List ℕ). one-if (eqb (onlyIn r X) 0)) (sym (row-rowsIn n cells p l))))
       ∙ sym (loss-sum (rowsIn n cells) X
-      ∙ ap (λ (k : ℕ). sumTo k (λ p. one-if (eqb (onlyIn (row (rowsIn n cells) p) X) 0))) (length-rowsIn n cells)))
+      ∙ ap (λ (k : ℕ). sumTo k (λ p. one-if (eqb (onlyIn (row (rowsIn n cells) p) X) 0))) (length-rowsIn n cells)) in
+      let others : sumTo (bufferRows - n) (λ t. rowLost rows set (n + t)) ≡ (bufferRows - n) * 1 =
+      sum-cong (bufferRows - n) (λ t. rowLost rows set (n + t)) (λ t. 1)
+      (λ t l. ap one-if (eq-eqb (differenceOf (getD rows (n + t) 0) set) 0 (ap (λ (m : ℕ). differenceOf m set) (past (n + t) (omega arith)) ∙ none-left set)))
+      ∙ sum-const (bufferRows - n) 1 in
+      omega (arith, sum-part bufferRows n (bufferRows - n) (rowLost rows set) (omega arith), own, others)
+    where
+      none-left : (t : ℕ) → differenceOf 0 t ≡ 0
+      none-left t = bit-none maskBits (differenceOf 0 t) (difference-lt 0 t) (λ b l. omega (arith, bit-difference 0 t b l, bit-zero b))

@@ -5,12 +5,14 @@ use mathlib.Core.Path.{_≡_, refl, sym, ap, _∙_}
 use mathlib.Core.List.{List}
 use native.Mathlib.Omega.{arith}
 use native.Mathlib.Numerals.{add-one}
+use lib.Dec.{ltb}
 use lib.ListN.{getD}
-use borrow.Author.Tests.{eq-eqb, ne-eqb}
+use borrow.Author.Tests.{eq-eqb, ne-eqb, le-ltb}
 use Rattle.sums.specs.TermsSums.{sumTo, one-if}
 use Rattle.sums.proofs.Sum.{sum-next}
-use Rattle.sets.specs.ModelBits.{withOf, differenceOf}
-use Rattle.loss.specs.ModelSearch.{rowLost, keptOf, searched}
+use Rattle.sets.specs.ModelBits.{maskBits, withOf, differenceOf, belowOf}
+use Rattle.sets.proofs.Laws.{bit-none, bit-below-not, mask-lt}
+use Rattle.loss.specs.ModelSearch.{rowLost, lostRows, costing, keptOf, searched}
 use Rattle.loss.specs.declared.search.Found.{Found}
 
 -- ---- counting
@@ -32,6 +34,14 @@ module _ (rows : List ℕ) (set p lost left : ℕ) (inv : lost ≡ sumTo p (rowL
 pub none-left : (rows : List ℕ) (left i k set : ℕ) (best : Found) → left ≡ 0 → searched rows left i k set best ≡ keptOf rows set best
 unfolding searched
 none-left rows left i k set best z = ap (λ (x : ℕ). searched rows x i k set best) z
+
+-- Of none there is one set.
+pub none-asked : (rows : List ℕ) (number k : ℕ) → number ≡ 0 → costing rows (belowOf number) ≡ searched rows number 0 k 0 (costing rows (belowOf number))
+unfolding costing keptOf belowOf
+none-asked rows number k z =
+    let low : belowOf number ≡ 0 = bit-none maskBits (belowOf number) (mask-lt (λ j. one-if (ltb j number)) maskBits) (λ j l. bit-below-not number j (omega arith)) in
+    sym (none-left rows number 0 k 0 (costing rows (belowOf number)) z
+    ∙ rw (le-ltb (lostRows rows (belowOf number)) (lostRows rows 0) (omega (arith, ap (lostRows rows) low))) refl)
 
 -- Where there are fewer nodes than are to be taken off, no set is met.
 pub too-few : (rows : List ℕ) (left i k set : ℕ) (best : Found) → k < left → searched rows left i k set best ≡ best

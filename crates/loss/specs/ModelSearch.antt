@@ -4,8 +4,9 @@ use Prim.Native.Nat.{ℕ, zero, suc}
 use mathlib.Core.Bool.{cond}
 use mathlib.Core.List.{List}
 use lib.Dec.{ltb, eqb}
-use lib.ListN.{length, getD}
+use lib.ListN.{getD}
 use Rattle.sums.specs.TermsSums.{sumTo, one-if}
+use Rattle.cluster.specs.Terms.{bufferRows}
 use Rattle.sets.specs.ModelBits.{withOf, differenceOf}
 use Rattle.loss.specs.declared.search.Found.{Found}
 
@@ -13,9 +14,9 @@ use Rattle.loss.specs.declared.search.Found.{Found}
 abbrev pub rowLost : List ℕ → ℕ → ℕ → ℕ
 rowLost rows set p = one-if (eqb (differenceOf (getD rows p 0) set) 0)
 
--- How many rows have all their nodes in a set.
+-- How many rows of a buffer have all their nodes in a set. Rows past those of the layout are empty, and are lost with every set.
 unfoldable pub lostRows : List ℕ → ℕ → ℕ
-lostRows rows set = sumTo (length rows) (rowLost rows set)
+lostRows rows set = sumTo bufferRows (rowLost rows set)
 
 -- A set with what it costs.
 abbrev pub found : ℕ → ℕ → Found

@@ -57,9 +57,11 @@ fn lost_of(c: Cluster, assignment: &[u32], given: &[u32]) -> u32
 {
     let partitions = cluster::partitions(c.bits);
     let set = set_of(c, given);
-    let mut rows = [0u32; Cluster::PARTITIONS];
-    masks::read_masks(c, assignment, partitions, &mut rows);
-    rows::lost_rows(&rows[..partitions], set)
+    let mut sets = [0u32; Cluster::PARTITIONS];
+    masks::read_masks(c, assignment, partitions, &mut sets);
+    let lost = rows::lost_rows(&sets, set);
+    let past = rows::past(partitions);
+    lost - past
 }
 
 // The loss of given nodes, whichever ids are given and in which order: an id of no node costs nothing.

@@ -7,6 +7,7 @@ ghost use Rattle.cluster.specs.Terms.{topology};
 ghost use Rattle.incidence.specs.ModelIncidence.{idsWhere};
 ghost use Rattle.loss.specs.TermsLoss.{mostLost, lossOf};
 ghost use Rattle.loss.specs.TermsLossAnswer.{layoutIn, lossFault, worstIn, worstLoss, LossOwed};
+use super::rows;
 use super::search;
 use super::search::Found;
 use cluster::Cluster;
@@ -69,7 +70,7 @@ fn ids_of_set(c: Cluster, set: u32) -> [u32; MOST]
     [row[0], row[1], row[2], row[3]]
 }
 
-// The worst set of so many nodes, with what it costs. The rows past the partitions are no rows of the layout: as sets they would be empty, and lost.
+// The worst set of so many nodes, with what it costs.
 fn worst_of(c: Cluster, assignment: &[u32], number: u32) -> Found
     requires { ⌜ lossFault c (now assignment) number .refusal ≡ 0 ⌝ }
     ensures { λ r. ⌜ (r .lost ≡ lossOf (layoutIn c (now (assignment .entry))) (worstIn c (now (assignment .entry)) number))
@@ -77,9 +78,14 @@ fn worst_of(c: Cluster, assignment: &[u32], number: u32) -> Found
 {
     let partitions = cluster::partitions(c.bits);
     let n = zones::used(c);
-    let mut rows = [0u32; Cluster::PARTITIONS];
-    masks::read_masks(c, assignment, partitions, &mut rows);
-    search::worst(&rows[..partitions], n as u32, number)
+    let mut sets = [0u32; Cluster::PARTITIONS];
+    masks::read_masks(c, assignment, partitions, &mut sets);
+    let found = search::worst(&sets, n as u32, number);
+    let past = rows::past(partitions);
+    Found {
+        lost: found.lost - past,
+        set: found.set,
+    }
 }
 
 // The worst loss of so many nodes.

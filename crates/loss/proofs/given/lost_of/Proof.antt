@@ -2,17 +2,17 @@
 -- Assumes nothing.
 use borrow.Author.Needs.{needs}
 use native.Mathlib.Omega.{arith}
-use Prim.Native.Nat.{ℕ}
-use mathlib.Core.Path.{_≡_, sym, ap, ap₂, _∙_}
-use lib.ListN.{length, take}
-use Rattle.sums.specs.TermsSums.{tab}
-use Rattle.cells.proofs.Cells.{length-tab}
-use Rattle.cluster.specs.Terms.{topology, partitions}
+use Prim.Native.Nat.{ℕ, _+_, _-_}
+use mathlib.Core.Path.{_≡_, ap, _∙_}
+use mathlib.Core.List.{[]}
+use Rattle.cell_rows.proofs.CellRows.{getD-zeros}
+use Rattle.cluster.specs.Terms.{bufferRows, topology, partitions}
 use Rattle.cluster.proofs.Accepting.{partitions-in-range}
-use Rattle.masks.specs.ModelMasks.{rowMask}
+use Rattle.loss.specs.TermsLoss.{lossOf}
+use Rattle.loss.specs.TermsLossAnswer.{layoutIn}
 use Rattle.loss.specs.ModelSearch.{lostRows}
 use Rattle.loss.proofs.RowsLost.{given-ids}
-use Rattle.loss.proofs.Passed.{masks-first, cluster-accepted, loss-same}
+use Rattle.loss.proofs.Passed.{sets-read, cluster-accepted, loss-same}
 use Rattle.loss.proofs.given.lost_of.Statement.{statement}
 use Rattle.loss.proofs.given.lost_of.Tie as tie
 
@@ -28,41 +28,42 @@ slice-aggregate-read-masks c = search needs
 read-masks-requires : tie.Need-read-masks-requires
 read-masks-requires c κs = search needs
 
-array-share-prefix-rows : tie.Need-array-share-prefix-rows
-array-share-prefix-rows c = search needs
-
--- The rows that are counted are the masks of the partitions.
-cut : (c : tie.After-rows3) → let s = c .before .before .before .before .before .before .before .before in
-    take (c .before .before .before .before .before .partitions .result) (c .before .before .read-masks .last .1 .1 .1 .0)
-    ≡ tab (λ p. rowMask (topology (s .args .c) .nodes) (s .args .assignment .now) p) (c .before .before .before .before .before .partitions .result)
-cut c =
-    let s = c .before .before .before .before .before .before .before .before in
-    masks-first (topology (s .args .c) .nodes) (s .args .assignment .now) _ _ _ (omega arith) (search needs) (c .before .before .read-masks .ensures)
-
-many : (c : tie.After-rows3)
-    → length (take (c .before .before .before .before .before .partitions .result) (c .before .before .read-masks .last .1 .1 .1 .0))
-    ≡ c .before .before .before .before .before .partitions .result
-many c = ap length (cut c) ∙ length-tab _ _
-
 slice-aggregate-lost-rows : tie.Need-slice-aggregate-lost-rows
-slice-aggregate-lost-rows c = sym (many c)
+slice-aggregate-lost-rows c = search needs
 
 lost-rows-requires : tie.Need-lost-rows-requires
-lost-rows-requires c κs = omega (arith, many c)
+lost-rows-requires c κs = search needs
+
+past-requires : tie.Need-past-requires
+past-requires c κs = search needs
+
+-- All rows that are lost, and those past the partitions.
+total : (c : tie.After-lost-rows) → let a = c .before .before .before .before .before .before .before .before .before .args in
+    c .lost-rows .result ≡ lossOf (layoutIn (a .c) (a .assignment .now)) (a .given .now) + (bufferRows - partitions (topology (a .c)))
+total c =
+    let s = c .before .before .before .before .before .before .before .before .before in
+    let a = s .args in
+    let p = c .before .before .before .before .before .before .partitions in
+    let many : p .result ≡ partitions (topology (a .c)) =
+    p .ensures .0 ∙ partitions-in-range (a .c .bits) (cluster-accepted (a .c) (a .assignment .now) (s .pre) .bits) in
+    let are = sets-read (a .c) (a .assignment .now) _ _ (p .result) many (omega arith) (search needs) (getD-zeros [] bufferRows) (c .before .before .before .read-masks .ensures) in
+    c .lost-rows .ensures
+    ∙ (ap (lostRows _) (c .before .before .before .before .before .set-of .ensures)
+    ∙ loss-same (a .c) (a .assignment .now) (s .pre) _ are _ (a .given .now) (given-ids (topology (a .c) .nodes) (a .given .now)))
+
+-- The rows past the partitions.
+left : (c : tie.After-past) → let a = c .before .before .before .before .before .before .before .before .before .before .args in c .past .result ≡ bufferRows - partitions (topology (a .c))
+left c =
+    let s = c .before .before .before .before .before .before .before .before .before .before in
+    let a = s .args in
+    c .past .ensures
+    ∙ ap (λ (n : ℕ). bufferRows - n) (c .before .before .before .before .before .before .before .partitions .ensures .0 ∙ partitions-in-range (a .c .bits) (cluster-accepted (a .c) (a .assignment .now) (s .pre) .bits))
+
+sub-result : tie.Need-sub-result
+sub-result c = omega (arith, total (c .before), left c)
 
 returns : tie.Need-returns
-returns c =
-    let k = c .before in
-    let s = k .before .before .before .before .before .before .before .before in
-    let a = s .args in
-    let t = topology (a .c) in
-    let ok = cluster-accepted (a .c) (a .assignment .now) (s .pre) in
-    let p = k .before .before .before .before .before .partitions in
-    let set = k .before .before .before .before .set-of in
-    let rows : take (p .result) (k .before .before .read-masks .last .1 .1 .1 .0) ≡ tab (λ q. rowMask (t .nodes) (a .assignment .now) q) (partitions t) =
-    cut k ∙ ap (λ (n : ℕ). tab (λ q. rowMask (t .nodes) (a .assignment .now) q) n) (p .ensures .0 ∙ partitions-in-range (a .c .bits) (ok .bits)) in
-    c .lost-rows .ensures
-    ∙ (ap₂ lostRows rows (set .ensures) ∙ loss-same (a .c) (a .assignment .now) (s .pre) _ (a .given .now) (given-ids (t .nodes) (a .given .now)))
+returns c = omega (arith, total (c .before), left c)
 
 pub lost-of-spec : {M : Type 1} → statement M
 lost-of-spec =
@@ -72,7 +73,8 @@ lost-of-spec =
     set-of-requires
     slice-aggregate-read-masks
     read-masks-requires
-    array-share-prefix-rows
     slice-aggregate-lost-rows
     lost-rows-requires
+    past-requires
+    sub-result
     returns)

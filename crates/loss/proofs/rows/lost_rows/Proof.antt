@@ -5,18 +5,18 @@ use mathlib.Core.Path.{_≡_, refl, ap, _∙_}
 use mathlib.Core.Logic.{⊎-elim}
 use native.Mathlib.Omega.{arith}
 use borrow.Author.Needs.{needs}
-use lib.ListN.{length}
 use Rattle.sums.specs.TermsSums.{sumTo}
+use Rattle.cluster.specs.Terms.{bufferRows}
 use Rattle.loss.specs.ModelSearch.{rowLost, lostRows}
 use Rattle.loss.proofs.Steps.{row-lost, row-held}
 use Rattle.loss.proofs.rows.lost_rows.Statement.{statement}
 use Rattle.loss.proofs.rows.lost_rows.Tie as tie
 
 abbrev Inv-loop : tie.InvT-loop
-Inv-loop rows set lost₀ p₀ lost p = (p ≤ length rows) × (lost ≤ p) × (lost ≡ sumTo p (rowLost rows set))
+Inv-loop rows set lost₀ p₀ lost p = (p ≤ bufferRows) × (lost ≤ p) × (lost ≡ sumTo p (rowLost rows set))
 
 abbrev μ-loop : tie.MeasureT-loop
-μ-loop rows set lost₀ p₀ lost p = length rows - p
+μ-loop rows set lost₀ p₀ lost p = bufferRows - p
 
 loop-holds : tie.Need-loop-holds Inv-loop μ-loop
 unfolding sumTo
@@ -53,7 +53,7 @@ loop-again c =
 
 returns : tie.Need-returns Inv-loop μ-loop
 unfolding lostRows
-returns c = let a = c .before .before .before .args in let e : c .before .loop .p ≡ length (a .rows .now) = omega arith in c .before .loop .inv .2 ∙ ap (λ x. sumTo x (rowLost (a .rows .now) (a .set))) e
+returns c = let a = c .before .before .before .args in let e : c .before .loop .p ≡ bufferRows = omega arith in c .before .loop .inv .2 ∙ ap (λ x. sumTo x (rowLost (a .rows .now) (a .set))) e
 
 pub lost-rows-spec : {M : Type 1} → statement M
 lost-rows-spec =
