@@ -170,23 +170,7 @@ fn disk_room(node: &Node, partitions: u64, size: u64) -> u64 {
 #[cfg(test)]
 mod tests {
     use super::*;
-
-    fn cluster(numbers: [u8; 3], nodes: &[(u32, u16, u32)]) -> Cluster {
-        let [bits, replication, redundancy] = numbers;
-        let node = |&(id, zone, capacity): &(u32, u16, u32)| Node {
-            id,
-            zone,
-            capacity,
-            ceiling: Node::NO_CEILING,
-        };
-        Cluster {
-            bits,
-            replication,
-            redundancy,
-            nodes: nodes.iter().map(node).collect(),
-            former: Layout::default(),
-        }
-    }
+    use crate::small::cluster;
 
     /// Example A of the paper, whose size is 23: of 100, 70 and 50 MB 94, 66 and 47 may be filled.
     /// At 24 MB the disks take 2 + 2 + 1 copies, and both zones are touched in 2 + 1 ways.

@@ -76,6 +76,8 @@ mod moves;
 mod plan;
 mod refusal;
 mod rewrite;
+#[cfg(test)]
+mod small;
 pub mod terminal;
 pub mod units;
 mod worst_loss;

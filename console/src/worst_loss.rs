@@ -76,25 +76,8 @@ impl Cluster {
 #[cfg(test)]
 mod tests {
     use super::*;
-    use crate::{Node, Place, Refusal};
-
-    /// A cluster of k, R and Z and of nodes as id, zone and capacity, without ceilings.
-    fn cluster(numbers: [u8; 3], nodes: &[(u32, u16, u32)]) -> Cluster {
-        let [bits, replication, redundancy] = numbers;
-        let node = |&(id, zone, capacity): &(u32, u16, u32)| Node {
-            id,
-            zone,
-            capacity,
-            ceiling: Node::NO_CEILING,
-        };
-        Cluster {
-            bits,
-            replication,
-            redundancy,
-            nodes: nodes.iter().map(node).collect(),
-            former: Layout::default(),
-        }
-    }
+    use crate::small::cluster;
+    use crate::{Place, Refusal};
 
     fn layout(rows: &[&[u32]]) -> Layout {
         (0..).zip(rows).collect()
