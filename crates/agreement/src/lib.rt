@@ -1,4 +1,6 @@
 // The agreement of rows with the former rows: how many pairs of a partition and a node they share, and how many copies are sent for the others.
+#![tactic(auto)]
+
 ghost use Rattle.std.specs.Prelude.{◌≡◌, ◌-◌, ◌*◌, ◌≤◌, length};
 ghost use Rattle.cluster.specs.Terms.{buffer_rows, most_copies};
 ghost use Rattle.agreement.specs.ModelAgreement.{agreement_in, shared_in};

@@ -1,4 +1,6 @@
 // What the C functions share: numbers and nodes in lent cells, and a cluster that enters as its record.
+#![tactic(auto)]
+
 ghost use Rattle.std.specs.Prelude.{◌≡◌, ◌++◌, ◌+◌, ◌*◌, ◌/◌, ◌%◌, ◌^◌, ◌≤◌, length, take, drop};
 ghost use Rattle.cluster.specs.Terms.{most_nodes};
 ghost use Rattle.answers.specs.TermsAnswers.{halves, node_cells_width, node_cells};

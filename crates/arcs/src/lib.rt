@@ -1,5 +1,7 @@
 // What rows allow, as three sets for each node: cell a of `arcs` has the nodes that one of a's copies can go to at weight -1, cell NODES + a those at
 // weight 0, and cell 2 * NODES + a those at weight 1. The exchange of a for b in a row has weight 1 where a was in the former row, less 1 where b was.
+#![tactic(auto)]
+
 ghost use Rattle.std.specs.Prelude.{◌≡◌, ◌++◌, ℕ, ◌+◌, ◌/◌, ◌%◌, ◌≤◌, ◌<◌, min, length, drop};
 ghost use Rattle.sums.specs.TermsSums.{tab};
 ghost use Rattle.cluster.specs.Terms.{most_nodes, buffer_rows};

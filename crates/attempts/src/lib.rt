@@ -1,5 +1,7 @@
 // An attempt to bring a pair in, by a circuit of even exchanges. leads[u] holds at least the nodes to which u could give way evenly in free pairs, or over the
 // store; a member that turns out to be nowhere is taken off when a way needs it.
+#![tactic(auto)]
+
 ghost use Rattle.std.specs.Prelude.{◌≡◌, true, cond, suc, ◌≤◌, ◌<◌, length, get_or};
 ghost use Rattle.cluster.specs.Terms.{most_nodes, buffer_rows};
 ghost use Rattle.levels.specs.ModelGraph.{arc_cells};

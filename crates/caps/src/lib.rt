@@ -1,5 +1,7 @@
 // What is read off the nodes of a cluster: the sets of the nodes of a zone, the most copies that each may hold at a size, and the largest usable capacity.
 // Every function is total.
+#![tactic(auto)]
+
 ghost use Rattle.std.specs.Prelude.{◌≡◌, ℕ, ◌≤◌, ◌<◌, length};
 ghost use Rattle.cluster.specs.Terms.{topology, node_at, usable};
 ghost use Rattle.cluster.specs.TermsReading.{Fits32};

@@ -1,4 +1,6 @@
 // Rows of lent cells: eight cells to a partition, or sixteen in a buffer of wide rows; rising ids first, then zeros.
+#![tactic(auto)]
+
 ghost use Rattle.std.specs.Prelude.{◌≡◌, ◌+◌, ◌-◌, ◌^◌, ◌≤◌, ◌<◌, length, take, drop};
 ghost use Rattle.cluster.specs.Terms.{buffer_rows, wide_row_cells, wide_cells, row_of, blank, formed};
 ghost use Rattle.cell_rows.specs.ModelRows.{id_count, row_ids, row_is_blank};

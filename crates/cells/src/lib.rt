@@ -1,4 +1,6 @@
 // Lists of cells, tabulated and overwritten from a place on (specs/ and proofs/), and numbers copied into lent cells.
+#![tactic(auto)]
+
 ghost use Rattle.std.specs.Prelude.{◌≡◌, ◌++◌, ◌+◌, ◌≤◌, length, take, drop};
 
 // Copies cells to the front of lent ones.

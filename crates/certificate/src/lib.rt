@@ -1,4 +1,6 @@
 // Certificates: a price for each node, by which anybody can check with sums alone that a layout in hand has the largest size and sends the fewest copies.
+#![tactic(auto)]
+
 ghost use Rattle.std.specs.Prelude.{◌≡◌};
 ghost use Rattle.cluster.specs.Terms.{topology};
 ghost use Rattle.certificate.specs.TermsCertify.{certify_fault, former_in, new_in, unpriced, certified_of, Owed};

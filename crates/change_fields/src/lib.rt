@@ -1,4 +1,6 @@
 // A change of the nodes, and its field: read from the bytes of a record, and put as bytes.
+#![tactic(auto)]
+
 ghost use Rattle.std.specs.Prelude.{◌≡◌, ◌+◌, ◌≤◌, length};
 ghost use Rattle.fields.specs.ModelTags.{tags_of};
 ghost use Rattle.fields.specs.RecordField.{written};

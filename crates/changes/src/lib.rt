@@ -1,4 +1,6 @@
 // Changes of the nodes of a cluster in hand, one at a time, each with the change that reverses it.
+#![tactic(auto)]
+
 ghost use Rattle.std.specs.Prelude.{◌≡◌};
 ghost use Rattle.cluster.specs.Terms.{fault_of};
 ghost use Rattle.changes.specs.TermsChanges.{change_refused, change_read, change_of};

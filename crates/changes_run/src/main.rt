@@ -1,6 +1,8 @@
 // Makes changes that it reads from standard input, each on a line of its own: a name, a `=`, a letter for the cluster, and hexadecimal digits, two
 // for the byte at which the change begins (ff for the largest number of 64 bits) and the others for the record. It prints for each the name, the
 // refusal, the byte that was answered, the reverse, and the nodes afterwards. The clusters have junk in slots that are not in use.
+#![tactic(auto)]
+
 use cluster::{Cluster, Node};
 
 mod print;
@@ -112,7 +114,7 @@ fn change_line(text: &[u8], from: usize, last: Cluster) -> Cluster {
     }
     let c = cluster_of(text[from], last);
     let mut bytes = [0u8; 64];
-    let n = hex::decode(text, from + 1, &mut bytes);
+    let n = hex_digits::decode(text, from + 1, &mut bytes);
     if n == 0 {
         return last;
     }

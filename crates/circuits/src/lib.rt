@@ -1,6 +1,8 @@
 // From a cycle of the exchange graph to the exchanges in the rows: each arc gets a partition in which it is an exchange, the circuit is freed of
 // crossed pairs, and its exchanges are made. A circuit that was turned may stand again in the new rows, at other partitions. A row is a set of nodes;
 // a walk of m arcs is two slices, its m + 1 nodes and the partitions of its arcs.
+#![tactic(auto)]
+
 ghost use Rattle.std.specs.Prelude.{◌≡◌, true, ◌≤◌, ◌<◌, length};
 ghost use Rattle.cluster.specs.Terms.{most_nodes, buffer_rows};
 ghost use Rattle.exchange.specs.ModelUncross.{Same};

@@ -1,4 +1,6 @@
 // What planning leaves: clear scratch.
+#![tactic(auto)]
+
 ghost use Rattle.std.specs.Prelude.{◌≡◌, ◌++◌, ◌≤◌, length, drop, replicate};
 ghost use Rattle.cluster.specs.Terms.{scratch_cells};
 

@@ -1,4 +1,6 @@
 // A cluster in hand: its limits, its nodes, and what makes it acceptable.
+#![tactic(auto)]
+
 ghost use Rattle.std.specs.Prelude.{◌≡◌, ◌^◌, ◌≤◌, ◌<◌, min};
 ghost use Rattle.cluster.specs.TermsReading.{no_nodes};
 ghost use Rattle.cluster.specs.Terms.{most_bits, buffer_rows, no_node, usable, takes, node_out_of_range, fault_of};

@@ -1,4 +1,6 @@
 // Reading a cluster record field by field: what was read so far, which tags are allowed next, and the walk over the fields as it is defined.
+#![tactic(auto)]
+
 ghost use Rattle.std.specs.Prelude.{◌≡◌};
 ghost use Rattle.fields.specs.ModelTags.{tags_of};
 ghost use Rattle.cluster_reading.specs.RecordClusterReading.{allowed_after};

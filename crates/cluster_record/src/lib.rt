@@ -1,4 +1,6 @@
 // Reading a cluster record: bytes to a cluster and the cells of its former layout.
+#![tactic(auto)]
+
 ghost use Rattle.std.specs.Prelude.{◌≡◌, replicate};
 ghost use Rattle.cluster.specs.Terms.{layout_cells, cells_of};
 ghost use Rattle.cluster.specs.TermsReading.{slots_of};

@@ -1,5 +1,7 @@
 // Reads cluster records from standard input, each on a line of its own as a name, a `=` and hexadecimal digits, and prints
 // for each the name, the refusal, the byte, the number of nodes and the first former cell, which was lent as 7.
+#![tactic(auto)]
+
 use cluster::Cluster;
 
 fn print(refusal: u32, byte: usize, count: usize, cell: u32) {
@@ -28,7 +30,7 @@ fn show_short(bytes: &[u8]) {
 
 fn show_line(text: &[u8], from: usize) {
     let mut bytes = [0u8; 1024];
-    let n = hex::decode(text, from, &mut bytes);
+    let n = hex_digits::decode(text, from, &mut bytes);
     show(&bytes[..n]);
 }
 

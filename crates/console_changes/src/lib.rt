@@ -1,5 +1,7 @@
 // The C function of a change; the cluster enters as its record. It answers its refusal, 0 for none; the bytes of the reverse go into the lent bytes
 // `reverse`, its other numbers into the lent cells `answer`. One of them that is too short is refused before anything is touched.
+#![tactic(auto)]
+
 ghost use Rattle.std.specs.Prelude.{◌≡◌, ◌++◌, ◌≤◌, length, drop};
 ghost use Rattle.cluster.specs.Terms.{most_nodes};
 ghost use Rattle.change_fields.specs.RecordChange.{longest_change};

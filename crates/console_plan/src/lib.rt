@@ -1,5 +1,7 @@
 // Plans, made through C: the function answers its refusal, 0 for none; its other numbers go into the lent cells `answer`, and an `answer` that is too
 // short is refused before anything is touched.
+#![tactic(auto)]
+
 ghost use Rattle.std.specs.Prelude.{◌≡◌, length};
 ghost use Rattle.sums.specs.TermsSums.{one_if};
 ghost use Rattle.cluster.specs.Terms.{topology, partitions, rows_in};

@@ -1,4 +1,6 @@
 // The copies that the nodes hold, counted in the order of the rows.
+#![tactic(auto)]
+
 ghost use Rattle.std.specs.Prelude.{◌≡◌, true, ℕ, ◌+◌, ◌≤◌, ◌<◌, length};
 ghost use Rattle.cluster.specs.Terms.{buffer_rows, layout_cells, topology, partitions, row_at, formed, fault_of};
 ghost use Rattle.copies.specs.TermsCounts.{counts_after};

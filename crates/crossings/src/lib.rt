@@ -1,5 +1,7 @@
 // Pairs of arcs of a closed walk of the exchange graph: the first that can be crossed, and whether the part between two arcs gains. A walk is two slices,
 // its nodes and the partitions of its arcs. A cell past a slice's end counts as 0, and the arcs are numbered by u32, so that the next one is always an index.
+#![tactic(auto)]
+
 ghost use Rattle.std.specs.Prelude.{◌≡◌, ◌+◌, ◌<◌, ◌^◌, get_or};
 ghost use Rattle.sets.specs.ModelBits.{bits_at};
 ghost use Rattle.exchange.specs.ModelUncross.{crosses, partner, first_crossed};

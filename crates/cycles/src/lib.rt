@@ -1,4 +1,6 @@
 // A search for a simple negative cycle in a graph of at most levels::NODES nodes with weights −1, 0 and +1, level by level.
+#![tactic(auto)]
+
 ghost use Rattle.std.specs.Prelude.{◌≡◌, true, ℕ, ◌+◌, ◌≤◌, ◌<◌, length, get_or};
 ghost use Rattle.cells.specs.ModelCells.{put};
 ghost use Rattle.cluster.specs.Terms.{most_nodes};

@@ -1,4 +1,6 @@
 // The copies dealt along the line of them all: which node's copies reach a partition.
+#![tactic(auto)]
+
 ghost use Rattle.std.specs.Prelude.{◌≡◌, ◌≤◌, ◌-◌, ◌+◌, length, get_or};
 ghost use Rattle.sets.specs.ModelBits.{mask_of, with_of};
 ghost use Rattle.cells.specs.ModelCells.{put};

@@ -1,5 +1,7 @@
 // The pairs of a nearest layout are decided one after another, partitions from 0 and nodes by rising id: a pair that some nearest layout with the same
 // pairs before has is brought in by a circuit of even exchanges (`attempts`).
+#![tactic(auto)]
+
 ghost use Rattle.std.specs.Prelude.{◌≡◌, suc, ◌≤◌, ◌<◌, length, get_or};
 ghost use Rattle.cluster.specs.Terms.{most_nodes, buffer_rows};
 ghost use Rattle.levels.specs.ModelGraph.{arc_cells};

@@ -1,5 +1,7 @@
 // Even exchanges: an exchange of a for b in a row is even where the levels of the two differ by just the weight that it loses, 1 where a was in the
 // former row, less 1 where b was. A row is a set of nodes; cell NODES * h + a of `even` has the nodes that stand h - 1 above a.
+#![tactic(auto)]
+
 ghost use Rattle.std.specs.Prelude.{◌≡◌, ◌+◌, ◌≤◌, ◌<◌, length};
 ghost use Rattle.cluster.specs.Terms.{most_nodes};
 ghost use Rattle.levels.specs.ModelGraph.{arc_cells};

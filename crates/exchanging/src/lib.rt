@@ -1,5 +1,7 @@
 // The exchanges of a walk are made in the rows, and what is kept of the rows follows. A row is a set of nodes; a walk of m arcs is two slices, its m + 1
 // nodes and the partitions of its arcs.
+#![tactic(auto)]
+
 ghost use Rattle.std.specs.Prelude.{◌≡◌, ℕ, ◌/◌, ◌≤◌, ◌<◌, max, length, get_or, set};
 ghost use Rattle.cluster.specs.Terms.{buffer_rows};
 ghost use Rattle.sums.specs.ModelSums.{is};

@@ -1,4 +1,6 @@
 // Fields in the bytes of a record: a one-byte tag, a two-byte length and a body.
+#![tactic(auto)]
+
 ghost use Rattle.std.specs.Prelude.{◌≡◌, ◌++◌, ◌+◌, ◌≤◌, ◌<◌, length};
 ghost use Rattle.fields.specs.ModelTags.{tags_of};
 ghost use Rattle.fields.specs.RecordField.{bytes_of, written, head_width, field_at, Within, refusal_of, place_of};

@@ -1,4 +1,6 @@
 // The figures of a layout in hand: copies by node and by zone, and the size to hope for.
+#![tactic(auto)]
+
 ghost use Rattle.std.specs.Prelude.{◌≡◌, ℕ, ◌≤◌, ◌<◌, length, get_or};
 ghost use Rattle.sums.specs.TermsSums.{sum_to};
 ghost use Rattle.cells.specs.ModelCells.{put};

@@ -1,4 +1,6 @@
 // The ordering of a finished run: rows that cannot be improved become the first of the nearest layouts.
+#![tactic(auto)]
+
 ghost use Rattle.std.specs.Prelude.{◌≡◌, ℕ, ◌≤◌, length};
 ghost use Rattle.cluster.specs.Terms.{buffer_rows};
 ghost use Rattle.exchange.specs.ModelRow.{weigh};

@@ -1,5 +1,7 @@
 // A walk is freed of crossed pairs: where two of its arcs stand in each other's way, it goes on with the part between them or with the rest, whichever
 // gains. A walk of m arcs is two slices, its m + 1 nodes and the partitions of its arcs.
+#![tactic(auto)]
+
 ghost use Rattle.std.specs.Prelude.{◌≡◌, ◌+◌, ◌≤◌, ◌<◌, length, get_or};
 ghost use Rattle.cells.specs.ModelCells.{put};
 ghost use Rattle.cluster.specs.Terms.{most_nodes};

@@ -1,6 +1,8 @@
 // The exchange graph of a layout, as three sets for each node (`arcs`); a node with room leads to all nodes at weight 0. What the rows allow is kept in
 // parts (`unions`), so that little is made anew after a turn: part l has the sets of the rows of leaf l, and part unions::LEAVES + i those of branch i. Only
 // leaves with a changed row, and their branches, are looked at again.
+#![tactic(auto)]
+
 ghost use Rattle.std.specs.Prelude.{◌≡◌, ℕ, ◌+◌, ◌*◌, ◌/◌, ◌%◌, ◌^◌, ◌≤◌, ◌<◌, min, length, get_or, ltb};
 ghost use Rattle.sums.specs.TermsSums.{one_if};
 ghost use Rattle.sums.specs.ModelSums.{is};

@@ -1,4 +1,6 @@
 // Writing the fields before the rows of a layout record, from front to back, where they fit.
+#![tactic(auto)]
+
 ghost use Rattle.std.specs.Prelude.{◌≡◌, ◌⊎◌, ◌+◌, ◌≤◌, ◌<◌, length};
 ghost use Rattle.fields.specs.RecordField.{bytes_of, written, field};
 ghost use Rattle.layout_head.specs.RecordHead.{head_fields};

@@ -1,5 +1,7 @@
 // For each node the set of the partitions whose row has it, in words of BITS partitions, and after the sets how many partitions each has: the copies
 // of the node. A node past the last has no set.
+#![tactic(auto)]
+
 ghost use Rattle.std.specs.Prelude.{◌≡◌, ◌≤◌, ◌<◌, ltb, get_or};
 ghost use Rattle.sums.specs.TermsSums.{one_if};
 ghost use Rattle.sums.specs.ModelSums.{is};

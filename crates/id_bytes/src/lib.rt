@@ -1,4 +1,6 @@
 // The ids of a row in the bytes of a record, four bytes each: scanned, where a missing id counts as 0, and put into cells.
+#![tactic(auto)]
+
 ghost use Rattle.std.specs.Prelude.{◌≡◌, ◌+◌, ◌-◌, ◌*◌, ◌/◌, ◌≤◌, length};
 ghost use Rattle.cells.specs.ModelCells.{put};
 ghost use Rattle.cluster.specs.Terms.{row_cells, mem, rising};

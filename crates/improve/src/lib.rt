@@ -1,4 +1,6 @@
 // The run of improvements, until there is none or the allowance is spent.
+#![tactic(auto)]
+
 ghost use Rattle.std.specs.Prelude.{◌≡◌, ◌≤◌, length, replicate};
 ghost use Rattle.cluster.specs.Terms.{buffer_rows};
 ghost use Rattle.cycles.specs.ModelFound.{walk_cells};

@@ -1,4 +1,6 @@
 // What stands before the rows of a layout record: its numbers, their table, and their fields, read.
+#![tactic(auto)]
+
 ghost use Rattle.std.specs.Prelude.{◌≡◌};
 ghost use Rattle.layout_head.specs.RecordHeadFaults.{no_numbers};
 

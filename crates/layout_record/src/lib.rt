@@ -1,4 +1,6 @@
 // Layout records, read and written: the numbers of a layout and its rows.
+#![tactic(auto)]
+
 ghost use Rattle.std.specs.Prelude.{◌≡◌};
 ghost use Rattle.layout_rows.specs.RecordLayoutFaults.{layout_refused};
 ghost use Rattle.layout_record.specs.RecordLayoutAnswer.{layout_answer, read_layout_of, assignment_read, write_answer, out_after};

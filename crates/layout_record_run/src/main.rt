@@ -1,4 +1,6 @@
 // Layout records read and written, each case with its refusal and then its byte, or the record's length.
+#![tactic(auto)]
+
 ghost use Rattle.std.specs.Prelude.{◌<◌, ◌≡◌, length};
 
 use layout_head::Numbers;

@@ -1,4 +1,6 @@
 // The rows of a layout record, and their faults: of a row that is read, and of what is to be written.
+#![tactic(auto)]
+
 ghost use Rattle.std.specs.Prelude.{◌≡◌, ◌+◌, ◌*◌, ◌≤◌, length};
 ghost use Rattle.fields.specs.RecordField.{number_at, ids_at};
 ghost use Rattle.layout_rows.specs.RecordLayoutFaults.{layout_row_fault};

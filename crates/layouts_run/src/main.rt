@@ -2,6 +2,8 @@
 // hexadecimal digits. It prints the name, the refusal, its place, and what else is answered. The digits of a case spell its size, or its partition
 // (four bytes), how many cells are lent (two), what a cell without an id holds (one), and up to two rows: a cell (two) and three ids (one each).
 // Lines whose letter is `C`, `H` or `N` have no name, and give the cluster of the cases after them; a line without a `=` is a remark.
+#![tactic(auto)]
+
 use cluster::Cluster;
 use layouts::check;
 
@@ -120,7 +122,7 @@ fn line(text: &[u8], from: usize, c: Cluster) -> Cluster {
     }
     let letter = text[from];
     let mut bytes = [0u8; 32];
-    hex::decode(text, from + 1, &mut bytes);
+    hex_digits::decode(text, from + 1, &mut bytes);
     match letter {
         b'C' => with_head(Cluster::none(), &bytes),
         b'H' => with_head(c, &bytes),

@@ -1,5 +1,7 @@
 // The sets of nodes by level, from the levels of a search: cell NODES * h + a of `even` has the nodes that stand h - 1 above a. And the nodes that each node leads
 // to by an arc that weighs just what their levels differ by.
+#![tactic(auto)]
+
 ghost use Rattle.std.specs.Prelude.{◌≡◌, ℕ, ◌+◌, ◌≤◌, ◌<◌, min, ltb, length, get_or};
 ghost use Rattle.sums.specs.TermsSums.{one_if};
 ghost use Rattle.sums.specs.ModelSums.{is};

@@ -1,4 +1,6 @@
 // The legal lengths of the bodies of a record's fields, by tag.
+#![tactic(auto)]
+
 ghost use Rattle.std.specs.Prelude.{◌≡◌, ℕ, ◌<◌};
 ghost use Rattle.lengths.specs.RecordLengths.{rule_of, legal_as};
 

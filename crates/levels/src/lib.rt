@@ -1,4 +1,6 @@
 // A graph of at most NODES nodes with weights −1, 0 and +1, as sets of nodes, and one level of a search for a negative cycle in it.
+#![tactic(auto)]
+
 ghost use Rattle.std.specs.Prelude.{◌≡◌, ℕ, ◌+◌, ◌≤◌, ◌<◌, length, get_or};
 ghost use Rattle.cluster.specs.Terms.{most_nodes};
 ghost use Rattle.sets.specs.ModelBits.{bit};

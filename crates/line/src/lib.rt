@@ -1,4 +1,6 @@
 // The line of all copies: where each node's copies begin in it.
+#![tactic(auto)]
+
 ghost use Rattle.std.specs.Prelude.{◌≡◌, ◌≤◌, ◌<◌, ◌%◌, length};
 ghost use Rattle.sums.specs.TermsSums.{sum_to};
 ghost use Rattle.cluster.specs.Terms.{most_nodes, buffer_rows};

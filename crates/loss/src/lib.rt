@@ -1,4 +1,6 @@
 // What is lost with nodes: with those that are given, and at worst with so many of them.
+#![tactic(auto)]
+
 pub mod given;
 mod rows;
 mod search;

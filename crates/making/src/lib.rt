@@ -1,4 +1,6 @@
 // A change that was read, and the nodes of a cluster without fault: its fault, its reverse, and the cluster with it.
+#![tactic(auto)]
+
 ghost use Rattle.std.specs.Prelude.{◌≡◌, ◌≤◌};
 ghost use Rattle.cluster.specs.Terms.{most_nodes, topology, fault_of};
 ghost use Rattle.cluster.specs.TermsReading.{slots_of};

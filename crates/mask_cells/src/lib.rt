@@ -1,4 +1,6 @@
 // From sets of nodes, as masks over the indices of a cluster's nodes in use, to rows of ids in lent cells.
+#![tactic(auto)]
+
 ghost use Rattle.std.specs.Prelude.{◌≡◌, ◌+◌, ◌≤◌, List, length, get_or, ltb, cond};
 ghost use Rattle.sets.specs.ModelBits.{bit};
 ghost use Rattle.cells.specs.ModelCells.{put};

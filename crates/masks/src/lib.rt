@@ -1,4 +1,6 @@
 // From rows of ids in lent cells to sets of nodes, as masks over the indices of a cluster's nodes in use.
+#![tactic(auto)]
+
 ghost use Rattle.std.specs.Prelude.{◌≡◌, ◌-◌, ◌≤◌, ◌<◌, List, length, take, drop};
 ghost use Rattle.cluster.specs.Terms.{most_nodes, buffer_rows, wide_row_cells, wide_cells, topology, row_of, ids_in};
 ghost use Rattle.cluster.specs.declared.Node.{Node};

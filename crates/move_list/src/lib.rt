@@ -1,4 +1,6 @@
 // The list of moves from a former layout to a new one, and its count.
+#![tactic(auto)]
+
 ghost use Rattle.std.specs.Prelude.{◌≡◌, ◌++◌, ◌*◌, ◌≤◌, length, drop};
 ghost use Rattle.sums.specs.TermsSums.{every_to};
 ghost use Rattle.cluster.specs.Terms.{buffer_rows, wide_row_cells, wide_cells, topology, row_of, formed};

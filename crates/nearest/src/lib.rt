@@ -1,4 +1,6 @@
 // The rows of a cluster that has a layout: the run from the dealt beginning, ordered where it is finished.
+#![tactic(auto)]
+
 ghost use Rattle.std.specs.Prelude.{◌≡◌, ◌-◌, ◌≤◌, length, replicate};
 ghost use Rattle.cluster.specs.Terms.{buffer_rows, topology, partitions, fault_of};
 ghost use Rattle.cluster.specs.TermsReading.{Fits32};

@@ -1,4 +1,6 @@
 // The bytes of a node: read from a record, and put into one.
+#![tactic(auto)]
+
 ghost use Rattle.std.specs.Prelude.{◌≡◌};
 ghost use Rattle.fields.specs.RecordField.{written, node_bytes, node_at_byte};
 

@@ -1,4 +1,6 @@
 // Numbers in the bytes of a record, unsigned, high byte first: read and put.
+#![tactic(auto)]
+
 ghost use Rattle.std.specs.Prelude.{◌≡◌, ◌+◌, ◌^◌, ◌≤◌, ◌<◌, length};
 ghost use Rattle.numbers.specs.RecordNumber.{has, bytes_of, number_at, written};
 

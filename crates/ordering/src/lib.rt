@@ -1,4 +1,6 @@
 // The run of improvements, and the ordering where it is finished.
+#![tactic(auto)]
+
 ghost use Rattle.std.specs.Prelude.{◌≡◌, true, false, ℕ, ◌≤◌, length};
 ghost use Rattle.cluster.specs.Terms.{buffer_rows};
 ghost use Rattle.exchange.specs.ModelRow.{weigh};

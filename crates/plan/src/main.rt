@@ -1,4 +1,6 @@
 // Reads a cluster record from standard input, plans the cluster, and prints the plan or the refusal.
+#![tactic(auto)]
+
 use cluster::Cluster;
 use libc::STDIN_FILENO;
 

@@ -1,4 +1,6 @@
 // Planning: the size, the beginning, the run of improvements, and the plan.
+#![tactic(auto)]
+
 ghost use Rattle.std.specs.Prelude.{◌≡◌, length};
 ghost use Rattle.cluster.specs.Terms.{topology, partitions, rows_in};
 ghost use Rattle.planner.specs.TermsPlan.{unusable, planned_of, assignment_after, scratch_after, refused_with, Owed};

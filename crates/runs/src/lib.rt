@@ -1,4 +1,6 @@
 // The run of improvements with room of its own for the walks.
+#![tactic(auto)]
+
 ghost use Rattle.std.specs.Prelude.{◌≡◌, ◌≤◌, length};
 ghost use Rattle.cluster.specs.Terms.{buffer_rows};
 ghost use Rattle.sets.specs.ModelBits.{bit, below_of};

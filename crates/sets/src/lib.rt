@@ -1,4 +1,6 @@
 // Sets of numbers below WIDTH, each in one u32 by shifts and masks. Every function is total: a number of WIDTH or more is no member of any set.
+#![tactic(auto)]
+
 ghost use Rattle.std.specs.Prelude.{◌≡◌};
 ghost use Rattle.sets.specs.ModelBits.{member_of, with_of, without_of, union_of, meet_of, difference_of, below_of, count_of, least_of};
 

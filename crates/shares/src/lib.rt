@@ -1,4 +1,6 @@
 // How many copies each node is given: in a first pass at most P for each zone, in a second pass what is left.
+#![tactic(auto)]
+
 ghost use Rattle.std.specs.Prelude.{◌≡◌, ◌≤◌, ◌<◌, ◌-◌, ◌+◌, length};
 ghost use Rattle.cluster.specs.Terms.{most_copies, most_nodes, buffer_rows};
 ghost use Rattle.dealing.specs.ModelDeal.{pour, zoned, given};

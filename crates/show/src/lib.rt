@@ -1,4 +1,6 @@
 // One row of a lent layout, as the caller's own cells.
+#![tactic(auto)]
+
 ghost use Rattle.std.specs.Prelude.{◌≡◌, ◌+◌};
 ghost use Rattle.show.specs.TermsShow.{shown, show_code, show_byte};
 

@@ -1,5 +1,7 @@
 // The size of a cluster and the layout that planning begins with. Every function is total: a cluster with a fault has the size 0, and
 // nothing is dealt for it.
+#![tactic(auto)]
+
 ghost use Rattle.std.specs.Prelude.{◌≡◌, ℕ, ◌≤◌, ◌<◌, length};
 ghost use Rattle.cluster.specs.Terms.{topology, partitions, node_at, usable, fault_of};
 ghost use Rattle.incidence.specs.ModelIncidence.{zone_index, cap_at, zone_cells};

@@ -1,5 +1,7 @@
 // The nodes of a cluster by rising id, where the node of one id gives way to another, to none, or comes in: one function of the slot for all
 // three, so that no slot is left behind and those not in use are zero.
+#![tactic(auto)]
+
 ghost use Rattle.std.specs.Prelude.{◌≡◌, true, [], ◌∷◌, ◌+◌, ◌≤◌, ◌<◌, length, take, get_or};
 ghost use Rattle.cluster.specs.Terms.{most_nodes, topology, no_node, ids_of, rising};
 ghost use Rattle.cluster.specs.TermsReading.{slots_of};

@@ -1,4 +1,6 @@
 // The steps from what is held of a partition to its new row, both as sets of nodes: how many they are, and their cells.
+#![tactic(auto)]
+
 ghost use Rattle.std.specs.Prelude.{◌≡◌, List, ◌++◌, ◌+◌, ◌*◌, ◌^◌, ◌≤◌, ◌<◌, length, take, drop};
 ghost use Rattle.sets.specs.ModelBits.{bit, count_of};
 ghost use Rattle.cluster.specs.Terms.{most_nodes};

@@ -1,5 +1,7 @@
 // One improvement of rows: the walk to turn next, and its turn. The walk that was turned last is kept: where it stands again in the new rows, it is turned
 // again, and no graph is built and searched. What the rows allow is kept, too, so that a graph is built from the changed rows only.
+#![tactic(auto)]
+
 ghost use Rattle.std.specs.Prelude.{◌≡◌, ◌≤◌, length};
 ghost use Rattle.cluster.specs.Terms.{most_nodes, buffer_rows};
 ghost use Rattle.cycles.specs.ModelFound.{walk_cells};

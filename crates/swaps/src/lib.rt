@@ -1,5 +1,7 @@
 // Which zones a row touches, and which nodes may take a node's place in it. A row is a set of nodes; mates[b] is the set of the nodes of
 // b's zone. Every function is total: a cell past a slice's end counts as 0.
+#![tactic(auto)]
+
 ghost use Rattle.std.specs.Prelude.{◌≡◌, ◌≤◌, length, get_or};
 ghost use Rattle.swaps.specs.ModelSwaps.{tight_of, targets_in, Tight};
 

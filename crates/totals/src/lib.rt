@@ -1,4 +1,6 @@
 // The ids in the rows of a layout in lent cells, one after another, and how many rows name each.
+#![tactic(auto)]
+
 ghost use Rattle.std.specs.Prelude.{◌≡◌, ◌||◌, ℕ, ◌+◌, ◌*◌, ◌≤◌, ◌<◌, eqb, length, take};
 ghost use Rattle.cluster.specs.Terms.{row_cells, buffer_rows, layout_cells, mem};
 ghost use Rattle.totals.specs.ModelTotals.{nearer_of, least_above, count_in, SameIds};

@@ -1,5 +1,7 @@
 // What parts of levels::ARCS cells hold together: sets of nodes, three for each node. The first LEAVES parts are leaves; branch i is part LEAVES + i, and is made
 // of PARTS leaves.
+#![tactic(auto)]
+
 ghost use Rattle.std.specs.Prelude.{◌≡◌, ℕ, ◌+◌, ◌*◌, ◌/◌, ◌≤◌, ◌<◌, length, get_or};
 ghost use Rattle.cells.specs.ModelCells.{put};
 ghost use Rattle.cluster.specs.Terms.{most_nodes};

@@ -1,6 +1,8 @@
 // What is read off an arc of the exchange graph: the partition in which it is an exchange, the next one in which it is the same exchange again, and what
 // it costs. A row is a set of nodes. Partitions are looked for in the sets of those that each node holds (`held`) and held in the former rows (`had`). A cell
 // past a slice's end counts as 0.
+#![tactic(auto)]
+
 ghost use Rattle.std.specs.Prelude.{◌≡◌, ℕ, ◌+◌, ◌-◌, ◌≤◌, ◌<◌};
 ghost use Rattle.cluster.specs.Terms.{buffer_rows};
 ghost use Rattle.sums.specs.ModelSums.{first_from};

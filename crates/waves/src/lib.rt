@@ -1,4 +1,6 @@
 // Waves over a graph of at most Cluster::NODES nodes: leads[u] is the set of the nodes that u leads to.
+#![tactic(auto)]
+
 ghost use Rattle.std.specs.Prelude.{◌≡◌, ◌≤◌, ◌<◌, length};
 ghost use Rattle.cluster.specs.Terms.{most_nodes};
 ghost use Rattle.waves.specs.ModelWaves.{wave_cells, spread_of, Waved, source_of};

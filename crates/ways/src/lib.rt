@@ -1,5 +1,7 @@
 // A way back through waves: its nodes in y, and in q the partition in which each arc is an even exchange, or the number of partitions for a step over the
 // store of free room. Pairs are free from the pair (p, b) on.
+#![tactic(auto)]
+
 ghost use Rattle.std.specs.Prelude.{◌≡◌, suc, ◌≤◌, ◌<◌, length};
 ghost use Rattle.cluster.specs.Terms.{most_nodes, buffer_rows};
 ghost use Rattle.levels.specs.ModelGraph.{arc_cells};

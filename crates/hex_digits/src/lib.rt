@@ -1,4 +1,6 @@
 // Bytes that are spelled by hexadecimal digits, for the programs that read their cases.
+#![tactic(auto)]
+
 ghost use Rattle.std.specs.Prelude.{◌≤◌};
 ghost use Rattle.io.specs.Counts.{IsPrefixLen};
 
