@@ -30,7 +30,7 @@ def turned(path, text):
         table = TABLE
         if path.endswith("exchange/specs/ModelLevels.antt") or FROM_LEVELS.search(text):
             table = TABLE | {"Potential": "potential_found"}
-        return words(text, table)
+        return words(text, table).replace("potential_found as ", "Potential as ")
     table = {old: new for old, new in TABLE.items() if old not in ANTT_ONLY}
     if path.endswith(".md"):
         return SPANS.sub(lambda m: words(m[0], table), text)

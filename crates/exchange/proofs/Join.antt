@@ -9,7 +9,7 @@ use native.Mathlib.Omega.{arith}
 use borrow.Author.Tests.{lt-ltb, le-ltb}
 use Rattle.sums.proofs.Sum.{lt_or_ge, sum_cong, sum_const}
 use Rattle.exchange.specs.ModelRow.{Within}
-use Rattle.exchange.specs.ModelPrices.{potential_found as LayoutPotential}
+use Rattle.exchange.specs.ModelPrices.{Potential as LayoutPotential}
 use Rattle.exchange.specs.ModelCircuit.{cost, Allowed, Circuit, Better}
 use Rattle.exchange.specs.ModelLevels.{Graph, Outcome, potential_found, cycle_found, back, cycle_length, outcome, dist, IsPotential, IsCycle}
 use Rattle.exchange.specs.ModelUncross.{Right, improved}
