@@ -5,7 +5,7 @@ use mathlib.Core.Path.{◌≡◌, refl, sym, ap, ◌∙◌}
 use mathlib.Core.List.{List, [], ◌∷◌, ◌++◌}
 use mathlib.Core.Logic.{⊎_elim}
 use native.Mathlib.Omega.{arith}
-use lib.ListN.{length, take, drop, get_or, replicate, length-append, length_take, get_or-eq_default}
+use lib.ListN.{length, take, drop, get_or, replicate, length-append, length-take, get_or-eq_default}
 use lib.Seq.{take_at, take-take, take-append-le, length-take-le, get_or-take, ext_get_or}
 use Rattle.sums.proofs.Sum.{lt_or_ge}
 use Rattle.cells.proofs.Cells.{length-tab, get_or_tab, tab_cong, tab_get_or}
@@ -22,7 +22,7 @@ length-row_at cells p h = length-row_of row_cells cells p h
 
 -- A row has at most eight cells, and so at most eight ids.
 pub few_ids : (cells : List ℕ) (p : ℕ) → length (ids_in (row_at cells p)) ≤ row_cells
-few_ids cells p = omega (arith, ids-length (row_at cells p), length_take row_cells (drop (p * row_cells) cells))
+few_ids cells p = omega (arith, ids-length (row_at cells p), length-take row_cells (drop (p * row_cells) cells))
 
 -- Cell j of row p is cell 8 p + j.
 pub get_or_row_at : (cells : List ℕ) (p j : ℕ) → j < row_cells → get_or (row_at cells p) j 0 ≡ get_or cells (p * row_cells + j) 0

@@ -12,7 +12,7 @@ use layouts::check::Checked;
 mod pricing;
 
 // What certify answers: a refusal, 0 for none, its place, as check answers it, and the price of each node, 0 where it is refused.
-#[derive(Drop)]
+#[derive(Clone, Copy)]
 pub struct Certified {
     pub refusal: u32,
     pub place: u32,

@@ -9,7 +9,7 @@ ghost use Rattle.change_fields.specs.RecordChange.{id_of, change_field, change_t
 use cluster::Node;
 
 // A change of a cluster's nodes.
-#[derive(Drop)]
+#[derive(Clone, Copy)]
 pub enum Change {
     Add { node: Node },
     Remove { id: u32 },
@@ -17,7 +17,7 @@ pub enum Change {
 }
 
 // The bytes of the field that reverses a change; those past its length are zero.
-#[derive(Drop)]
+#[derive(Clone, Copy)]
 pub struct Reverse {
     pub len: usize,
     pub bytes: [u8; LONGEST],

@@ -11,7 +11,7 @@ use cluster::{Cluster, refusal};
 use fields::Field;
 
 // What a call answers: the refusal, 0 for none, the byte after the change or, where it is refused, the given one, and the reverse.
-#[derive(Drop)]
+#[derive(Clone, Copy)]
 pub struct Outcome {
     pub refusal: u32,
     pub byte: usize,
@@ -19,7 +19,7 @@ pub struct Outcome {
 }
 
 // A cluster after a call, with what is answered.
-#[derive(Drop)]
+#[derive(Clone, Copy)]
 pub struct Made {
     pub cluster: Cluster,
     pub answer: Outcome,

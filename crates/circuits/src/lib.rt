@@ -111,7 +111,7 @@ pub fn renew(
 }
 
 // What is left of a walk that was turned: how many arcs, and the leaves of the rows that its turn changed.
-#[derive(Drop)]
+#[derive(Clone, Copy)]
 pub struct Turned {
     pub len: usize,
     pub changed: u64,

@@ -8,7 +8,7 @@ use native.Mathlib.Omega.{arith}
 use mathlib.Core.Logic.{⊎_elim}
 use native.Mathlib.Nat.{eq-zero-or-pos}
 use lib.Dec.{ltb, eqb}
-use lib.ListN.{length, get_or, length_take}
+use lib.ListN.{length, get_or, length-take}
 use lib.Pow.{pow_mono}
 use borrow.Author.Tests.{ltb-false, eqb-false, le-ltb, ne_eqb}
 use Rattle.sums.proofs.Tests.{neither}
@@ -73,7 +73,7 @@ accepted c e = go (ltb most_nodes c.count) refl e
     t = topology c
 
     order : c.count ≤ most_nodes → out_of_range t ≡ false → (r : Bool) → rising (ids_of t.nodes) ≡ r → ◌≡◌ {A = ℕ} (cond r 0 5) 0 → Accepted t
-    order few range true q h = in_range_lem t (omega (arith, length_take c.count c.nodes)) q range
+    order few range true q h = in_range_lem t (omega (arith, length-take c.count c.nodes)) q range
     order few range false q h = absurd (omega arith)
 
     numbers : c.count ≤ most_nodes → (b : Bool) → out_of_range t ≡ b → ◌≡◌ {A = ℕ} (cond b 4 (cond (rising (ids_of t.nodes)) 0 5)) 0 → Accepted t
@@ -111,7 +111,7 @@ few_nodes c e = go (ltb most_nodes c.count) refl e
 
 -- The nodes in use are as many as the count says, where it is within the slots.
 pub nodes-count : (c : Cluster) → length c.nodes ≡ most_nodes → c.count ≤ most_nodes → length (topology c).nodes ≡ c.count
-nodes-count c l h = omega (arith, length_take c.count c.nodes)
+nodes-count c l h = omega (arith, length-take c.count c.nodes)
 
 -- There are no more partitions than a buffer has rows.
 pub few_partitions : (k : ℕ) → k ≤ most_bits → 2 ^ k ≤ buffer_rows

@@ -9,7 +9,7 @@ mod faults;
 pub mod refusal;
 
 // A node ("box" in the papers): one storage box of the cluster.
-#[derive(Drop)]
+#[derive(Clone, Copy)]
 pub struct Node {
     pub id: u32,
     pub zone: u16,
@@ -69,7 +69,7 @@ pub fn partitions(bits: u32) -> usize
 }
 
 // A cluster by value. Only the first `count` nodes are in use; the other slots are not looked at.
-#[derive(Drop)]
+#[derive(Clone, Copy)]
 pub struct Cluster {
     pub bits: u32,
     pub replication: u32,

@@ -7,7 +7,7 @@ use mathlib.Core.List.{List, [], ◌∷◌, ◌++◌}
 use mathlib.Core.Logic.{⊎_elim}
 use native.Mathlib.Omega.{arith}
 use lib.Dec.{ltb, eqb}
-use lib.ListN.{length, take, drop, replicate, length-append, length_take}
+use lib.ListN.{length, take, drop, replicate, length-append, length-take}
 use lib.Seq.{take_all}
 use Rattle.sums.proofs.Sum.{lt_or_ge}
 use Rattle.cluster.specs.declared.Node.{Node}
@@ -156,7 +156,7 @@ module _ (s : List ℕ) (n : ℕ) where
     near at r q = omega (arith, small_far at r q.well q.small)
 
     before_end : (at : ℕ) (r : Reading) → Same at r → at < length (take n s)
-    before_end at r q = omega (arith, near at r q, length_take n s)
+    before_end at r q = omega (arith, near at r q, length-take n s)
 
     same_field : (at : ℕ) (r : Reading) → Same at r → field_at (take n s) at (allowed_after r.last) 0 ≡ field_at s at (allowed_after r.last) 0
     same_field at r q = field_same s n at (allowed_after r.last) 0 (omega (arith, near at r q)) (omega (arith, near at r q))

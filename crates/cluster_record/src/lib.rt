@@ -13,7 +13,7 @@ use fields::reader::Reader;
 use fields::{Field, reader};
 
 // What a reading yields: the refusal, 0 for none, with its byte, and the cluster.
-#[derive(Drop)]
+#[derive(Clone, Copy)]
 pub struct ReadCluster {
     pub refusal: u32,
     pub byte: usize,

@@ -6,7 +6,7 @@ use native.Mathlib.Omega.{arith}
 use mathlib.Core.List.{List}
 use mir.Syntax.{w32, w64}
 use mir.Val.{Fits}
-use lib.ListN.{length, take, drop, length_take, length-drop}
+use lib.ListN.{length, take, drop, length-take, length-drop}
 use Rattle.cluster.specs.Terms.{most_nodes}
 use Rattle.levels.specs.ModelGraph.{table_cells}
 
@@ -48,7 +48,7 @@ module _ (k : ℕ) (l : k < most_nodes) where
 
   -- And has a cell for each node.
   pub row-length : (t : List ℕ) → length t ≡ table_cells → most_nodes ≤ length (take ((k + 1) * most_nodes + most_nodes - (k + 1) * most_nodes) (drop ((k + 1) * most_nodes) t))
-  row-length t e = omega (arith, length_take ((k + 1) * most_nodes + most_nodes - (k + 1) * most_nodes) (drop ((k + 1) * most_nodes) t), length-drop ((k + 1) * most_nodes) t)
+  row-length t e = omega (arith, length-take ((k + 1) * most_nodes + most_nodes - (k + 1) * most_nodes) (drop ((k + 1) * most_nodes) t), length-drop ((k + 1) * most_nodes) t)
 
 pub row_ends : (a : ℕ) → a ≤ a + most_nodes
 row_ends a = omega arith

@@ -59,7 +59,7 @@ fn trace(table: &[u8], k: u32, v: u32, walk: &mut [u32]) -> u32
 }
 
 // How a search ended: the length of the cycle, 0 where there is none, and the distances of the last level that was reached with no cycle.
-#[derive(Drop)]
+#[derive(Clone, Copy)]
 struct Searched {
     length: u32,
     levels: [u32; Cluster::NODES],

@@ -5,7 +5,7 @@ use mathlib.Core.Path.{◌≡◌, refl, sym, ap, ap₂, ◌∙◌}
 use mathlib.Core.List.{List, [], ◌∷◌}
 use mathlib.Core.Logic.{⊎_elim}
 use native.Mathlib.Omega.{arith}
-use lib.ListN.{length, take, length_take}
+use lib.ListN.{length, take, length-take}
 use lib.Seq.{take-take}
 use Rattle.sums.proofs.Tests.{true_or_false}
 use Rattle.cluster.specs.Terms.{mem}
@@ -25,7 +25,7 @@ part_same (x ∷ s) (suc n) (suc at) w h = part_same s n at w (omega arith)
 module _ (s : List ℕ) (n : ℕ) where
   pub number_same : (at w : ℕ) → at + w ≤ n → at + w ≤ length s → number_at (take n s) at w ≡ number_at s at w
   number_same at w h k =
-      number_there (take n s) at w (omega (arith, length_take n s)) ∙ (ap number_of (part_same s n at w h) ∙ sym (number_there s at w k))
+      number_there (take n s) at w (omega (arith, length-take n s)) ∙ (ap number_of (part_same s n at w h) ∙ sym (number_there s at w k))
 
   pub ids_same : (at m : ℕ) → at + 4 * m ≤ n → at + 4 * m ≤ length s → ids_at (take n s) at m ≡ ids_at s at m
   unfolding ids_at
@@ -37,7 +37,7 @@ module _ (s : List ℕ) (n : ℕ) where
   unfolding node_at_byte
   node_same at h k =
       simp (
-        has-true (length (take n s)) at node_width (omega (arith, length_take n s)),
+        has-true (length (take n s)) at node_width (omega (arith, length-take n s)),
         has-true (length s) at node_width k,
         number_same at 4 (omega arith) (omega arith),
         number_same (at + 4) 2 (omega arith) (omega arith),
@@ -54,7 +54,7 @@ module _ (s : List ℕ) (n : ℕ) where
       let len : ℕ = number_at s (at + 1) 2 in
       let a : number_at u at 1 ≡ tag = number_same at 1 (omega arith) (omega arith) in
       let b : number_at u (at + 1) 2 ≡ len = number_same (at + 1) 2 (omega arith) (omega arith) in
-      let j : at + longest_field ≤ length u = omega (arith, length_take n s) in
+      let j : at + longest_field ≤ length u = omega (arith, length-take n s) in
       let hu : at + head_width ≤ length u = omega arith in
       let hs : at + head_width ≤ length s = omega arith in
       ⊎_elim

@@ -8,7 +8,7 @@ ghost use Rattle.fields.specs.RecordField.{bytes_of, written, head_width, field_
 pub mod reader;
 
 // What stands at a byte of a record: a whole field, or a refusal with the byte at which the field begins.
-#[derive(Drop)]
+#[derive(Clone, Copy)]
 pub enum Field {
     Body { tag: u8, start: usize, len: usize },
     Refused { refusal: u32, at: usize },

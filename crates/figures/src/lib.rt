@@ -14,7 +14,7 @@ use cluster::{Cluster, refusal};
 use layouts::check;
 
 // What figures answer: check's refusal and place, and the size to hope for.
-#[derive(Drop)]
+#[derive(Clone, Copy)]
 pub struct Figured {
     pub refusal: u32,
     pub place: u32,

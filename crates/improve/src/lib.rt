@@ -14,7 +14,7 @@ ghost use Rattle.improve.specs.ModelImprove.{ran_in};
 use steps::Left;
 
 // How a run ended: whether nothing is left to improve, how many improvements were made, and the leaves of rows of which nothing is kept.
-#[derive(Drop)]
+#[derive(Clone, Copy)]
 pub struct Ended {
     pub finished: bool,
     pub improvements: u32,

@@ -4,7 +4,7 @@ use Prim.Native.Nat.{ℕ, ◌≤◌, ◌<◌}
 use mathlib.Core.Path.{◌≡◌, sym, ap, ◌∙◌}
 use native.Mathlib.Omega.{arith}
 use lib.Dec.{eqb}
-use lib.ListN.{length, get_or, length_take}
+use lib.ListN.{length, get_or, length-take}
 use borrow.Author.Tests.{eq-eqb, ne_eqb}
 use Rattle.sums.proofs.First.{first-is}
 use Rattle.cluster.specs.Terms.{most_nodes, topology, no_node, node_at}
@@ -21,7 +21,7 @@ pub zone_found : (c : Cluster) (b i : ℕ) → length c.nodes ≡ most_nodes →
 unfolding zone_index
 zone_found c b i long used few le same before =
     first-is (λ j. eqb (node_at (topology c) j).zone (node_at (topology c) b).zone) (length (topology c).nodes) 0 i (omega arith)
-    (omega (arith, length_take c.count c.nodes))
+    (omega (arith, length-take c.count c.nodes))
     (eq-eqb (node_at (topology c) i).zone (node_at (topology c) b).zone (at i (omega arith) ∙ (same ∙ sym (at b used))))
     (λ j _ m. ne_eqb (node_at (topology c) j).zone (node_at (topology c) b).zone (λ e. before j m (sym (at j (omega arith)) ∙ (e ∙ at b used))))
   where

@@ -8,7 +8,7 @@ pub mod reading;
 pub mod table;
 
 // The numbers of a layout record.
-#[derive(Drop)]
+#[derive(Clone, Copy)]
 pub struct Numbers {
     pub bits: u32,
     pub replication: u32,

@@ -12,7 +12,7 @@ use fields::Field;
 use fields::reader::Reader;
 
 // What the fields before the rows say: the numbers and the byte after them, or a refusal with its byte.
-#[derive(Drop)]
+#[derive(Clone, Copy)]
 pub enum Head {
     Read(Numbers, usize),
     Halted(u32, usize),

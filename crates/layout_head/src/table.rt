@@ -6,7 +6,7 @@ use super::Numbers;
 use cluster::Cluster;
 
 // What the record has of one number: the tag of its field, the bytes of its body, and its range.
-#[derive(Drop)]
+#[derive(Clone, Copy)]
 pub struct Entry {
     pub tag: u32,
     pub width: usize,

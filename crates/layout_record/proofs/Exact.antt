@@ -7,7 +7,7 @@ use mathlib.Core.Bool.{true}
 use mathlib.Core.List.{List, [], ◌++◌}
 use mathlib.Core.Logic.{◌⊎◌, ⊎_elim}
 use native.Mathlib.Omega.{arith}
-use lib.ListN.{length, take, drop, get_or, length-append, length_take, get_or-eq_default}
+use lib.ListN.{length, take, drop, get_or, length-append, length-take, get_or-eq_default}
 use lib.Seq.{take_at}
 use Rattle.sums.proofs.Sum.{lt_or_ge}
 use Rattle.cluster.specs.Terms.{row_cells, buffer_rows, layout_cells, Layout, row, rising, cells_of, row_at, ids_in, formed, blank, rows_in}
@@ -153,7 +153,7 @@ writes-layout n cells out L c =
 row_words : (cells : List ℕ) (p j : ℕ) → Words cells → get_or (row_at cells p) j 0 < 2 ^ 32
 row_words cells p j words =
     ⊎_elim (λ l. subst (λ (x : ℕ). x < 2 ^ 32) (sym (get_or_row_at cells p j l)) (words (p * row_cells + j)))
-    (λ g. omega (arith, get_or-eq_default (row_at cells p) 0 {n = j} (omega (arith, length_take row_cells (drop (p * row_cells) cells)))))
+    (λ g. omega (arith, get_or-eq_default (row_at cells p) 0 {n = j} (omega (arith, length-take row_cells (drop (p * row_cells) cells)))))
     (lt_or_ge j row_cells)
 
 -- Rows that pass their tests are those of a layout with the numbers.

@@ -13,7 +13,7 @@ mod rows;
 mod write;
 
 // What reading yields: the refusal, 0 for none, with its byte, and the numbers.
-#[derive(Drop)]
+#[derive(Clone, Copy)]
 pub struct ReadLayout {
     pub refusal: u32,
     pub byte: usize,
@@ -21,7 +21,7 @@ pub struct ReadLayout {
 }
 
 // What writing yields: the refusal, 0 for none, and the record's length.
-#[derive(Drop)]
+#[derive(Clone, Copy)]
 pub struct Written {
     pub refusal: u32,
     pub length: usize,

@@ -2,7 +2,7 @@
 -- Assumes nothing.
 use Prim.Native.Nat.{ℕ, ◌*◌, ◌^◌, ◌≤◌, ◌<◌}
 use mathlib.Core.Path.{◌≡◌, sym, ap, ◌∙◌}
-use mathlib.Core.Bool.{Bool, true, false, ◌&&◌, or_true, cond}
+use mathlib.Core.Bool.{Bool, true, false, ◌&&◌, or-true, cond}
 use mathlib.Core.List.{List, []}
 use mathlib.Core.Logic.{⊎_elim}
 use native.Mathlib.Nat.{mul-le-mul}
@@ -31,7 +31,7 @@ module _ (partitions next p : ℕ) (ids : List ℕ) where
 
   pub fault_zero : mem 0 ids ≡ true → layout_row_fault partitions next p ids ≡ 4
   unfolding layout_row_fault
-  fault_zero h = simp (h, or_true)
+  fault_zero h = simp (h, or-true)
 
   module _ (inside : p < partitions) (ids-not-zero : mem 0 ids ≡ false) where
     -- A row that is not the next, or ids that do not rise.

@@ -8,7 +8,7 @@ use cluster::{Cluster, refusal};
 use incidence::zones;
 
 // What check answers: a refusal, 0 for none, and its place: a partition with 10 and 11, a node's id with 12, else 0.
-#[derive(Drop)]
+#[derive(Clone, Copy)]
 pub struct Checked {
     pub refusal: u32,
     pub place: u32,

@@ -2,7 +2,7 @@
 -- Assumes nothing.
 use Prim.Native.Nat.{ℕ, zero, suc, ◌-◌, ◌%◌, ◌≤◌, ◌<◌}
 use mathlib.Core.Path.{◌≡◌, refl, sym, ap, ◌∙◌}
-use mathlib.Core.Bool.{Bool, true, ◌&&◌, ◌||◌, and-true, or_true}
+use mathlib.Core.Bool.{Bool, true, ◌&&◌, ◌||◌, and-true, or-true}
 use mathlib.Core.List.{List, [], ◌∷◌}
 use native.Mathlib.Omega.{arith}
 use lib.Dec.{leb, ltb, eqb}
@@ -90,7 +90,7 @@ legal-any tag len = and-true (legal tag len)
 -- Legal where one length is asked for.
 pub legal_only : (tag len : ℕ) → legal tag len ≡ true → legal_as len tag len ≡ true
 unfolding legal_as
-legal_only tag len h = simp (h, eq-eqb len len refl, or_true)
+legal_only tag len h = simp (h, eq-eqb len len refl, or-true)
 
 -- What is legal where one length is asked for is legal for the tag, and of that length.
 pub lawful : (exact tag len : ℕ) → legal_as exact tag len ≡ true → legal tag len ≡ true

@@ -18,7 +18,7 @@ const FORMER_ROW: usize = 5;
 const TAGS: usize = 23;
 
 // The legal lengths of a body: from the least to the greatest, in steps.
-#[derive(Drop)]
+#[derive(Clone, Copy)]
 pub struct Rule {
     pub least: usize,
     pub greatest: usize,

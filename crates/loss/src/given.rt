@@ -13,7 +13,7 @@ use incidence::zones;
 use layouts::check;
 
 // What is answered: a refusal, 0 for none, its place, as check answers it, and the number of partitions that are lost; 0 where it is refused.
-#[derive(Drop)]
+#[derive(Clone, Copy)]
 pub struct Lost {
     pub refusal: u32,
     pub place: u32,

@@ -7,7 +7,7 @@ ghost use Rattle.loss.specs.ModelSearch.{costing, kept_of, searched};
 use super::rows;
 
 // A set of nodes, and how many rows it costs.
-#[derive(Drop)]
+#[derive(Clone, Copy)]
 pub struct Found {
     pub lost: u32,
     pub set: u32,

@@ -19,7 +19,7 @@ pub const MOST: usize = 4;
 
 // What is answered: a refusal, 0 for none, its place, as check answers it; the number of partitions that are lost; and the ids of the nodes, rising,
 // then zeros. The numbers are 0 where it is refused.
-#[derive(Drop)]
+#[derive(Clone, Copy)]
 pub struct Loss {
     pub refusal: u32,
     pub place: u32,

@@ -5,7 +5,7 @@ use mathlib.Core.Path.{◌≡◌, sym, ap, ap₂, ◌∙◌, subst}
 use mathlib.Core.Bool.{true}
 use mathlib.Core.List.{List, ◌++◌, map}
 use native.Mathlib.Omega.{arith}
-use lib.ListN.{length, drop, length-append, length-map, length_take}
+use lib.ListN.{length, drop, length-append, length-map, length-take}
 use Rattle.sums.proofs.Tests.{every-all}
 use Rattle.cluster.specs.Terms.{row_cells, buffer_rows, wide_row_cells, Topology, topology, partitions, Layout, row, rising, row_of, formed}
 use Rattle.cluster.specs.declared.Cluster.{Cluster}
@@ -61,7 +61,7 @@ module _ (c : Cluster) (former assignment : List ℕ) (e : (moves_fault c former
         surviving_few t (row F p),
         ap length (former-row c former assignment e p h),
         ids-length (row_of wide_row_cells former p),
-        length_take wide_row_cells (drop (p * wide_row_cells) former),
+        length-take wide_row_cells (drop (p * wide_row_cells) former),
         ((new_valid c former assignment e).rows p h).many,
         (new_accepted c former assignment e).replication,
       )

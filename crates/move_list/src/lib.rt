@@ -13,7 +13,7 @@ use layouts::check;
 use layouts::check::Checked;
 
 // What list and count answer: a refusal, 0 for none, its place, as check answers it, and the number of steps, 0 where it is refused.
-#[derive(Drop)]
+#[derive(Clone, Copy)]
 pub struct Listed {
     pub refusal: u32,
     pub place: u32,

@@ -128,10 +128,10 @@ length-put i (x ∷ xs) = go (length-put i xs) (ltb i x)
     go r false = ap suc r
 
 -- and one with an id taken out is no longer than before.
-length_take : (i : ℕ) (l : List ℕ) → length (take_out i l) ≤ length l
+length-take : (i : ℕ) (l : List ℕ) → length (take_out i l) ≤ length l
 unfolding take_out
-length_take i [] = omega arith
-length_take i (x ∷ xs) = go (length_take i xs) (eqb i x)
+length-take i [] = omega arith
+length-take i (x ∷ xs) = go (length-take i xs) (eqb i x)
   where
     go : length (take_out i xs) ≤ length xs → (b : Bool) → length (cond b xs (x ∷ take_out i xs)) ≤ suc (length xs)
     go r true = omega arith
@@ -232,7 +232,7 @@ module _ (p : ℕ) (o r : List ℕ) (ro : rising o ≡ true) (rr : rising r ≡ 
         left = ap₂ (λ (k l : List ℕ). map (send p) k ++ map (discard p) l) (missing-none r (take_out b o) all) (missing_take o r b bs e);
         rises = rising_take 0 b o ro;
         whole = λ s h. inr all;
-        room = omega (arith, length_take b o, ap length (missing-none r (take_out b o) all));
+        room = omega (arith, length-take b o, ap length (missing-none r (take_out b o) all));
         within = λ i m. inl (take_within b o i m);
         wanted = λ z. absurd (omega (arith, z));
       }

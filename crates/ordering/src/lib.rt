@@ -14,7 +14,7 @@ ghost use Rattle.improve.proofs.Ground.{Ground, Good};
 use cluster::Cluster;
 
 // How a run ended: whether nothing is left to improve, and how many improvements were made.
-#[derive(Drop)]
+#[derive(Clone, Copy)]
 pub struct Ended {
     pub finished: bool,
     pub improvements: u32,

@@ -11,7 +11,7 @@ mod refuse;
 mod settle;
 
 // What planning answers: the refusal, 0 for none, and the numbers of the plan, 0 where it is refused.
-#[derive(Drop)]
+#[derive(Clone, Copy)]
 pub struct Planned {
     pub refusal: u32,
     pub size: u32,

@@ -11,7 +11,7 @@ ghost use Rattle.splices.specs.ModelSplice.{spliced};
 use cluster::{Cluster, Node};
 
 // How many nodes have an id below one, and how many have it.
-#[derive(Drop)]
+#[derive(Clone, Copy)]
 pub struct Place {
     pub below: usize,
     pub with: usize,

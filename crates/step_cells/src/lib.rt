@@ -19,7 +19,7 @@ const SEND: u32 = 0;
 const DROP: u32 = 1;
 
 // Steps of one kind at one partition: one for each node of a set, all from one source.
-#[derive(Drop)]
+#[derive(Clone, Copy)]
 struct Steps {
     kind: u32,
     partition: u32,

@@ -16,7 +16,7 @@ ghost use Rattle.steps.specs.ModelSteps.{arcs_in, found_in, sought_in, stepped_i
 use cluster::Cluster;
 
 // What a step leaves: how many arcs the walk in y and q has, and the leaves of rows of which nothing is kept.
-#[derive(Drop)]
+#[derive(Clone, Copy)]
 pub struct Left {
     pub len: usize,
     pub stale: u64,

@@ -107,12 +107,12 @@ module _ (cells : List ℕ) (i : ℕ) (inside : i < length cells) where
       marks = λ k l.
           ⊎_elim
           (λ e. inr (ap (λ (x : ℕ). mem x (take (i + 1) cells)) (ap (λ (x : ℕ). get_or (set met slot (get_or cells i 0)) x 0) e ∙ get_or-set_same met slot (get_or cells i 0) 0 ours)
-          ∙ (more (get_or cells i 0) ∙ (ap (λ (b : Bool). mem (get_or cells i 0) (take i cells) || b) (eq-eqb (get_or cells i 0) (get_or cells i 0) refl) ∙ or_true (mem (get_or cells i 0) (take i cells))))))
+          ∙ (more (get_or cells i 0) ∙ (ap (λ (b : Bool). mem (get_or cells i 0) (take i cells) || b) (eq-eqb (get_or cells i 0) (get_or cells i 0) refl) ∙ or-true (mem (get_or cells i 0) (take i cells))))))
           (λ d. let o : get_or (set met slot (get_or cells i 0)) k 0 ≡ get_or met k 0 = get_or-set_other met slot k (get_or cells i 0) 0 d in
           ⊎_elim (λ z. inl (o ∙ z)) (λ m. inr (ap (λ (x : ℕ). mem x (take (i + 1) cells)) o ∙ kept (get_or met k 0) m)) (w.marks k (omega (arith, l, length-set met slot (get_or cells i 0)))))
           (eq_or_ne k slot);
     }
       where
-        or_true : (b : Bool) → (b || true) ≡ true
-        or_true true = refl
-        or_true false = refl
+        or-true : (b : Bool) → (b || true) ≡ true
+        or-true true = refl
+        or-true false = refl

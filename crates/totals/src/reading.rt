@@ -12,7 +12,7 @@ use fields::Field;
 use fields::reader::Reader;
 
 // What the fields after the numbers say: the byte after them, or a refusal with its byte.
-#[derive(Drop)]
+#[derive(Clone, Copy)]
 pub enum Totals {
     Read(usize),
     Halted(u32, usize),

@@ -191,7 +191,7 @@ pub fn room(rows: &[u32], held: &[u32], partitions: usize, caps: &[u32], u: u32)
 }
 
 // An arc in other rows: whether it stands in them, and at which partition.
-#[derive(Drop)]
+#[derive(Clone, Copy)]
 pub struct Arc {
     pub stands: bool,
     pub partition: usize,

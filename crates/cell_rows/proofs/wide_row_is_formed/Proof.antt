@@ -5,7 +5,7 @@ use native.Mathlib.Omega.{arith}
 use Prim.Native.Nat.{ℕ, ◌+◌, ◌-◌, ◌*◌}
 use mathlib.Core.Path.{◌≡◌, ap, ◌∙◌}
 use lib.Dec.{ltb}
-use lib.ListN.{take, drop, length_take}
+use lib.ListN.{take, drop, length-take}
 use Rattle.cluster.specs.Terms.{wide_row_cells, row_of}
 use Rattle.cell_rows.specs.ModelRows.{ill_formed, id_count}
 use Rattle.cell_rows.proofs.RowScans.{count-formed}
@@ -27,7 +27,7 @@ returns c =
     let from = a.partition * wide_row_cells in
     let e : from + wide_row_cells - from ≡ wide_row_cells = omega arith in
     ap (λ (n : ℕ). ltb n ill_formed) (c.count-ids.ensures ∙ ap (λ (n : ℕ). id_count (take n (drop from a.cells.now))) e)
-    ∙ count-formed (row_of wide_row_cells a.cells.now a.partition) (omega (arith, length_take wide_row_cells (drop from a.cells.now)))
+    ∙ count-formed (row_of wide_row_cells a.cells.now a.partition) (omega (arith, length-take wide_row_cells (drop from a.cells.now)))
 
 pub wide_row_is_formed_spec : {M : Type 1} → statement M
 wide_row_is_formed_spec = tie.close (tie.spec mul-from add-count-ids count-ids-requires returns)

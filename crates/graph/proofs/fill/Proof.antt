@@ -4,7 +4,7 @@ use native.Mathlib.Omega.{arith}
 use Prim.Native.Nat.{◌+◌, ◌-◌, ◌*◌, ◌<◌}
 use mathlib.Core.Logic.{⊎_elim}
 use mathlib.Core.Path.{◌≡◌}
-use lib.ListN.{length, take, drop, length_take, length-drop}
+use lib.ListN.{length, take, drop, length-take, length-drop}
 use Rattle.levels.specs.ModelGraph.{arc_cells}
 use Rattle.swaps.specs.ModelLeaves.{leaf_rows}
 use Rattle.graph.specs.ModelKept.{rows_in}
@@ -41,7 +41,7 @@ sub-long : (c : tie.After-write-rows-arg) → length (take (c.before.before.befo
 sub-long c =
     let s = c.before.before.before.before.before.before.before.before in
     let i = s.args.leaf * arc_cells in
-    omega (arith, s.requires, length_take (i + arc_cells - i) (drop i s.args.kept.now), length-drop i s.args.kept.now)
+    omega (arith, s.requires, length-take (i + arc_cells - i) (drop i s.args.kept.now), length-drop i s.args.kept.now)
 
 -- The rows of the leaf.
 rows_are : (c : tie.After-write-rows-arg)

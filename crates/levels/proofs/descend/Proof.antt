@@ -3,7 +3,7 @@ use Prim.Native.Nat.{◌≤◌, ◌-◌, ◌+◌, ◌*◌}
 use mathlib.Core.Path.{◌≡◌}
 use native.Mathlib.Omega.{arith}
 use borrow.Author.Rules.{rules}
-use lib.ListN.{length, take, drop, length_take, length-drop}
+use lib.ListN.{length, take, drop, length-take, length-drop}
 use Rattle.cluster.specs.Terms.{most_nodes}
 use Rattle.levels.proofs.Sweeps.{descended}
 use Rattle.levels.proofs.descend.Statement.{statement}
@@ -38,7 +38,7 @@ sweep-requires c κs =
     let l = t.args.table.now in (
       p.2,
       p.4,
-      omega (arith, p.0, p.1, p.5, length_take (i + most_nodes - i) (drop i l), length-drop i l),
+      omega (arith, p.0, p.1, p.5, length-take (i + most_nodes - i) (drop i l), length-drop i l),
       p.6,
       record { small = p.1; level = p.0; stand = p.7; nodes = p.8; high = λ v h. (p.9 v h).0; low = λ v h. (p.9 v h).1; same = λ v h. (p.9 v h).2 },
     )
@@ -58,7 +58,7 @@ row_long c =
     let i = (t.args.k + 1) * most_nodes in
     let l = t.args.table.now in
     let e : length c.sweep.new.1.1.1.1.1.1.0 ≡ length (take (i + most_nodes - i) (drop i l)) = c.sweep.auto.1.1.1.1.1.1.0 in
-    omega (arith, t.requires, length_take (i + most_nodes - i) (drop i l), length-drop i l)
+    omega (arith, t.requires, length-take (i + most_nodes - i) (drop i l), length-drop i l)
 
 returns : tie.Need-returns
 returns c =

@@ -2,7 +2,7 @@
 -- Assumes nothing.
 use Prim.Native.Nat.{◌+◌, ◌-◌, ◌/◌, ◌^◌, ◌≤◌, ◌<◌}
 use mathlib.Core.Path.{◌≡◌, sym, ◌∙◌}
-use mathlib.Core.Bool.{true, false, or_true}
+use mathlib.Core.Bool.{true, false, or-true}
 use borrow.Author.Tests.{le-leb, lt-leb, lt-ltb, le-ltb}
 use Rattle.cluster.specs.Terms.{mem, rising}
 use Rattle.cluster.proofs.Lists.{rising_fresh}
@@ -104,7 +104,7 @@ returns-5 c =
       lt-leb (2 ^ a.bits) (number_at a.bytes.now a.start 2) (below k),
       sym c.before.has-zero.ensures ∙ c.if4.false,
       sym c.before.before.before.ids-rise.ensures ∙ c.before.before.if2.false,
-      or_true,
+      or-true,
     )
 
 pub row_fault_spec : {M : Type 1} → statement M

@@ -9,8 +9,7 @@ use borrow.Author.Tests.{le-leb, lt-leb, eq-eqb, ne_eqb}
 use Rattle.lengths.specs.RecordLengths.{rule_of, legal, legal_as}
 use Rattle.lengths.specs.declared.Rule.{Rule}
 use Rattle.lengths.proofs.Lengths.{legal-true}
-use Rattle.lengths.proofs.meets.Statement.{statement}
-use Rattle.lengths.proofs.meets.Tie as tie
+use Rattle.lengths.proofs.meets.Goals as goal
 
 -- What the tests show, over plain numbers and the rule r of the tag.
 module _ (exact tag len : ℕ) (r : Rule) (e : r ≡ rule_of tag) where
@@ -51,29 +50,23 @@ module _ (exact tag len : ℕ) (r : Rule) (e : r ≡ rule_of tag) where
         unfolding legal_as
         one-length h = simp (fits, ne_eqb exact 0 h)
 
-returns : tie.Need-returns
-returns c tag e = let a = c.before.before.args in too_short a.exact tag a.len a.rule e (search rules)
+pub returns-then-len-rule : goal.returns-then-len-rule
+returns-then-len-rule c tag e = let a = c.args in too_short a.exact tag a.len a.rule e (search rules)
 
-returns-2 : tie.Need-returns-2
-returns-2 c tag e = let a = c.before.before.before.before.args in too_long a.exact tag a.len a.rule e (search rules) (search rules)
+pub returns-then-rule-len : goal.returns-then-rule-len
+returns-then-rule-len c tag e = let a = c.args in too_long a.exact tag a.len a.rule e (search rules) (search rules)
 
-rem-if3 : tie.Need-nonzero-rem-if3
-rem-if3 c = search rules
+pub returns-then-len-rule-ne0 : goal.returns-then-len-rule-ne0
+returns-then-len-rule-ne0 c tag e =
+    let a = c.args in
+    off-step a.exact tag a.len a.rule e (search rules) (search rules) c.if-len-rule-ne0.true
 
-returns-3 : tie.Need-returns-3
-returns-3 c tag e =
-    let a = c.before.before.before.before.before.before.before.args in
-    off-step a.exact tag a.len a.rule e (search rules) (search rules) c.if3.true
+pub returns-then-exact-eq0 : goal.returns-then-exact-eq0
+returns-then-exact-eq0 c tag e =
+    let a = c.args in
+    any-length a.exact tag a.len a.rule e (search rules) (search rules) c.if-len-rule-ne0.false c.if-exact-eq0.true
 
-returns-4 : tie.Need-returns-4
-returns-4 c tag e =
-    let a = c.before.before.before.before.before.before.before.before.args in
-    any-length a.exact tag a.len a.rule e (search rules) (search rules) c.before.if3.false c.if4.true
-
-returns-5 : tie.Need-returns-5
-returns-5 c tag e =
-    let a = c.before.before.before.before.before.before.before.before.args in
-    one-length a.exact tag a.len a.rule e (search rules) (search rules) c.before.if3.false c.if4.false
-
-pub meets_spec : {M : Type 1} → statement M
-meets_spec = tie.close (tie.spec returns returns-2 rem-if3 returns-3 returns-4 returns-5)
+pub returns-else-exact-eq0 : goal.returns-else-exact-eq0
+returns-else-exact-eq0 c tag e =
+    let a = c.args in
+    one-length a.exact tag a.len a.rule e (search rules) (search rules) c.if-len-rule-ne0.false c.if-exact-eq0.false
