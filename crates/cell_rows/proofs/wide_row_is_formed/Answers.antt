@@ -9,25 +9,12 @@ use lib.ListN.{take, drop, length-take}
 use Rattle.cluster.specs.Terms.{wide_row_cells, row_of}
 use Rattle.cell_rows.specs.ModelRows.{ill_formed, id_count}
 use Rattle.cell_rows.proofs.RowScans.{count-formed}
-use Rattle.cell_rows.proofs.wide_row_is_formed.Statement.{statement}
-use Rattle.cell_rows.proofs.wide_row_is_formed.Tie as tie
+use Rattle.cell_rows.proofs.wide_row_is_formed.Goals as goal
 
-mul-from : tie.Need-overflow-mul-from
-mul-from c = search rules
-
-add-count-ids : tie.Need-overflow-add-count-ids
-add-count-ids c = search rules
-
-count-ids-requires : tie.Need-count-ids-requires
-count-ids-requires c κs = search rules
-
-returns : tie.Need-returns
+pub returns : goal.returns
 returns c =
-    let a = c.before.before.args in
+    let a = c.args in
     let from = a.partition * wide_row_cells in
     let e : from + wide_row_cells - from ≡ wide_row_cells = omega arith in
-    ap (λ (n : ℕ). ltb n ill_formed) (c.count-ids.ensures ∙ ap (λ (n : ℕ). id_count (take n (drop from a.cells.now))) e)
+    ap (λ (n : ℕ). ltb n ill_formed) (c.count_ids.ensures ∙ ap (λ (n : ℕ). id_count (take n (drop from a.cells.now))) e)
     ∙ count-formed (row_of wide_row_cells a.cells.now a.partition) (omega (arith, length-take wide_row_cells (drop from a.cells.now)))
-
-pub wide_row_is_formed_spec : {M : Type 1} → statement M
-wide_row_is_formed_spec = tie.close (tie.spec mul-from add-count-ids count-ids-requires returns)

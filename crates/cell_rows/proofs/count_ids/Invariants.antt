@@ -1,0 +1,21 @@
+-- `cell_rows::count_ids` meets its contract. The loop's invariant: the row's answer is that of the scan of the cells that are left.
+-- Assumes nothing.
+use borrow.Author.Rules.{rules}
+use native.Mathlib.Omega.{arith}
+use Prim.Native.Nat.{ℕ, ◌≤◌, ◌+◌, ◌-◌}
+use mathlib.Core.Path.{◌≡◌, sym, ap₂, ◌∙◌}
+use mathlib.Core.List.{List}
+use mathlib.Core.Logic.{⊎_elim}
+use lib.ListN.{take, drop}
+use Rattle.cells.proofs.Cells.{rest-none}
+use Rattle.cell_rows.specs.ModelRows.{id_count}
+use Rattle.cell_rows.proofs.RowScans.{onward, onward_start, onward_end, onward_zero, onward_falls, onward_rises}
+use Rattle.cell_rows.proofs.count_ids.Given as goal
+
+abbrev pub invariant-loop-i : goal.invariant-loop-i
+invariant-loop-i l =
+    (l.from ≤ l.i) × (l.i ≤ l.to) × (l.count ≤ l.i - l.from)
+    × (id_count (take (l.to - l.from) (drop l.from l.cells)) ≡ onward l.last l.count (take (l.to - l.i) (drop l.i l.cells)))
+
+abbrev pub decreases-loop-i : goal.decreases-loop-i
+decreases-loop-i l = l.to - l.i

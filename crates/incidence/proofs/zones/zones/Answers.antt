@@ -1,0 +1,21 @@
+-- `incidence::zones::zones` meets its contract. The loop's invariant: the first b zone indices are written.
+use borrow.Author.Rules.{rules}
+use native.Mathlib.Omega.{arith}
+use Prim.Native.Nat.{◌-◌, ◌≤◌}
+use mathlib.Core.Path.{◌≡◌}
+use Rattle.cluster.specs.Terms.{most_nodes, topology}
+use Rattle.incidence.specs.ModelIncidence.{zone_index, column, zone_cells}
+use Rattle.incidence.proofs.Columns.{column-none, column-next, column_end}
+use Rattle.incidence.proofs.zones.zones.Goals as goal
+
+pub loop-b-init : goal.loop-b-init
+loop-b-init c = (search rules, search rules, search rules, column-none _)
+
+pub loop-b-preserved : goal.loop-b-preserved
+loop-b-preserved c =
+    (search rules, search rules, search rules, column-next (zone_index (topology c.args.c)) c.loop-b.zones c.loop-b.b _ c.loop-b.invariant.3 c.zone_index.ensures)
+
+pub returns : goal.returns
+unfolding zone_cells
+returns c =
+    column_end (zone_index (topology c.args.c)) c.loop-b.zones c.loop-b.b _ c.loop-b.invariant.3 (omega arith)

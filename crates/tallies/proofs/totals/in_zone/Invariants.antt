@@ -1,0 +1,19 @@
+-- `tallies::totals::in_zone` meets its contract. The loop's invariant: the sum so far.
+-- Assumes nothing.
+use borrow.Author.Rules.{rules}
+use native.Mathlib.Omega.{arith}
+use Prim.Native.Nat.{◌*◌, ◌-◌, ◌≤◌}
+use mathlib.Core.Path.{◌≡◌, refl, ap, ◌∙◌}
+use mathlib.Core.Logic.{⊎_elim}
+use Rattle.cluster.specs.Terms.{buffer_rows}
+use Rattle.sums.specs.TermsSums.{sum_to}
+use Rattle.dealing.specs.ModelDeal.{in_zone}
+use Rattle.incidence.specs.ModelIncidence.{cell}
+use Rattle.tallies.proofs.Adding.{zone_here, zone_not_here}
+use Rattle.tallies.proofs.totals.in_zone.Given as goal
+
+abbrev pub invariant-loop-b : goal.invariant-loop-b
+invariant-loop-b l = (l.b ≤ l.n) × (l.sum ≤ buffer_rows * l.b) × (l.sum ≡ in_zone (cell l.zones) (cell l.numbers) l.z l.b)
+
+abbrev pub decreases-loop-b : goal.decreases-loop-b
+decreases-loop-b l = l.n - l.b

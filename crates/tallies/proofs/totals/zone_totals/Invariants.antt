@@ -1,0 +1,20 @@
+-- `tallies::totals::zone_totals` meets its contract. The loop's invariant: each zone has the sum so far.
+-- Assumes nothing.
+use borrow.Author.Rules.{rules}
+use native.Mathlib.Omega.{arith}
+use Prim.Native.Nat.{ℕ, ◌-◌, ◌≤◌, ◌<◌}
+use mathlib.Core.Path.{◌≡◌, ap, ◌∙◌}
+use lib.ListN.{length, get_or-replicate}
+use Rattle.cluster.specs.Terms.{buffer_rows, most_nodes}
+use Rattle.sums.specs.TermsSums.{sum_to}
+use Rattle.dealing.specs.ModelDeal.{in_zone}
+use Rattle.incidence.specs.ModelIncidence.{cell}
+use Rattle.incidence.proofs.Columns.{column-cells}
+use Rattle.tallies.proofs.Adding.{zone_bound, zones-next}
+use Rattle.tallies.proofs.totals.zone_totals.Given as goal
+
+abbrev pub invariant-loop-b : goal.invariant-loop-b
+invariant-loop-b l = (l.b ≤ l.n) × (length l.sums ≡ most_nodes) × ((z : ℕ) → z < most_nodes → cell l.sums z ≡ in_zone (cell l.zones) (cell l.numbers) z l.b)
+
+abbrev pub decreases-loop-b : goal.decreases-loop-b
+decreases-loop-b l = l.n - l.b
