@@ -1,0 +1,28 @@
+-- `caps::greatest` meets its contract. The usable capacities passed are no larger. Assumes nothing.
+use borrow.Author.Rules.{rules}
+use borrow.Author.Count.{below_more}
+use native.Mathlib.Omega.{arith}
+use Prim.Native.Nat.{ℕ, ◌-◌, ◌≤◌, ◌<◌}
+use mathlib.Core.Path.{sym, ap, ◌∙◌}
+use mathlib.Core.Logic.{⊎_elim}
+use Rattle.cluster.specs.Terms.{most_nodes, topology, node_at, usable}
+use Rattle.cluster.proofs.Slots.{node-slot}
+use Rattle.caps.proofs.greatest.Goals as goal
+
+pub loop-b-init : goal.loop-b-init
+loop-b-init c = (search rules, search rules, search rules, λ i l. absurd (omega arith))
+
+pub loop-b-preserved : goal.loop-b-preserved
+loop-b-preserved c =
+    let a = c.args in
+    let e = ap usable (node-slot a.c c.loop-b.b (omega arith)) ∙ sym c.usable-usable.ensures.0 in
+    let grows : (c.loop-b.most ≤ c.if-most-usable.most) × (usable (node_at (topology a.c) c.loop-b.b) ≤ c.if-most-usable.most) =
+    ⊎_elim (λ w. omega (arith, e, w.0.taken, w.1)) (λ w. omega (arith, e, w.0.left, w.1)) c.if-most-usable.branch in (
+      search rules,
+      search rules,
+      search rules,
+      below_more _ _ (λ i l. omega (arith, c.loop-b.invariant.3 i l, grows.0)) grows.1,
+    )
+
+pub returns : goal.returns
+returns c = λ b l. c.loop-b.invariant.3 b (omega (arith, c.used-n.ensures.0))

@@ -1,0 +1,28 @@
+-- `levels::fall` meets its contract: the members of near that are not left have offered the distance.
+-- Assumes nothing.
+use Prim.Native.Nat.{ℕ, ◌+◌, ◌*◌, ◌≤◌}
+use mathlib.Core.Path.{◌≡◌, refl, sym, ap, ◌∙◌, subst}
+use mathlib.Core.List.{List}
+use borrow.Author.Rules.{rules}
+use lib.ListN.{length, get_or}
+use Rattle.cluster.specs.Terms.{most_nodes}
+use Rattle.sets.specs.ModelBits.{count_of, without_of, meet_of}
+use Rattle.levels.specs.ModelTurns.{Taken, leads_to}
+use Rattle.levels.proofs.Sizes.{arcs-fit, arcs-bytes-fit, arcs_inside}
+use Rattle.levels.proofs.Visits.{Visit, visit_node, visit_less, Passed, passed_start, passed_left, passed_next}
+use Rattle.levels.proofs.Leads.{weight-most}
+use Rattle.levels.proofs.Takes.{taken_start, taken_more, taken_out, taken_end}
+use Rattle.levels.proofs.fall.Given as goal
+
+-- Between two offers.
+pub record Offering (arcs : List ℕ) (near even up free c : ℕ) (next₀ row₀ next row : List ℕ) (still left : ℕ) : Type 0 where
+  pub upto : ℕ
+  pub passed : Passed near left upto
+  pub taken : Taken near (leads_to arcs even up) upto free still c next₀ row₀ next row
+
+abbrev pub invariant-loop-left : goal.invariant-loop-left
+invariant-loop-left l =
+    (length l.next ≡ length l.initial.next) × (length l.row ≡ length l.initial.row) × Offering l.arcs l.near l.even l.up l.free l.c l.initial.next l.initial.row l.next l.row l.still l.left
+
+abbrev pub decreases-loop-left : goal.decreases-loop-left
+decreases-loop-left l = count_of l.left

@@ -1,0 +1,71 @@
+-- `masks::walk_row` meets its contract. The invariant of both loops: the nodes that the row names are those of the mask, and what is left to
+use borrow.Author.Rules.{rules}
+use native.Mathlib.Omega.{arith}
+use Prim.Native.Nat.{ℕ, ◌≤◌, ◌<◌, ◌+◌, ◌-◌, ◌*◌, ◌^◌}
+use mathlib.Core.Path.{◌≡◌, refl, sym, ap, ◌∙◌}
+use mathlib.Core.List.{List}
+use mathlib.Core.Logic.{◌⊎◌, inl, inr, ⊎_elim}
+use lib.ListN.{length, take, drop, get_or}
+use Rattle.cluster.specs.Terms.{ids_in}
+use Rattle.cluster.specs.declared.Node.{Node}
+use Rattle.sets.specs.ModelBits.{with_of}
+use Rattle.masks.specs.ModelMasks.{id_cells, named}
+use Rattle.masks.proofs.Where.{id-cell}
+use Rattle.masks.proofs.Named.{left, left_all, left_end, left_past, left_zero, left_skip, left_node, node_done, walked}
+use Rattle.masks.proofs.walk_row.Goals as goal
+
+pub loop-i-init : goal.loop-i-init
+loop-i-init c = (
+  search rules,
+  search rules,
+  search rules,
+  search rules,
+  λ ns m e. left_all ns _ _ _,
+)
+
+pub returns-then-id-eq0 : goal.returns-then-id-eq0
+returns-then-id-eq0 c =
+    let a = c.args in
+    λ ns m e. walked _ _ c.loop-i.b _ (c.loop-i.invariant.4 ns m e)
+    (left_zero ns c.loop-i.b a.cells.now a.to c.loop-i.i (search rules) (search rules) c.if-id-eq0.true)
+
+pub loop-b-init : goal.loop-b-init
+loop-b-init c = (search rules, search rules, c.loop-i.invariant.4)
+
+pub returns-then-n-b : goal.returns-then-n-b
+returns-then-n-b c =
+    λ ns m e. walked _ _ c.loop-b.b _ (c.loop-b.invariant.2 ns m e) (left_past ns c.loop-b.b _ _ _ (omega arith))
+
+pub loop-b-preserved : goal.loop-b-preserved
+loop-b-preserved c =
+    let a = c.args in
+    let id = get_or a.cells.now c.loop-i.i 0 in
+    let v = get_or a.ids.now c.loop-b.b 0 in
+    let took : ((id ≡ v) × (c.if-id-own-2.mask ≡ with_of c.loop-b.mask c.loop-b.b)) ⊎ ((id ≡ v → ⊥) × (c.if-id-own-2.mask ≡ c.loop-b.mask)) =
+    ⊎_elim (λ w. inl (w.0.taken, w.2 ∙ w.1.ensures)) (λ w. inr (w.0.left, w.1)) c.if-id-own-2.branch in (
+      search rules,
+      (node_done _ c.loop-b.mask c.loop-b.b id v 0 c.if-id-own-2.mask (omega arith) c.loop-b.invariant.1 refl took).0,
+      λ ns m e. (node_done _ c.loop-b.mask c.loop-b.b id v _ c.if-id-own-2.mask (omega arith) c.loop-b.invariant.1
+          (c.loop-b.invariant.2 ns m e
+          ∙ ap (λ (n : ℕ). c.loop-b.mask + 2 ^ c.loop-b.b * n)
+          (left_node ns c.loop-b.b a.cells.now a.to c.loop-i.i (omega arith) (omega arith) v (omega arith)
+          (sym (id-cell ns a.ids.now c.loop-b.b (omega arith) e (omega arith))) c.if-id-eq0.false (omega arith)))
+          took).1,
+    )
+
+pub loop-i-preserved : goal.loop-i-preserved
+loop-i-preserved c =
+    let a = c.args in (
+      search rules,
+      search rules,
+      search rules,
+      search rules,
+      λ ns m e. c.loop-b.invariant.2 ns m e
+          ∙ ap (λ (n : ℕ). c.loop-b.mask + 2 ^ c.loop-b.b * n)
+          (left_skip ns c.loop-b.b a.cells.now a.to c.loop-i.i (search rules) (search rules)
+          _ (omega arith) (sym (id-cell ns a.ids.now c.loop-b.b (omega arith) e (omega arith))) c.if-id-eq0.false (omega arith)),
+    )
+
+pub returns : goal.returns
+returns c =
+    λ ns m e. walked _ _ c.loop-i.b _ (c.loop-i.invariant.4 ns m e) (left_end ns c.loop-i.b _ _ _ (omega arith))

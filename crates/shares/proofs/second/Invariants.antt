@@ -1,0 +1,19 @@
+-- `shares::second` meets its contract. The loop's invariant: the first b numbers are written, and the room that is left.
+-- Assumes nothing.
+use borrow.Author.Rules.{rules}
+use native.Mathlib.Omega.{arith}
+use Prim.Native.Nat.{ℕ, ◌+◌, ◌-◌, ◌≤◌}
+use mathlib.Core.Path.{◌≡◌, ap}
+use Rattle.cluster.specs.Terms.{most_nodes}
+use Rattle.sums.specs.TermsSums.{sum_to}
+use Rattle.dealing.specs.ModelDeal.{pour}
+use Rattle.incidence.specs.ModelIncidence.{cell, column}
+use Rattle.incidence.proofs.Columns.{column-none, column-next, column_end}
+use Rattle.shares.proofs.Pouring.{pour_here, pour_left}
+use Rattle.shares.proofs.second.Given as goal
+
+abbrev pub invariant-loop-b : goal.invariant-loop-b
+invariant-loop-b l = (l.b ≤ l.n) × (l.n ≤ most_nodes) × (l.left ≡ l.room - sum_to l.b (λ x. cell l.caps x - cell l.first x)) × (l.copies ≡ column (λ i. cell l.first i + pour l.room (λ x. cell l.caps x - cell l.first x) i) l.b)
+
+abbrev pub decreases-loop-b : goal.decreases-loop-b
+decreases-loop-b l = l.n - l.b
