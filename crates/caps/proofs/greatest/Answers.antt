@@ -8,6 +8,7 @@ use mathlib.Core.Logic.{⊎_elim}
 use Rattle.cluster.specs.Terms.{most_nodes, topology, node_at, usable}
 use Rattle.cluster.proofs.Slots.{node-slot}
 use Rattle.caps.proofs.greatest.Goals as goal
+use Rattle.caps.proofs.greatest.Goals.{then-most-usable, else-most-usable}
 
 pub loop-b-init : goal.loop-b-init
 loop-b-init c = (search rules, search rules, search rules, λ i l. absurd (omega arith))
@@ -17,7 +18,7 @@ loop-b-preserved c =
     let a = c.args in
     let e = ap usable (node-slot a.c c.loop-b.b (omega arith)) ∙ sym c.usable-usable.ensures.0 in
     let grows : (c.loop-b.most ≤ c.if-most-usable.most) × (usable (node_at (topology a.c) c.loop-b.b) ≤ c.if-most-usable.most) =
-    ⊎_elim (λ w. omega (arith, e, w.0.taken, w.1)) (λ w. omega (arith, e, w.0.left, w.1)) c.if-most-usable.branch in (
+    elim c.if-most-usable.branch [ then-most-usable w ↦ omega (arith, e, w.most-is) | else-most-usable w ↦ omega (arith, e, w.most-is) ] in (
       search rules,
       search rules,
       search rules,

@@ -2,7 +2,6 @@
 use Prim.Native.Nat.{◌≤◌, ◌-◌, ◌+◌, ◌*◌}
 use mathlib.Core.Path.{◌≡◌}
 use native.Mathlib.Omega.{arith}
-use borrow.Author.Rules.{rules}
 use lib.ListN.{length, take, drop, length-take, length-drop}
 use Rattle.cluster.specs.Terms.{most_nodes}
 use Rattle.levels.proofs.Sweeps.{descended}
@@ -26,6 +25,9 @@ returns c =
     let l = c.args.table.now in
     let e : length c.sweep.new.row ≡ length (take (i + most_nodes - i) (drop i l)) = c.sweep.auto.row in
     omega (arith, c.requires, length-take (i + most_nodes - i) (drop i l), length-drop i l)) in
-    let a = c.args in record { level = descended a.arcs.now a.n a.k a.mask c.sweep.result a.dist.now c.sweep.new.next a.table.now c.sweep.new.row
+    let a = c.args in record {
+      level = descended a.arcs.now a.n a.k a.mask c.sweep.result a.dist.now c.sweep.new.next a.table.now c.sweep.new.row
           (drop ((a.k + 1) * most_nodes + most_nodes - (a.k + 1) * most_nodes) (drop ((a.k + 1) * most_nodes) a.table.now))
-          (omega (arith, c.requires)) (omega (arith, c.requires)) row_long c.sweep.ensures.swept.0 c.sweep.ensures.swept.1; stand = c.sweep.ensures.stand }
+          (omega (arith, c.requires)) (omega (arith, c.requires)) row_long c.sweep.ensures.swept.0 c.sweep.ensures.swept.1;
+      stand = c.sweep.ensures.stand;
+    }

@@ -1,17 +1,12 @@
 -- `levels::fall` meets its contract: the members of near that are not left have offered the distance.
 -- Assumes nothing.
-use Prim.Native.Nat.{ℕ, ◌+◌, ◌*◌, ◌≤◌}
-use mathlib.Core.Path.{◌≡◌, refl, sym, ap, ◌∙◌, subst}
+use Prim.Native.Nat.{ℕ}
+use mathlib.Core.Path.{◌≡◌}
 use mathlib.Core.List.{List}
-use borrow.Author.Rules.{rules}
-use lib.ListN.{length, get_or}
-use Rattle.cluster.specs.Terms.{most_nodes}
-use Rattle.sets.specs.ModelBits.{count_of, without_of, meet_of}
+use lib.ListN.{length}
+use Rattle.sets.specs.ModelBits.{count_of}
 use Rattle.levels.specs.ModelTurns.{Taken, leads_to}
-use Rattle.levels.proofs.Sizes.{arcs-fit, arcs-bytes-fit, arcs_inside}
-use Rattle.levels.proofs.Visits.{Visit, visit_node, visit_less, Passed, passed_start, passed_left, passed_next}
-use Rattle.levels.proofs.Leads.{weight-most}
-use Rattle.levels.proofs.Takes.{taken_start, taken_more, taken_out, taken_end}
+use Rattle.levels.proofs.Visits.{Passed}
 use Rattle.levels.proofs.fall.Given as goal
 
 -- Between two offers.

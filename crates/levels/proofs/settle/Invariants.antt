@@ -1,15 +1,11 @@
 -- `levels::settle` meets its contract. The cells of the members that are not left hold what they shall.
 -- Assumes nothing.
 use Prim.Native.Nat.{◌-◌}
-use mathlib.Core.Path.{◌≡◌, refl, sym, ap, ◌∙◌}
-use native.Mathlib.Omega.{arith}
-use borrow.Author.Rules.{rules}
-use lib.ListN.{length, length-set}
-use Rattle.sets.specs.ModelBits.{bit, without_of, count_of}
-use Rattle.sets.proofs.Scan.{Left, left_all}
+use mathlib.Core.Path.{◌≡◌}
+use lib.ListN.{length}
+use Rattle.sets.specs.ModelBits.{bit, count_of}
+use Rattle.sets.proofs.Scan.{Left}
 use Rattle.levels.specs.ModelTurns.{Settled}
-use Rattle.levels.proofs.Sizes.{length-kept}
-use Rattle.levels.proofs.Visits.{Visit, visit_node, visit_less, visit_rest, settled-start, settled-more, settled_end}
 use Rattle.levels.proofs.settle.Given as goal
 
 abbrev pub invariant-loop-left : goal.invariant-loop-left

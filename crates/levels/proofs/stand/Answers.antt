@@ -1,6 +1,5 @@
 -- `levels::stand` meets its contract. Assumes nothing.
 use mathlib.Core.Path.{sym, ◌∙◌}
-use borrow.Author.Rules.{rules}
 use Rattle.levels.proofs.Offers.{stand_in, stand-out}
 use Rattle.levels.proofs.stand.Goals as goal
 

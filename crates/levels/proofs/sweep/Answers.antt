@@ -1,12 +1,12 @@
 -- `levels::sweep` meets its contract: the distances below c have been taken.
 use Prim.Native.Nat.{ℕ, ◌-◌, ◌<◌}
-use mathlib.Core.Path.{◌≡◌, refl, ap, ◌∙◌}
+use mathlib.Core.Path.{refl, ap, ◌∙◌}
 use native.Mathlib.Omega.{arith}
 use borrow.Author.Rules.{rules}
-use lib.ListN.{length, length-set}
+use lib.ListN.{length-set}
 use Rattle.cluster.specs.Terms.{most_nodes}
-use Rattle.sets.specs.ModelBits.{below_of, union_of, difference_of}
-use Rattle.levels.proofs.Sweeps.{Sweeping, Turned, frees, sweep-start, sweep-more, sweep_end, sweep-stand}
+use Rattle.sets.specs.ModelBits.{union_of, difference_of}
+use Rattle.levels.proofs.Sweeps.{Turned, frees, sweep-start, sweep-more, sweep_end, sweep-stand}
 use Rattle.levels.proofs.sweep.Goals as goal
 
 pub loop-c-init : goal.loop-c-init

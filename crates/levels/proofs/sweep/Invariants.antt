@@ -1,13 +1,10 @@
 -- `levels::sweep` meets its contract: the distances below c have been taken.
 -- Assumes nothing.
-use Prim.Native.Nat.{ℕ, ◌-◌, ◌<◌}
-use mathlib.Core.Path.{◌≡◌, refl, ap, ◌∙◌}
-use native.Mathlib.Omega.{arith}
-use borrow.Author.Rules.{rules}
-use lib.ListN.{length, length-set}
-use Rattle.cluster.specs.Terms.{most_nodes}
-use Rattle.sets.specs.ModelBits.{below_of, union_of, difference_of}
-use Rattle.levels.proofs.Sweeps.{Sweeping, Turned, frees, sweep-start, sweep-more, sweep_end, sweep-stand}
+use Prim.Native.Nat.{◌-◌}
+use mathlib.Core.Path.{◌≡◌}
+use lib.ListN.{length}
+use Rattle.sets.specs.ModelBits.{below_of}
+use Rattle.levels.proofs.Sweeps.{Sweeping}
 use Rattle.levels.proofs.sweep.Given as goal
 
 abbrev pub invariant-loop-c : goal.invariant-loop-c

@@ -1,6 +1,5 @@
 -- `levels::weight` meets its contract. Assumes nothing.
 use mathlib.Core.Path.{sym, ◌∙◌}
-use borrow.Author.Rules.{rules}
 use Rattle.levels.specs.ModelTurns.{weight_from}
 use Rattle.levels.proofs.weight.Goals as goal
 

@@ -1,0 +1,17 @@
+-- `deals::join` meets its contract. The loop's invariant: the node is in the rows passed.
+-- Assumes nothing.
+use borrow.Author.Rules.{rules}
+use native.Mathlib.Omega.{arith}
+use Prim.Native.Nat.{ℕ, ◌+◌, ◌-◌, ◌≤◌, max}
+use mathlib.Core.Path.{◌≡◌, ap, ◌∙◌}
+use lib.ListN.{length, get_or}
+use Rattle.cells.specs.ModelCells.{put}
+use Rattle.sets.specs.ModelBits.{with_of}
+use Rattle.deals.proofs.Dealing.{joined, join-none, join-next}
+use Rattle.deals.proofs.join.Given as goal
+
+abbrev pub invariant-loop-p : goal.invariant-loop-p
+invariant-loop-p l = (l.from ≤ l.p) × (l.p ≤ max l.from l.to) × (length l.rows ≡ length l.initial.rows) × (l.rows ≡ joined l.initial.rows l.b l.from l.p)
+
+abbrev pub decreases-loop-p : goal.decreases-loop-p
+decreases-loop-p l = l.to - l.p
