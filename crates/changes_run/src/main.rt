@@ -4,6 +4,7 @@
 #![tactic(auto)]
 
 use cluster::{Cluster, Node};
+use std::io;
 
 mod print;
 
@@ -68,15 +69,13 @@ fn many() -> Cluster {
 fn full() -> Cluster {
     let mut c = Cluster::none();
     c.count = Cluster::NODES;
-    let mut b = 0;
-    while b < Cluster::NODES {
+    for b in 0..Cluster::NODES {
         c.nodes[b] = Node {
             id: 2 * b as u32 + 2,
             zone: 0,
             capacity: 1,
             ceiling: b as u16,
         };
-        b += 1;
     }
     c
 }
@@ -97,53 +96,51 @@ fn cluster_of(letter: u8, last: Cluster) -> Cluster {
 }
 
 // A change, what is answered, and the cluster that is left; of as many nodes as there can be, not the nodes.
-fn change(c: Cluster, bytes: &[u8], at: usize) -> Cluster {
+fn change(rt: &impl Print, c: Cluster, bytes: &[u8], at: usize) -> io::Result<Cluster> {
     let made = changes::in_hand(c, bytes, at);
-    print::answer(made.answer.refusal, made.answer.byte);
-    print::reverse(made.answer.reverse);
+    print::answer(rt, made.answer.refusal, made.answer.byte)?;
+    print::reverse(rt, made.answer.reverse)?;
     if c.count < Cluster::NODES {
-        print::nodes(made.cluster);
+        print::nodes(rt, made.cluster)?;
     }
-    made.cluster
+    Ok(made.cluster)
 }
 
 // The change of a line: a letter, a byte, a record.
-fn change_line(text: &[u8], from: usize, last: Cluster) -> Cluster {
+fn change_line(rt: &impl Print, text: &[u8], from: usize, last: Cluster) -> io::Result<Cluster> {
     if text.len() <= from {
-        return last;
+        return Ok(last);
     }
     let c = cluster_of(text[from], last);
     let mut bytes = [0u8; 64];
     let n = hex_digits::decode(text, from + 1, &mut bytes);
     if n == 0 {
-        return last;
+        return Ok(last);
     }
     let at = numbers::byte_at(&bytes, 0) as usize;
     if at == 255 {
-        return change(c, &bytes[1..n], 18446744073709551615);
+        return change(rt, c, &bytes[1..n], 18446744073709551615);
     }
-    change(c, &bytes[1..n], at)
+    change(rt, c, &bytes[1..n], at)
 }
 
-fn run(text: &[u8]) {
+fn run(rt: &impl Print, text: &[u8]) -> io::Result<()> {
     let mut last = Cluster::none();
     let mut start = 0;
-    let mut i = 0;
-    while i < text.len() {
-        let b = text[i];
-        i += 1;
-        if b == 61 {
-            io::write_all(1, &text[start..i]);
-            last = change_line(text, i, last);
+    for (at, b) in text.iter().enumerate() {
+        if *b == 61 {
+            rt.write_all(&text[start..at + 1])?;
+            last = change_line(rt, text, at + 1, last)?;
         }
-        if b == 10 {
-            start = i;
+        if *b == 10 {
+            start = at + 1;
         }
     }
+    Ok(())
 }
 
-fn main() {
-    let mut text = io::large_buffer();
-    let n = io::read_full(0, &mut text);
-    run(&text[..n]);
+fn main(rt: HostRuntime) -> io::Result<()> {
+    let mut text = [0u8; 65536];
+    let n = input::read_full(&mut rt.stdin(), &mut text)?;
+    run(&rt, &text[..n])
 }

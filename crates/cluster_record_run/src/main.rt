@@ -3,59 +3,51 @@
 #![tactic(auto)]
 
 use cluster::Cluster;
+use std::io;
 
-fn print(refusal: u32, byte: usize, count: usize, cell: u32) {
-    io::print_decimal(1, refusal as u64);
-    io::write_all(1, b" ");
-    io::print_decimal(1, byte as u64);
-    io::write_all(1, b" ");
-    io::print_decimal(1, count as u64);
-    io::write_all(1, b" ");
-    io::print_decimal(1, cell as u64);
-    io::write_all(1, b"\n");
+fn print(rt: &impl Print, refusal: u32, byte: usize, count: usize, cell: u32) -> io::Result<()> {
+    println!(rt; "{refusal} {byte} {count} {cell}")
 }
 
-fn show(bytes: &[u8]) {
+fn show(rt: &impl Print, bytes: &[u8]) -> io::Result<()> {
     let mut former = [7u32; Cluster::CELLS];
     let r = cluster_record::read_cluster(bytes, &mut former);
-    print(r.refusal, r.byte, r.cluster.count, former[0]);
+    print(rt, r.refusal, r.byte, r.cluster.count, former[0])
 }
 
 // The same with one cell too few.
-fn show_short(bytes: &[u8]) {
+fn show_short(rt: &impl Print, bytes: &[u8]) -> io::Result<()> {
     let mut former = [7u32; 2047];
     let r = cluster_record::read_cluster(bytes, &mut former);
-    print(r.refusal, r.byte, r.cluster.count, former[0]);
+    print(rt, r.refusal, r.byte, r.cluster.count, former[0])
 }
 
-fn show_line(text: &[u8], from: usize) {
+fn show_line(rt: &impl Print, text: &[u8], from: usize) -> io::Result<()> {
     let mut bytes = [0u8; 1024];
     let n = hex_digits::decode(text, from, &mut bytes);
-    show(&bytes[..n]);
+    show(rt, &bytes[..n])
 }
 
-fn run(text: &[u8]) {
+fn run(rt: &impl Print, text: &[u8]) -> io::Result<()> {
     let mut start = 0;
-    let mut i = 0;
-    while i < text.len() {
-        let b = text[i];
-        i += 1;
-        if b == 61 {
-            io::write_all(1, &text[start..i]);
-            show_line(text, i);
+    for (at, b) in text.iter().enumerate() {
+        if *b == 61 {
+            rt.write_all(&text[start..at + 1])?;
+            show_line(rt, text, at + 1)?;
         }
-        if b == 10 {
-            start = i;
+        if *b == 10 {
+            start = at + 1;
         }
     }
+    Ok(())
 }
 
-fn main() {
-    io::write_all(1, b"short buffer, empty record=");
-    show_short(b"");
-    io::write_all(1, b"short buffer, bits=");
-    show_short(b"\x01\x00\x01\x09");
-    let mut text = io::large_buffer();
-    let n = io::read_full(0, &mut text);
-    run(&text[..n]);
+fn main(rt: HostRuntime) -> io::Result<()> {
+    print!(rt; "short buffer, empty record=")?;
+    show_short(&rt, b"")?;
+    print!(rt; "short buffer, bits=")?;
+    show_short(&rt, b"\x01\x00\x01\x09")?;
+    let mut text = [0u8; 65536];
+    let n = input::read_full(&mut rt.stdin(), &mut text)?;
+    run(&rt, &text[..n])
 }

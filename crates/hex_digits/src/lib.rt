@@ -1,8 +1,7 @@
 // Bytes that are spelled by hexadecimal digits, for the programs that read their cases.
 #![tactic(auto)]
 
-ghost use Rattle.std.specs.Prelude.{◌≤◌};
-ghost use Rattle.io.specs.Counts.{IsPrefixLen};
+ghost use Rattle.std.specs.Prelude.{◌≡◌, ◌≤◌, length, take};
 
 // The value of a hexadecimal digit; 16 for any other byte.
 fn digit(b: u8) -> u32
@@ -25,7 +24,8 @@ fn digit(b: u8) -> u32
 
 // The bytes that the digits from `from` on spell; answers how many there are.
 pub fn decode(text: &[u8], from: usize, bytes: &mut [u8]) -> usize
-    ensures { IsPrefixLen result bytes.new }
+    ensures in_bounds { result ≤ length bytes.new }
+    ensures prefix { result ≡ length (take result bytes.new) }
 {
     let mut n = 0;
     let mut i = from;

@@ -4,7 +4,7 @@
 ghost use Rattle.std.specs.Prelude.{◌<◌, ◌≡◌, length};
 
 use layout_head::Numbers;
-use libc::STDOUT_FILENO;
+use std::io;
 
 // A record of 55 bytes, a line for each field: two partitions, two copies, size 25, sent 4, finished, no improvements, rows 1 2 and 2 3.
 // A third row stands after it.
@@ -46,118 +46,125 @@ fn cells() -> [u32; 2048]
     c
 }
 
-fn show(name: &[u8], refusal: u32, place: usize) {
-    io::write_all(STDOUT_FILENO, name);
-    io::write_all(STDOUT_FILENO, b": ");
-    io::print_decimal(STDOUT_FILENO, refusal as u64);
-    io::write_all(STDOUT_FILENO, b" ");
-    io::print_decimal(STDOUT_FILENO, place as u64);
-    io::write_all(STDOUT_FILENO, b"\n");
+fn show(rt: &impl Print, name: &str, refusal: u32, place: usize) -> io::Result<()> {
+    println!(rt; "{name}: {refusal} {place}")
 }
 
 // Reads the first bytes.
-fn read(name: &[u8], bytes: &[u8], len: usize) {
+fn read(rt: &impl Print, name: &str, bytes: &[u8], len: usize) -> io::Result<()> {
     if bytes.len() < len {
-        return;
+        return Ok(());
     }
     let mut c = [0u32; 2048];
     let r = layout_record::read_layout(&bytes[..len], &mut c);
-    show(name, r.refusal, r.byte);
+    show(rt, name, r.refusal, r.byte)
 }
 
 // The first bytes of the sample.
-fn read_part(name: &[u8], len: usize) {
+fn read_part(rt: &impl Print, name: &str, len: usize) -> io::Result<()> {
     let bytes = sample();
-    read(name, &bytes, len);
+    read(rt, name, &bytes, len)
 }
 
 // The sample with two bytes altered.
-fn read_altered(name: &[u8], at: usize, high: u8, low: u8)
+fn read_altered(rt: &impl Print, name: &str, at: usize, high: u8, low: u8) -> io::Result<()>
     requires { at < 55 }
 {
     let mut bytes = sample();
     bytes[at] = high;
     bytes[at + 1] = low;
-    read(name, &bytes, 55);
+    read(rt, name, &bytes, 55)
 }
 
-fn read_short_buffer() {
+fn read_short_buffer(rt: &impl Print) -> io::Result<()> {
     let bytes = sample();
     let mut c = [0u32; 2047];
     let r = layout_record::read_layout(&bytes, &mut c);
-    show(b"read into 2,047 cells", r.refusal, r.byte);
+    show(rt, "read into 2,047 cells", r.refusal, r.byte)
 }
 
 // Writes into the first bytes of an output.
-fn write(name: &[u8], n: Numbers, c: &[u32], out: &mut [u8], room: usize) {
+fn write(
+    rt: &impl Print,
+    name: &str,
+    n: Numbers,
+    c: &[u32],
+    out: &mut [u8],
+    room: usize,
+) -> io::Result<()> {
     if out.len() < room {
-        return;
+        return Ok(());
     }
     let w = layout_record::write_layout(n, c, &mut out[..room]);
-    show(name, w.refusal, w.length);
+    show(rt, name, w.refusal, w.length)
 }
 
 // The sample's rows with one cell altered.
-fn write_cell(name: &[u8], n: Numbers, at: usize, value: u32, room: usize)
+fn write_cell(
+    rt: &impl Print,
+    name: &str,
+    n: Numbers,
+    at: usize,
+    value: u32,
+    room: usize,
+) -> io::Result<()>
     requires { at < 2048 }
 {
     let mut c = cells();
     c[at] = value;
     let mut out = [0u8; 68];
-    write(name, n, &c, &mut out, room);
+    write(rt, name, n, &c, &mut out, room)
 }
 
-fn bytes_of(bytes: &[u8]) {
-    let mut i = 0;
-    while i < bytes.len() {
-        io::print_hex(STDOUT_FILENO, bytes[i] as u64, 2);
-        i += 1;
+fn bytes_of(rt: &impl Print, bytes: &[u8]) -> io::Result<()> {
+    for b in bytes {
+        print!(rt; "{b:02x}")?;
     }
-    io::write_all(STDOUT_FILENO, b"\n");
+    println!(rt; "")
 }
 
 // Written, and then read again.
-fn both_ways() {
+fn both_ways(rt: &impl Print) -> io::Result<()> {
     let c = cells();
     let mut out = [255u8; 68];
     let w = layout_record::write_layout(numbers(), &c, &mut out);
-    show(b"write", w.refusal, w.length);
-    bytes_of(&out);
-    read(b"read again", &out, 55);
+    show(rt, "write", w.refusal, w.length)?;
+    bytes_of(rt, &out)?;
+    read(rt, "read again", &out, 55)
 }
 
-fn readings() {
-    read_part(b"read", 55);
-    read_altered(b"bits 9", 2, 1, 9);
-    read_altered(b"replication 9", 6, 1, 9);
-    read_altered(b"size 0", 13, 0, 0);
-    read_altered(b"sent 2,048", 18, 8, 0);
-    read_altered(b"sent 2,049", 18, 8, 1);
-    read_altered(b"verdict 2", 22, 1, 2);
-    read_altered(b"improvements 2,048", 27, 8, 0);
-    read_altered(b"improvements 2,049", 27, 8, 1);
-    read_altered(b"tag 3 after tag 2", 8, 3, 0);
-    read_altered(b"first row for partition 1", 32, 0, 1);
-    read_altered(b"second row for partition 0", 45, 0, 0);
-    read_altered(b"second row for partition 2", 45, 0, 2);
-    read_altered(b"row of 34 bytes", 30, 0, 34);
-    read_altered(b"id 0", 36, 0, 0);
-    read_altered(b"ids 1 1", 40, 0, 1);
+fn readings(rt: &impl Print) -> io::Result<()> {
+    read_part(rt, "read", 55)?;
+    read_altered(rt, "bits 9", 2, 1, 9)?;
+    read_altered(rt, "replication 9", 6, 1, 9)?;
+    read_altered(rt, "size 0", 13, 0, 0)?;
+    read_altered(rt, "sent 2,048", 18, 8, 0)?;
+    read_altered(rt, "sent 2,049", 18, 8, 1)?;
+    read_altered(rt, "verdict 2", 22, 1, 2)?;
+    read_altered(rt, "improvements 2,048", 27, 8, 0)?;
+    read_altered(rt, "improvements 2,049", 27, 8, 1)?;
+    read_altered(rt, "tag 3 after tag 2", 8, 3, 0)?;
+    read_altered(rt, "first row for partition 1", 32, 0, 1)?;
+    read_altered(rt, "second row for partition 0", 45, 0, 0)?;
+    read_altered(rt, "second row for partition 2", 45, 0, 2)?;
+    read_altered(rt, "row of 34 bytes", 30, 0, 34)?;
+    read_altered(rt, "id 0", 36, 0, 0)?;
+    read_altered(rt, "ids 1 1", 40, 0, 1)
 }
 
-fn parts() {
-    read_part(b"no bytes", 0);
-    read_part(b"one byte", 1);
-    read_part(b"no row", 29);
-    read_part(b"one row", 42);
-    read_part(b"two bytes of a row", 44);
-    read_part(b"cut row", 54);
-    read_part(b"one byte more", 56);
-    read_part(b"one row more", 68);
-    read_short_buffer();
+fn parts(rt: &impl Print) -> io::Result<()> {
+    read_part(rt, "no bytes", 0)?;
+    read_part(rt, "one byte", 1)?;
+    read_part(rt, "no row", 29)?;
+    read_part(rt, "one row", 42)?;
+    read_part(rt, "two bytes of a row", 44)?;
+    read_part(rt, "cut row", 54)?;
+    read_part(rt, "one byte more", 56)?;
+    read_part(rt, "one row more", 68)?;
+    read_short_buffer(rt)
 }
 
-fn writings() {
+fn writings(rt: &impl Print) -> io::Result<()> {
     let n = numbers();
     let mut none = n;
     none.size = 0;
@@ -165,24 +172,24 @@ fn writings() {
     most.sent = 2048;
     let mut more = n;
     more.sent = 2049;
-    write_cell(b"write into 55 bytes", n, 0, 1, 55);
-    write_cell(b"write into 54 bytes", n, 0, 1, 54);
-    write_cell(b"write size 0", none, 0, 1, 68);
-    write_cell(b"write sent 2,048", most, 0, 1, 68);
-    write_cell(b"write sent 2,049", more, 0, 1, 68);
-    write_cell(b"write row 2 2", n, 0, 2, 68);
-    write_cell(b"write three ids", n, 2, 3, 68);
-    write_cell(b"write a row past the last", n, 16, 5, 68);
-    write_cell(b"write size 0, row 2 2, into 54 bytes", none, 0, 2, 54);
-    write_cell(b"write row 2 2 into 54 bytes", n, 0, 2, 54);
+    write_cell(rt, "write into 55 bytes", n, 0, 1, 55)?;
+    write_cell(rt, "write into 54 bytes", n, 0, 1, 54)?;
+    write_cell(rt, "write size 0", none, 0, 1, 68)?;
+    write_cell(rt, "write sent 2,048", most, 0, 1, 68)?;
+    write_cell(rt, "write sent 2,049", more, 0, 1, 68)?;
+    write_cell(rt, "write row 2 2", n, 0, 2, 68)?;
+    write_cell(rt, "write three ids", n, 2, 3, 68)?;
+    write_cell(rt, "write a row past the last", n, 16, 5, 68)?;
+    write_cell(rt, "write size 0, row 2 2, into 54 bytes", none, 0, 2, 54)?;
+    write_cell(rt, "write row 2 2 into 54 bytes", n, 0, 2, 54)?;
     let c = [0u32; 2047];
     let mut out = [0u8; 68];
-    write(b"write size 0 from 2,047 cells", none, &c, &mut out, 54);
+    write(rt, "write size 0 from 2,047 cells", none, &c, &mut out, 54)
 }
 
-fn main() {
-    readings();
-    parts();
-    both_ways();
-    writings();
+fn main(rt: HostRuntime) -> io::Result<()> {
+    readings(&rt)?;
+    parts(&rt)?;
+    both_ways(&rt)?;
+    writings(&rt)
 }

@@ -6,6 +6,7 @@
 
 use cluster::Cluster;
 use layouts::check;
+use std::io;
 
 mod print;
 
@@ -51,108 +52,115 @@ fn row(cells: &mut [u32], bytes: &[u8], at: usize) {
 }
 
 // Check of lent cells at a size.
-fn check(c: Cluster, cells: &[u32], size: u32) {
+fn check(rt: &impl Print, c: Cluster, cells: &[u32], size: u32) -> io::Result<()> {
     let r = check::check(c, cells, size);
-    print::answer(r.refusal, r.place);
+    print::answer(rt, r.refusal, r.place)
 }
 
 // Figures, some of which are printed with the cell after them. They go into cells that hold 77.
-fn figure(c: Cluster, assignment: &[u32], size: u32) {
+fn figure(rt: &impl Print, c: Cluster, assignment: &[u32], size: u32) -> io::Result<()> {
     let mut cells = [77u32; 65];
     let r = figures::figures(c, assignment, size, &mut cells);
-    print::answer(r.refusal, r.place);
-    print::number(b"  hope ", r.hope);
-    print::some(b"  copies ", &cells, 0);
-    print::some(b"  zone ", &cells, 32);
-    print::cell(b"  after ", &cells, 64);
+    print::answer(rt, r.refusal, r.place)?;
+    print::number(rt, "  hope ", r.hope)?;
+    print::some(rt, "  copies ", &cells, 0)?;
+    print::some(rt, "  zone ", &cells, 32)?;
+    print::cell(rt, "  after ", &cells, 64)
 }
 
 // Figures into one cell too few.
-fn figure_short(c: Cluster, assignment: &[u32], size: u32) {
+fn figure_short(rt: &impl Print, c: Cluster, assignment: &[u32], size: u32) -> io::Result<()> {
     let mut cells = [77u32; 63];
     let r = figures::figures(c, assignment, size, &mut cells);
-    print::answer(r.refusal, r.place);
+    print::answer(rt, r.refusal, r.place)
 }
 
 // One row: its refusal, the number of its cells, and its third cell.
-fn show(cells: &[u32], partition: u32) {
+fn show(rt: &impl Print, cells: &[u32], partition: u32) -> io::Result<()> {
     let mut refusal = 99;
     let part = show::show_row(cells, partition, &mut refusal);
-    print::answer(refusal, 0);
-    print::number(b"  cells ", part.len() as u64);
-    print::cell(b"  third ", part, 2);
+    print::answer(rt, refusal, 0)?;
+    print::number(rt, "  cells ", part.len() as u64)?;
+    print::cell(rt, "  third ", part, 2)
 }
 
 // A case of a letter: check, figures, figures into too few cells, or a row shown.
-fn case(c: Cluster, letter: u8, size: u32, cells: &[u32]) {
+fn case(rt: &impl Print, c: Cluster, letter: u8, size: u32, cells: &[u32]) -> io::Result<()> {
     match letter {
-        b'K' => check(c, cells, size),
-        b'F' => figure(c, cells, size),
-        b'G' => figure_short(c, cells, size),
-        b'S' => show(cells, size),
-        _ => return,
+        b'K' => check(rt, c, cells, size),
+        b'F' => figure(rt, c, cells, size),
+        b'G' => figure_short(rt, c, cells, size),
+        b'S' => show(rt, cells, size),
+        _ => Ok(()),
     }
 }
 
 // A case with the first n of the cells lent.
-fn lend(c: Cluster, letter: u8, size: u32, cells: &[u32], n: usize) {
+fn lend(
+    rt: &impl Print,
+    c: Cluster,
+    letter: u8,
+    size: u32,
+    cells: &[u32],
+    n: usize,
+) -> io::Result<()> {
     if n <= cells.len() {
-        case(c, letter, size, &cells[..n]);
+        case(rt, c, letter, size, &cells[..n])?;
     }
+    Ok(())
 }
 
 // The case that is spelled.
-fn spelled(c: Cluster, letter: u8, bytes: &[u8]) {
+fn spelled(rt: &impl Print, c: Cluster, letter: u8, bytes: &[u8]) -> io::Result<()> {
     let mut cells = [numbers::byte_at(bytes, 6); 2056];
     row(&mut cells, bytes, 7);
     row(&mut cells, bytes, 12);
     lend(
+        rt,
         c,
         letter,
         numbers::word_at(bytes, 0),
         &cells,
         numbers::pair_at(bytes, 4) as usize,
-    );
+    )
 }
 
 // What follows the `=` of a line: a case, or the cluster of those after it.
-fn line(text: &[u8], from: usize, c: Cluster) -> Cluster {
+fn line(rt: &impl Print, text: &[u8], from: usize, c: Cluster) -> io::Result<Cluster> {
     if text.len() <= from {
-        return c;
+        return Ok(c);
     }
     let letter = text[from];
     let mut bytes = [0u8; 32];
     hex_digits::decode(text, from + 1, &mut bytes);
     match letter {
-        b'C' => with_head(Cluster::none(), &bytes),
-        b'H' => with_head(c, &bytes),
-        b'N' => with_node(c, &bytes),
+        b'C' => Ok(with_head(Cluster::none(), &bytes)),
+        b'H' => Ok(with_head(c, &bytes)),
+        b'N' => Ok(with_node(c, &bytes)),
         _ => {
-            spelled(c, letter, &bytes);
-            c
+            spelled(rt, c, letter, &bytes)?;
+            Ok(c)
         }
     }
 }
 
-fn run(text: &[u8]) {
+fn run(rt: &impl Print, text: &[u8]) -> io::Result<()> {
     let mut c = Cluster::none();
     let mut start = 0;
-    let mut i = 0;
-    while i < text.len() {
-        let b = text[i];
-        if b == 61 {
-            io::write_all(1, &text[start..i]);
-            c = line(text, i + 1, c);
+    for (at, b) in text.iter().enumerate() {
+        if *b == 61 {
+            rt.write_all(&text[start..at])?;
+            c = line(rt, text, at + 1, c)?;
         }
-        i += 1;
-        if b == 10 {
-            start = i;
+        if *b == 10 {
+            start = at + 1;
         }
     }
+    Ok(())
 }
 
-fn main() {
-    let mut text = io::large_buffer();
-    let n = io::read_full(0, &mut text);
-    run(&text[..n]);
+fn main(rt: HostRuntime) -> io::Result<()> {
+    let mut text = [0u8; 65536];
+    let n = input::read_full(&mut rt.stdin(), &mut text)?;
+    run(&rt, &text[..n])
 }

@@ -2,7 +2,7 @@
 #![tactic(auto)]
 
 use cluster::Cluster;
-use libc::STDIN_FILENO;
+use std::io;
 
 mod print;
 
@@ -12,32 +12,30 @@ const RECORD: usize = 11000;
 const ALLOWANCE: u16 = Cluster::IMPROVEMENTS as u16;
 
 // Plans a cluster from its former layout.
-fn plan(c: Cluster, former: &[u32]) {
+fn plan(rt: &impl Print, c: Cluster, former: &[u32]) -> io::Result<()> {
     let mut assignment = [0u32; Cluster::CELLS];
     let mut scratch = [0u32; Cluster::SCRATCH];
     let made = planner::plan(c, former, ALLOWANCE, &mut assignment, &mut scratch);
     if made.refusal != 0 {
-        print::refused(made.refusal);
-        return;
+        return print::refused(rt, made.refusal);
     }
-    print::numbers(made);
-    print::rows(c.bits, &assignment);
+    print::numbers(rt, made)?;
+    print::rows(rt, c.bits, &assignment)
 }
 
 // Plans the cluster of a record.
-fn run(bytes: &[u8]) {
+fn run(rt: &impl Print, bytes: &[u8]) -> io::Result<()> {
     let mut former = [0u32; Cluster::CELLS];
     let read = cluster_record::read_cluster(bytes, &mut former);
     if read.refusal != 0 {
-        print::refused(read.refusal);
-        return;
+        return print::refused(rt, read.refusal);
     }
     let c = read.cluster;
-    plan(c, &former);
+    plan(rt, c, &former)
 }
 
-fn main() {
+fn main(rt: HostRuntime) -> io::Result<()> {
     let mut bytes = [0u8; RECORD];
-    let n = io::read_full(STDIN_FILENO, &mut bytes);
-    run(&bytes[..n]);
+    let n = input::read_full(&mut rt.stdin(), &mut bytes)?;
+    run(&rt, &bytes[..n])
 }

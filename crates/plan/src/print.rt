@@ -3,62 +3,56 @@ ghost use Rattle.std.specs.Prelude.{◌≤◌, length};
 ghost use Rattle.cluster.specs.Terms.{most_bits, layout_cells};
 
 use cluster::Cluster;
-use libc::STDOUT_FILENO;
 use planner::Planned;
+use std::io;
 
 // A name and its number.
-fn number(name: &[u8], n: u32) {
-    io::write_all(STDOUT_FILENO, name);
-    io::print_decimal(STDOUT_FILENO, n as u64);
+fn number(rt: &impl Print, name: &str, n: u32) -> io::Result<()> {
+    print!(rt; "{name}{n}")
 }
 
 // A name, its number and the line's end.
-fn line(name: &[u8], n: u32) {
-    number(name, n);
-    io::write_all(STDOUT_FILENO, b"\n");
+fn line(rt: &impl Print, name: &str, n: u32) -> io::Result<()> {
+    println!(rt; "{name}{n}")
 }
 
 // The one line of a refusal.
-pub(crate) fn refused(refusal: u32) {
-    line(b"refused ", refusal);
+pub(crate) fn refused(rt: &impl Print, refusal: u32) -> io::Result<()> {
+    line(rt, "refused ", refusal)
 }
 
 // The lines of the numbers and of the verdict.
-pub(crate) fn numbers(made: Planned) {
-    line(b"size ", made.size);
-    line(b"sent ", made.sent);
-    line(b"improvements ", made.improvements);
+pub(crate) fn numbers(rt: &impl Print, made: Planned) -> io::Result<()> {
+    line(rt, "size ", made.size)?;
+    line(rt, "sent ", made.sent)?;
+    line(rt, "improvements ", made.improvements)?;
     if made.finished {
-        io::write_all(STDOUT_FILENO, b"finished\n");
+        println!(rt; "finished")
     } else {
-        io::write_all(STDOUT_FILENO, b"stopped\n");
+        println!(rt; "stopped")
     }
 }
 
 // The line of a partition: its number, and the ids of its row.
-fn row(partition: u32, cells: &[u32]) {
-    number(b"", partition);
-    io::write_all(STDOUT_FILENO, b":");
-    let mut i = 0;
-    while i < cells.len() {
-        let id = cells[i];
-        if id != 0 {
-            number(b" ", id);
+fn row(rt: &impl Print, partition: u32, cells: &[u32]) -> io::Result<()> {
+    number(rt, "", partition)?;
+    print!(rt; ":")?;
+    for id in cells {
+        if *id != 0 {
+            number(rt, " ", *id)?;
         }
-        i += 1;
     }
-    io::write_all(STDOUT_FILENO, b"\n");
+    println!(rt; "")
 }
 
 // The lines of all partitions.
-pub(crate) fn rows(bits: u32, assignment: &[u32])
+pub(crate) fn rows(rt: &impl Print, bits: u32, assignment: &[u32]) -> io::Result<()>
     requires { (bits ≤ most_bits) × (layout_cells ≤ length assignment.now) }
 {
     let partitions: u32 = 1 << bits;
-    let mut p = 0;
-    while p < partitions {
+    for p in 0..partitions {
         let from = (p as usize) * Cluster::ROW;
-        row(p, &assignment[from..from + Cluster::ROW]);
-        p += 1;
+        row(rt, p, &assignment[from..from + Cluster::ROW])?;
     }
+    Ok(())
 }
