@@ -5,7 +5,7 @@ ghost use Rattle.std.specs.Prelude.{◌≡◌, true, ℕ, ◌+◌, ◌≤◌, �
 ghost use Rattle.cells.specs.ModelCells.{put};
 ghost use Rattle.cluster.specs.Terms.{most_nodes};
 ghost use Rattle.sets.specs.ModelBits.{bit, member_of};
-ghost use Rattle.exchange.specs.ModelLevels.{Potential, dist, outcome, IsPotential};
+ghost use Rattle.exchange.specs.ModelLevels.{potential_found, dist, outcome, IsPotential};
 ghost use Rattle.levels.specs.ModelGraph.{arc_cells, table_cells, graph_of};
 ghost use Rattle.levels.specs.ModelTurns.{Settled, Nodes};
 ghost use Rattle.cycles.specs.ModelFound.{walk_cells, end_length, end_walk, Levelled, found_length, found_walk};
@@ -132,8 +132,8 @@ pub fn find(arcs: &[u32], n: u32, walk: &mut [u32]) -> u32
 // The distances of the last level of a search of the graph of arcs on n nodes: a potential, where there is no negative cycle.
 pub fn levels(arcs: &[u32], n: u32) -> [u32; Cluster::NODES]
     requires { (1 ≤ n) × (n ≤ most_nodes) × (arc_cells ≤ length arcs.now) }
-    ensures { (length result ≡ most_nodes) × ((v : ℕ) → v < n → get_or result v 0 ≤ n) × ((k : ℕ) → outcome (graph_of arcs.now n) ≡ Potential k → IsPotential (graph_of arcs.now n) (λ v. get_or result v 0))
-        × ((k : ℕ) → outcome (graph_of arcs.now n) ≡ Potential k → (v : ℕ) → v < n → get_or result v 0 ≡ dist (graph_of arcs.now n) k v) }
+    ensures { (length result ≡ most_nodes) × ((v : ℕ) → v < n → get_or result v 0 ≤ n) × ((k : ℕ) → outcome (graph_of arcs.now n) ≡ potential_found k → IsPotential (graph_of arcs.now n) (λ v. get_or result v 0))
+        × ((k : ℕ) → outcome (graph_of arcs.now n) ≡ potential_found k → (v : ℕ) → v < n → get_or result v 0 ≡ dist (graph_of arcs.now n) k v) }
 {
     let mut walk = [0u32; WALK];
     let searched = search(arcs, n, &mut walk);
