@@ -1,6 +1,6 @@
 -- From sets of nodes as masks to rows of ids in lent cells. Nobody has to believe this file: the theorems of proofs/Layouts.antt say what it achieves.
 -- Assumes nothing.
-use Rattle.std.specs.Prelude.{ℕ, ◌+◌, List, ◌++◌, ◌&&◌, cond, leb, length, take, drop, get_or}
+use Rattle.std.specs.Prelude.{ℕ, List, ◌++◌, ◌&&◌, cond, leb, length, take, drop, get_or}
 use Rattle.sums.specs.TermsSums.{tab}
 use Rattle.sets.specs.ModelBits.{bit}
 use Rattle.cluster.specs.Terms.{row_cells, buffer_rows, layout_cells, Layout, cells_of}

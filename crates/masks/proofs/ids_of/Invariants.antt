@@ -1,15 +1,9 @@
 -- `masks::ids_of` meets its contract. The loop's invariant: the first b ids are written.
 -- Assumes nothing.
-use borrow.Author.Rules.{rules}
-use native.Mathlib.Omega.{arith}
 use Prim.Native.Nat.{◌-◌, ◌≤◌}
-use mathlib.Core.Path.{◌≡◌, sym, ap}
+use mathlib.Core.Path.{◌≡◌}
 use Rattle.cluster.specs.Terms.{most_nodes, topology, node_at}
-use Rattle.cluster.specs.declared.Node.{Node}
-use Rattle.cluster.proofs.Slots.{node-slot}
 use Rattle.incidence.specs.ModelIncidence.{column}
-use Rattle.incidence.proofs.Columns.{column-none, column-next, column_end}
-use Rattle.masks.specs.ModelMasks.{id_cells}
 use Rattle.masks.proofs.ids_of.Given as goal
 
 abbrev pub invariant-loop-b : goal.invariant-loop-b

@@ -1,7 +1,7 @@
 -- `masks::read_masks` meets its contract. The loop's invariant: the masks of the rows passed are written.
 use borrow.Author.Rules.{rules}
 use native.Mathlib.Omega.{arith}
-use Prim.Native.Nat.{ℕ, ◌≤◌, ◌+◌, ◌-◌}
+use Prim.Native.Nat.{ℕ}
 use mathlib.Core.Path.{◌≡◌, ap, ap₂, ◌∙◌}
 use mathlib.Core.List.{List, ◌++◌}
 use lib.ListN.{length, drop, set}
@@ -9,8 +9,7 @@ use borrow.Author.Tests.{le-leb, lt-leb}
 use Rattle.sums.specs.TermsSums.{tab}
 use Rattle.cells.proofs.Cells.{tab-none, tab-more}
 use Rattle.cluster.specs.Terms.{buffer_rows, topology}
-use Rattle.cluster.specs.declared.Node.{Node}
-use Rattle.masks.specs.ModelMasks.{id_cells, row_mask, masks_read}
+use Rattle.masks.specs.ModelMasks.{row_mask, masks_read}
 use Rattle.masks.proofs.read_masks.Goals as goal
 
 pub returns-then-partitions-gt-PARTITIONS : goal.returns-then-partitions-gt-PARTITIONS

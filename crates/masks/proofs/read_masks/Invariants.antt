@@ -1,17 +1,13 @@
 -- `masks::read_masks` meets its contract. The loop's invariant: the masks of the rows passed are written.
 -- Assumes nothing.
-use borrow.Author.Rules.{rules}
-use native.Mathlib.Omega.{arith}
-use Prim.Native.Nat.{ℕ, ◌≤◌, ◌+◌, ◌-◌}
-use mathlib.Core.Path.{◌≡◌, ap, ap₂, ◌∙◌}
+use Prim.Native.Nat.{◌≤◌, ◌-◌}
+use mathlib.Core.Path.{◌≡◌}
 use mathlib.Core.List.{List, ◌++◌}
-use lib.ListN.{length, drop, set}
-use borrow.Author.Tests.{le-leb, lt-leb}
+use lib.ListN.{length, drop}
 use Rattle.sums.specs.TermsSums.{tab}
-use Rattle.cells.proofs.Cells.{tab-none, tab-more}
-use Rattle.cluster.specs.Terms.{buffer_rows, topology}
+use Rattle.cluster.specs.Terms.{buffer_rows}
 use Rattle.cluster.specs.declared.Node.{Node}
-use Rattle.masks.specs.ModelMasks.{id_cells, row_mask, masks_read}
+use Rattle.masks.specs.ModelMasks.{id_cells, row_mask}
 use Rattle.masks.proofs.read_masks.Given as goal
 
 abbrev pub invariant-loop-p : goal.invariant-loop-p

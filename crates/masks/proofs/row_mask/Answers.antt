@@ -1,6 +1,5 @@
 -- `masks::row_mask` meets its contract.
 -- Assumes nothing.
-use borrow.Author.Rules.{rules}
 use Rattle.cluster.specs.Terms.{topology}
 use Rattle.masks.proofs.row_mask.Goals as goal
 

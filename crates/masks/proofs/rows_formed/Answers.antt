@@ -1,9 +1,9 @@
 -- `masks::rows_formed` meets its contract. The loop's invariant: the rows passed are formed.
 use borrow.Author.Rules.{rules}
 use native.Mathlib.Omega.{arith}
-use Prim.Native.Nat.{ℕ, ◌≤◌, ◌-◌}
+use Prim.Native.Nat.{ℕ}
 use mathlib.Core.Path.{◌≡◌, sym, ap, ap₂, ◌∙◌}
-use mathlib.Core.Bool.{Bool, true, ◌&&◌, and-false}
+use mathlib.Core.Bool.{Bool, ◌&&◌, and-false}
 use lib.Dec.{ltb, leb}
 use borrow.Author.Tests.{lt-ltb, le-ltb, le-leb, lt-leb}
 use Rattle.cluster.specs.Terms.{buffer_rows}

@@ -1,16 +1,11 @@
 -- `masks::rows_formed` meets its contract. The loop's invariant: the rows passed are formed.
 -- Assumes nothing.
-use borrow.Author.Rules.{rules}
-use native.Mathlib.Omega.{arith}
-use Prim.Native.Nat.{ℕ, ◌≤◌, ◌-◌}
-use mathlib.Core.Path.{◌≡◌, sym, ap, ap₂, ◌∙◌}
-use mathlib.Core.Bool.{Bool, true, ◌&&◌, and-false}
-use lib.Dec.{ltb, leb}
-use borrow.Author.Tests.{lt-ltb, le-ltb, le-leb, lt-leb}
+use Prim.Native.Nat.{◌≤◌, ◌-◌}
+use mathlib.Core.Path.{◌≡◌}
+use mathlib.Core.Bool.{true}
+use lib.Dec.{ltb}
 use Rattle.cluster.specs.Terms.{buffer_rows}
 use Rattle.cell_rows.specs.ModelRows.{ill_formed, row_ids}
-use Rattle.masks.specs.ModelMasks.{rows_formed}
-use Rattle.sums.proofs.Tests.{every-none, every_more, every_fails}
 use Rattle.sums.specs.TermsSums.{every_to}
 use Rattle.masks.proofs.rows_formed.Given as goal
 

@@ -1,17 +1,14 @@
--- `masks::walk_row` meets its contract. The invariant of both loops: the nodes that the row names are those of the mask, and what is left to
+-- `masks::walk_row` meets its contract.
 use borrow.Author.Rules.{rules}
 use native.Mathlib.Omega.{arith}
-use Prim.Native.Nat.{ℕ, ◌≤◌, ◌<◌, ◌+◌, ◌-◌, ◌*◌, ◌^◌}
+use Prim.Native.Nat.{ℕ, ◌+◌, ◌*◌, ◌^◌}
 use mathlib.Core.Path.{◌≡◌, refl, sym, ap, ◌∙◌}
-use mathlib.Core.List.{List}
-use mathlib.Core.Logic.{◌⊎◌, inl, inr, ⊎_elim}
-use lib.ListN.{length, take, drop, get_or}
-use Rattle.cluster.specs.Terms.{ids_in}
-use Rattle.cluster.specs.declared.Node.{Node}
+use mathlib.Core.Logic.{◌⊎◌, inl, inr}
+use lib.ListN.{get_or}
 use Rattle.sets.specs.ModelBits.{with_of}
-use Rattle.masks.specs.ModelMasks.{id_cells, named}
 use Rattle.masks.proofs.Where.{id-cell}
-use Rattle.masks.proofs.Named.{left, left_all, left_end, left_past, left_zero, left_skip, left_node, node_done, walked}
+use Rattle.masks.proofs.Named.{left_all, left_end, left_past, left_zero, left_skip, left_node, node_done, walked}
+use Rattle.masks.proofs.walk_row.Goals.{then-id-own-2, else-id-own-2}
 use Rattle.masks.proofs.walk_row.Goals as goal
 
 pub loop-i-init : goal.loop-i-init
@@ -42,7 +39,10 @@ loop-b-preserved c =
     let id = get_or a.cells.now c.loop-i.i 0 in
     let v = get_or a.ids.now c.loop-b.b 0 in
     let took : ((id ≡ v) × (c.if-id-own-2.mask ≡ with_of c.loop-b.mask c.loop-b.b)) ⊎ ((id ≡ v → ⊥) × (c.if-id-own-2.mask ≡ c.loop-b.mask)) =
-    ⊎_elim (λ w. inl (w.0.taken, w.2 ∙ w.1.ensures)) (λ w. inr (w.0.left, w.1)) c.if-id-own-2.branch in (
+    elim c.if-id-own-2.branch [
+      | then-id-own-2 w ↦ inl (w.if-id-own-2.true, w.mask-is ∙ w.with-mask.ensures)
+      | else-id-own-2 w ↦ inr (w.if-id-own-2.false, w.mask-is)
+    ] in (
       search rules,
       (node_done _ c.loop-b.mask c.loop-b.b id v 0 c.if-id-own-2.mask (omega arith) c.loop-b.invariant.1 refl took).0,
       λ ns m e. (node_done _ c.loop-b.mask c.loop-b.b id v _ c.if-id-own-2.mask (omega arith) c.loop-b.invariant.1

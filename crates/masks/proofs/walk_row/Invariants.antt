@@ -1,19 +1,14 @@
 -- `masks::walk_row` meets its contract. The invariant of both loops: the nodes that the row names are those of the mask, and what is left to
 -- the walk.
 -- Assumes nothing.
-use borrow.Author.Rules.{rules}
-use native.Mathlib.Omega.{arith}
-use Prim.Native.Nat.{ℕ, ◌≤◌, ◌<◌, ◌+◌, ◌-◌, ◌*◌, ◌^◌}
-use mathlib.Core.Path.{◌≡◌, refl, sym, ap, ◌∙◌}
+use Prim.Native.Nat.{◌≤◌, ◌<◌, ◌+◌, ◌-◌, ◌*◌, ◌^◌}
+use mathlib.Core.Path.{◌≡◌}
 use mathlib.Core.List.{List}
-use mathlib.Core.Logic.{◌⊎◌, inl, inr, ⊎_elim}
-use lib.ListN.{length, take, drop, get_or}
+use lib.ListN.{length, take, drop}
 use Rattle.cluster.specs.Terms.{ids_in}
 use Rattle.cluster.specs.declared.Node.{Node}
-use Rattle.sets.specs.ModelBits.{with_of}
 use Rattle.masks.specs.ModelMasks.{id_cells, named}
-use Rattle.masks.proofs.Where.{id-cell}
-use Rattle.masks.proofs.Named.{left, left_all, left_end, left_past, left_zero, left_skip, left_node, node_done, walked}
+use Rattle.masks.proofs.Named.{left}
 use Rattle.masks.proofs.walk_row.Given as goal
 
 abbrev pub invariant-loop-b : goal.invariant-loop-b

@@ -1,0 +1,53 @@
+-- `layouts::rows::own_row_fault` meets its contract.
+-- Assumes nothing.
+use native.Mathlib.Omega.{arith}
+use Prim.Native.Nat.{ℕ, ◌<◌}
+use mathlib.Core.Path.{◌≡◌, sym, ap, ap₂, ◌∙◌}
+use mathlib.Core.List.{List}
+use Rattle.sets.specs.ModelBits.{count_of}
+use Rattle.cluster.specs.Terms.{buffer_rows, topology}
+use Rattle.cluster.specs.TermsReading.{Accepted}
+use Rattle.cell_rows.specs.ModelRows.{row_ids}
+use Rattle.incidence.specs.ModelIncidence.{zone_cells}
+use Rattle.cluster.proofs.Accepting.{few_partitions, accepted}
+use Rattle.masks.specs.ModelMasks.{row_mask}
+use Rattle.layouts.specs.ModelScans.{zones_in}
+use Rattle.layouts.proofs.RowFaults.{fault-ids, fault-nodes, fault-zones, fault-none}
+use Rattle.layouts.proofs.rows.own_row_fault.Goals as goal
+
+pub returns-then-row_ids-c : goal.returns-then-row_ids-c
+returns-then-row_ids-c c =
+    let sound : Accepted (topology c.args.c) = accepted c.args.c c.requires.0 in
+    let inside : c.args.p < buffer_rows = omega (arith, c.requires.2, few_partitions c.args.c.bits sound.bits) in
+    sym (fault-ids (topology c.args.c) c.args.cells.now c.args.p sound c.requires.3 inside c.requires.2
+    (λ e. c.if-row_ids-c.true (c.row_ids.ensures ∙ e)))
+
+pub returns-then-count-c : goal.returns-then-count-c
+returns-then-count-c c =
+    let sound : Accepted (topology c.args.c) = accepted c.args.c c.requires.0 in
+    let inside : c.args.p < buffer_rows = omega (arith, c.requires.2, few_partitions c.args.c.bits sound.bits) in
+    let ids : row_ids c.args.cells.now c.args.p ≡ c.args.c.replication = sym c.row_ids.ensures ∙ c.if-row_ids-c.false in
+    sym (fault-nodes (topology c.args.c) c.args.cells.now c.args.p sound c.requires.3 inside c.requires.2 ids
+    (λ e. c.if-count-c.true (c.count.ensures ∙ (ap count_of c.row_mask-nodes.ensures ∙ e))))
+
+pub returns-then-count-c-2 : goal.returns-then-count-c-2
+returns-then-count-c-2 c =
+    let sound : Accepted (topology c.args.c) = accepted c.args.c c.requires.0 in
+    let inside : c.args.p < buffer_rows = omega (arith, c.requires.2, few_partitions c.args.c.bits sound.bits) in
+    let ids : row_ids c.args.cells.now c.args.p ≡ c.args.c.replication = sym c.row_ids.ensures ∙ c.if-row_ids-c.false in
+    let nodes : count_of (row_mask (topology c.args.c).nodes c.args.cells.now c.args.p)
+    ≡ c.args.c.replication = sym (c.count.ensures ∙ ap count_of c.row_mask-nodes.ensures) ∙ c.if-count-c.false in
+    let e : c.count-2.result ≡ count_of (zones_in (zone_cells (topology c.args.c)) (row_mask (topology c.args.c).nodes c.args.cells.now c.args.p))
+    = c.count-2.ensures ∙ (ap count_of c.zones_in.ensures ∙ ap₂ (λ (l : List ℕ) (m : ℕ). count_of (zones_in l m)) c.requires.1 c.row_mask-nodes.ensures) in
+    sym (fault-zones (topology c.args.c) c.args.cells.now c.args.p sound c.requires.3 inside c.requires.2 ids nodes (omega arith))
+
+pub returns : goal.returns
+returns c =
+    let sound : Accepted (topology c.args.c) = accepted c.args.c c.requires.0 in
+    let inside : c.args.p < buffer_rows = omega (arith, c.requires.2, few_partitions c.args.c.bits sound.bits) in
+    let ids : row_ids c.args.cells.now c.args.p ≡ c.args.c.replication = sym c.row_ids.ensures ∙ c.if-row_ids-c.false in
+    let nodes : count_of (row_mask (topology c.args.c).nodes c.args.cells.now c.args.p)
+    ≡ c.args.c.replication = sym (c.count.ensures ∙ ap count_of c.row_mask-nodes.ensures) ∙ c.if-count-c.false in
+    let e : c.count-2.result ≡ count_of (zones_in (zone_cells (topology c.args.c)) (row_mask (topology c.args.c).nodes c.args.cells.now c.args.p))
+    = c.count-2.ensures ∙ (ap count_of c.zones_in.ensures ∙ ap₂ (λ (l : List ℕ) (m : ℕ). count_of (zones_in l m)) c.requires.1 c.row_mask-nodes.ensures) in
+    sym (fault-none (topology c.args.c) c.args.cells.now c.args.p sound c.requires.3 inside c.requires.2 ids nodes (omega arith))
