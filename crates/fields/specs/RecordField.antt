@@ -1,7 +1,7 @@
 -- Nodes and fields in the bytes of a record: the bytes of a node, and the field that stands at a byte. The legal lengths by tag are those of
 -- crates/lengths/specs/RecordLengths.antt; numbers and ids in their bytes are those of RecordNumber.antt and RecordIds.antt.
 -- Assumes nothing.
-use Rattle.std.specs.Prelude.{ℕ, zero, suc, ◌+◌, ◌-◌, ◌*◌, ◌/◌, ◌%◌, ◌^◌, ◌≤◌, ◌<◌, ◌≡◌, Bool, true, not, cond, List, [], ◌∷◌, ◌++◌, leb, length, take, drop, get_or}
+use Rattle.std.specs.Prelude.{ℕ, ◌+◌, ◌-◌, ◌%◌, ◌^◌, ◌≤◌, ◌<◌, ◌≡◌, true, not, cond, List, ◌∷◌, ◌++◌, length}
 use Rattle.cluster.specs.Terms.{most_copies, no_node, mem}
 use Rattle.cluster.specs.declared.Node.{Node}
 pub use Rattle.lengths.specs.RecordLengths.{node_width, remove_width, resize_width, row_width}

@@ -1,6 +1,4 @@
 // A reader of fields: it carries the record and its position together.
-// The borrow checker covers no function with a struct that holds a slice, so such functions are few and leave the work to others on
-// slice and number; the walks that keep a reader have their proofs from tools/walks.
 ghost use Rattle.std.specs.Prelude.{◌≡◌, length};
 ghost use Rattle.fields.specs.ModelTags.{tags_of};
 ghost use Rattle.fields.specs.RecordField.{field_at, Within};
@@ -8,7 +6,7 @@ ghost use Rattle.fields.specs.RecordField.{field_at, Within};
 use super::{Field, field_in};
 
 // A lent record and the byte at which its next field begins.
-#[derive(Drop)]
+#[derive(Clone, Copy)]
 pub struct Reader<'a> {
     pub src: &'a [u8],
     pub at: usize,

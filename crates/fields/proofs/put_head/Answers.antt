@@ -1,8 +1,7 @@
 -- `fields::put_head` meets its contract.
 -- Assumes nothing.
-use borrow.Author.Rules.{rules}
 use native.Mathlib.Omega.{arith}
-use Prim.Native.Nat.{◌+◌, ◌-◌}
+use Prim.Native.Nat.{◌+◌}
 use mathlib.Core.Path.{refl, ◌∙◌}
 use Rattle.fields.specs.RecordField.{bytes_of}
 use Rattle.numbers.proofs.Numbers.{length-bytes}

@@ -4,15 +4,13 @@ use Prim.Native.Nat.{ℕ, ◌≤◌, ◌<◌}
 use mathlib.Core.Path.{◌≡◌, ap, ◌∙◌}
 use mathlib.Core.List.{List}
 use lib.ListN.{length}
-use borrow.Author.Rules.{rules}
 use borrow.Author.Tests.{lt-ltb, le-ltb}
 use native.Mathlib.Omega.{arith}
 use Rattle.cluster.specs.TermsReading.{slots_of}
 use Rattle.cluster.specs.declared.Cluster.{Cluster}
 use Rattle.cluster_reading.specs.RecordClusterReading.{Reading, cluster_refused, ended}
 use Rattle.cluster_record.specs.RecordClusterAnswer.{cluster_answer}
-use Rattle.cluster_record.proofs.ended.Statement.{statement}
-use Rattle.cluster_record.proofs.ended.Tie as tie
+use Rattle.cluster_record.proofs.ended.Goals as goal
 
 missing : (s : List ℕ) (k : Reading) → k.last < 3 → cluster_answer (cluster_refused 7 (length s)) ≡ cluster_answer (ended s k)
 unfolding ended
@@ -22,15 +20,9 @@ stands : (s : List ℕ) (k : Reading) → 3 ≤ k.last → record { refusal = 0;
 unfolding ended cluster_answer
 stands s k h = simp (le-ltb k.last 3 h)
 
-refused-requires : tie.Need-refused-requires
-refused-requires c κs = search rules
+pub returns-then-last-lt3 : goal.returns-then-last-lt3
+returns-then-last-lt3 c = λ k is_last is-cluster. c.refused.ensures ∙ missing _ k (omega (arith, is_last, c.if-last-lt3.true))
 
-returns : tie.Need-returns
-returns c = λ k is_last is-cluster. c.refused.ensures ∙ missing _ k (omega (arith, is_last, c.before.if1.true))
-
-returns-2 : tie.Need-returns-2
-returns-2 c = λ k is_last is-cluster.
-    ap (λ (x : Cluster). record { refusal = 0; byte = 0; cluster = x }) is-cluster ∙ stands _ k (omega (arith, is_last, c.if1.false))
-
-pub ended_spec : {M : Type 1} → statement M
-ended_spec = tie.close (tie.spec refused-requires returns returns-2)
+pub returns : goal.returns
+returns c = λ k is_last is-cluster.
+    ap (λ (x : Cluster). record { refusal = 0; byte = 0; cluster = x }) is-cluster ∙ stands _ k (omega (arith, is_last, c.if-last-lt3.false))
