@@ -2,14 +2,13 @@
 use borrow.Author.Rules.{rules}
 use borrow.Author.Count.{below_more}
 use native.Mathlib.Omega.{arith}
-use Prim.Native.Nat.{ℕ, ◌/◌, ◌-◌, ◌^◌, ◌≤◌, ◌<◌, min}
-use mathlib.Core.Path.{◌≡◌, sym, ap, ap₂, ◌∙◌}
-use Rattle.cluster.specs.Terms.{most_nodes, topology, node_at, usable}
+use Prim.Native.Nat.{ℕ, ◌/◌, min}
+use mathlib.Core.Path.{sym, ap, ap₂, ◌∙◌}
+use Rattle.cluster.specs.Terms.{topology, usable}
 use Rattle.cluster.specs.declared.Node.{Node}
 use Rattle.cluster.proofs.Slots.{node-slot}
-use Rattle.incidence.specs.ModelIncidence.{cap_at, column}
+use Rattle.incidence.specs.ModelIncidence.{cap_at}
 use Rattle.incidence.proofs.Columns.{column-none, column-next, column_end}
-use Rattle.tallies.specs.ModelTallies.{size_bits}
 use Rattle.caps.specs.ModelCaps.{cut_bits, cap_cells, caps_in}
 use Rattle.caps.proofs.caps.Goals as goal
 

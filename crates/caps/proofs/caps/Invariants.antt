@@ -1,17 +1,11 @@
 -- `caps::caps` meets its contract. The loop's invariant: the first b caps are written, and the capacities passed are numbers of 32 bits.
 -- Assumes nothing.
-use borrow.Author.Rules.{rules}
-use borrow.Author.Count.{below_more}
-use native.Mathlib.Omega.{arith}
-use Prim.Native.Nat.{ℕ, ◌/◌, ◌-◌, ◌^◌, ◌≤◌, ◌<◌, min}
-use mathlib.Core.Path.{◌≡◌, sym, ap, ap₂, ◌∙◌}
-use Rattle.cluster.specs.Terms.{most_nodes, topology, node_at, usable}
-use Rattle.cluster.specs.declared.Node.{Node}
-use Rattle.cluster.proofs.Slots.{node-slot}
+use Prim.Native.Nat.{ℕ, ◌-◌, ◌^◌, ◌≤◌, ◌<◌}
+use mathlib.Core.Path.{◌≡◌}
+use Rattle.cluster.specs.Terms.{most_nodes, topology, node_at}
 use Rattle.incidence.specs.ModelIncidence.{cap_at, column}
-use Rattle.incidence.proofs.Columns.{column-none, column-next, column_end}
 use Rattle.tallies.specs.ModelTallies.{size_bits}
-use Rattle.caps.specs.ModelCaps.{cut_bits, cap_cells, caps_in}
+use Rattle.caps.specs.ModelCaps.{cut_bits}
 use Rattle.caps.proofs.caps.Given as goal
 
 abbrev pub invariant-loop-b : goal.invariant-loop-b

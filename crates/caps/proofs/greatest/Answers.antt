@@ -2,10 +2,9 @@
 use borrow.Author.Rules.{rules}
 use borrow.Author.Count.{below_more}
 use native.Mathlib.Omega.{arith}
-use Prim.Native.Nat.{ℕ, ◌-◌, ◌≤◌, ◌<◌}
+use Prim.Native.Nat.{◌≤◌}
 use mathlib.Core.Path.{sym, ap, ◌∙◌}
-use mathlib.Core.Logic.{⊎_elim}
-use Rattle.cluster.specs.Terms.{most_nodes, topology, node_at, usable}
+use Rattle.cluster.specs.Terms.{topology, node_at, usable}
 use Rattle.cluster.proofs.Slots.{node-slot}
 use Rattle.caps.proofs.greatest.Goals as goal
 use Rattle.caps.proofs.greatest.Goals.{then-most-usable, else-most-usable}

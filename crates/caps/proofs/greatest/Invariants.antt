@@ -1,12 +1,6 @@
 -- `caps::greatest` meets its contract. The usable capacities passed are no larger. Assumes nothing.
-use borrow.Author.Rules.{rules}
-use borrow.Author.Count.{below_more}
-use native.Mathlib.Omega.{arith}
 use Prim.Native.Nat.{ℕ, ◌-◌, ◌≤◌, ◌<◌}
-use mathlib.Core.Path.{sym, ap, ◌∙◌}
-use mathlib.Core.Logic.{⊎_elim}
 use Rattle.cluster.specs.Terms.{most_nodes, topology, node_at, usable}
-use Rattle.cluster.proofs.Slots.{node-slot}
 use Rattle.caps.proofs.greatest.Given as goal
 
 abbrev pub invariant-loop-b : goal.invariant-loop-b

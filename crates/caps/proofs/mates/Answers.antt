@@ -1,9 +1,8 @@
 -- `caps::mates` meets its contract. The loop's invariant: the first b sets are written.
 use borrow.Author.Rules.{rules}
 use native.Mathlib.Omega.{arith}
-use Prim.Native.Nat.{ℕ, ◌-◌, ◌≤◌}
-use mathlib.Core.Path.{◌≡◌, ap, ◌∙◌}
-use Rattle.cluster.specs.Terms.{most_nodes}
+use Prim.Native.Nat.{ℕ}
+use mathlib.Core.Path.{ap, ◌∙◌}
 use Rattle.sums.specs.ModelSums.{is}
 use Rattle.sets.specs.ModelBits.{mask_of}
 use Rattle.incidence.specs.ModelIncidence.{cell, column}

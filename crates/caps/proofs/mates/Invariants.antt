@@ -1,15 +1,11 @@
 -- `caps::mates` meets its contract. The loop's invariant: the first b sets are written.
 -- Assumes nothing.
-use borrow.Author.Rules.{rules}
-use native.Mathlib.Omega.{arith}
-use Prim.Native.Nat.{ℕ, ◌-◌, ◌≤◌}
-use mathlib.Core.Path.{◌≡◌, ap, ◌∙◌}
+use Prim.Native.Nat.{◌-◌, ◌≤◌}
+use mathlib.Core.Path.{◌≡◌}
 use Rattle.cluster.specs.Terms.{most_nodes}
 use Rattle.sums.specs.ModelSums.{is}
 use Rattle.sets.specs.ModelBits.{mask_of}
 use Rattle.incidence.specs.ModelIncidence.{cell, column}
-use Rattle.caps.specs.ModelCaps.{mate_cells}
-use Rattle.incidence.proofs.Columns.{column-none, column-next, column_end}
 use Rattle.caps.proofs.mates.Given as goal
 
 abbrev pub invariant-loop-b : goal.invariant-loop-b

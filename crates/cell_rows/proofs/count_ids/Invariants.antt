@@ -1,15 +1,10 @@
 -- `cell_rows::count_ids` meets its contract. The loop's invariant: the row's answer is that of the scan of the cells that are left.
 -- Assumes nothing.
-use borrow.Author.Rules.{rules}
-use native.Mathlib.Omega.{arith}
-use Prim.Native.Nat.{ℕ, ◌≤◌, ◌+◌, ◌-◌}
-use mathlib.Core.Path.{◌≡◌, sym, ap₂, ◌∙◌}
-use mathlib.Core.List.{List}
-use mathlib.Core.Logic.{⊎_elim}
+use Prim.Native.Nat.{◌≤◌, ◌-◌}
+use mathlib.Core.Path.{◌≡◌}
 use lib.ListN.{take, drop}
-use Rattle.cells.proofs.Cells.{rest-none}
 use Rattle.cell_rows.specs.ModelRows.{id_count}
-use Rattle.cell_rows.proofs.RowScans.{onward, onward_start, onward_end, onward_zero, onward_falls, onward_rises}
+use Rattle.cell_rows.proofs.RowScans.{onward}
 use Rattle.cell_rows.proofs.count_ids.Given as goal
 
 abbrev pub invariant-loop-i : goal.invariant-loop-i

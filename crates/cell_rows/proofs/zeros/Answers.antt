@@ -1,9 +1,8 @@
 -- `cell_rows::zeros` meets its contract. The loop's invariant: the cells are blank exactly where those that are still before the scan are.
 use borrow.Author.Rules.{rules}
-use Prim.Native.Nat.{ℕ, ◌≤◌, ◌-◌}
-use mathlib.Core.Path.{◌≡◌, refl, sym, ap, ◌∙◌}
+use Prim.Native.Nat.{ℕ}
+use mathlib.Core.Path.{refl, sym, ap, ◌∙◌}
 use mathlib.Core.List.{List}
-use lib.ListN.{take, drop, length}
 use Rattle.cells.proofs.Cells.{rest-none}
 use Rattle.cluster.specs.Terms.{blank}
 use Rattle.cell_rows.proofs.RowScans.{id_not_blank, zero_blank}
@@ -18,12 +17,11 @@ returns-then-cells-i-ne0 c =
     (c.loop-i.invariant.2 ∙ id_not_blank c.args.cells.now c.args.to c.loop-i.i (search rules) (search rules) (search rules))
 
 pub loop-i-preserved : goal.loop-i-preserved
-loop-i-preserved c =
-    (
-      search rules,
-      search rules,
-      c.loop-i.invariant.2 ∙ zero_blank c.args.cells.now c.args.to c.loop-i.i (search rules) (search rules) (search rules),
-    )
+loop-i-preserved c = (
+  search rules,
+  search rules,
+  c.loop-i.invariant.2 ∙ zero_blank c.args.cells.now c.args.to c.loop-i.i (search rules) (search rules) (search rules),
+)
 
 pub returns : goal.returns
 unfolding blank

@@ -1,13 +1,9 @@
 -- `cell_rows::zeros` meets its contract. The loop's invariant: the cells are blank exactly where those that are still before the scan are.
 -- Assumes nothing.
-use borrow.Author.Rules.{rules}
-use Prim.Native.Nat.{ℕ, ◌≤◌, ◌-◌}
-use mathlib.Core.Path.{◌≡◌, refl, sym, ap, ◌∙◌}
-use mathlib.Core.List.{List}
+use Prim.Native.Nat.{◌≤◌, ◌-◌}
+use mathlib.Core.Path.{◌≡◌}
 use lib.ListN.{take, drop, length}
-use Rattle.cells.proofs.Cells.{rest-none}
 use Rattle.cluster.specs.Terms.{blank}
-use Rattle.cell_rows.proofs.RowScans.{id_not_blank, zero_blank}
 use Rattle.cell_rows.proofs.zeros.Given as goal
 
 abbrev pub invariant-loop-i : goal.invariant-loop-i

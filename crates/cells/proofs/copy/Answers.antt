@@ -1,5 +1,5 @@
 -- `cells::copy` meets its contract. The loop's invariant: the first cells are copied, the others are as lent.
-use Prim.Native.Nat.{ℕ, ◌≤◌, ◌-◌}
+use Prim.Native.Nat.{ℕ}
 use mathlib.Core.Path.{◌≡◌, ap, ◌∙◌}
 use mathlib.Core.List.{List, ◌++◌}
 use lib.ListN.{length, drop, get_or, set}

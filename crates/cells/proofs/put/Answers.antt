@@ -1,10 +1,8 @@
 -- `cells::put` meets its contract. The loop's invariant: the first numbers are copied, the other cells are as lent.
 use borrow.Author.Rules.{rules}
 use native.Mathlib.Omega.{arith}
-use Prim.Native.Nat.{◌+◌, ◌≤◌, ◌-◌}
 use mathlib.Core.Path.{◌≡◌, ap, ◌∙◌}
-use mathlib.Core.List.{◌++◌}
-use lib.ListN.{length, take, drop}
+use lib.ListN.{length}
 use Rattle.cells.proofs.Puts.{copied, copy-none, copy-next, copy-all}
 use Rattle.cells.proofs.put.Goals as goal
 

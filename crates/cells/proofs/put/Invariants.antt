@@ -1,12 +1,9 @@
 -- `cells::put` meets its contract. The loop's invariant: the first numbers are copied, the other cells are as lent.
 -- Assumes nothing.
-use borrow.Author.Rules.{rules}
-use native.Mathlib.Omega.{arith}
 use Prim.Native.Nat.{◌+◌, ◌≤◌, ◌-◌}
-use mathlib.Core.Path.{◌≡◌, ap, ◌∙◌}
+use mathlib.Core.Path.{◌≡◌}
 use mathlib.Core.List.{◌++◌}
 use lib.ListN.{length, take, drop}
-use Rattle.cells.proofs.Puts.{copied, copy-none, copy-next, copy-all}
 use Rattle.cells.proofs.put.Given as goal
 
 abbrev pub invariant-loop-i : goal.invariant-loop-i

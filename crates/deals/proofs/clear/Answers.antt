@@ -1,10 +1,7 @@
 -- `deals::clear` meets its contract. The loop's invariant: the rows passed are empty.
 use borrow.Author.Rules.{rules}
 use native.Mathlib.Omega.{arith}
-use Prim.Native.Nat.{◌-◌, ◌≤◌}
 use mathlib.Core.Path.{◌≡◌, refl}
-use lib.ListN.{length}
-use Rattle.cells.specs.ModelCells.{put}
 use Rattle.cells.proofs.Cells.{put-none, put_next}
 use Rattle.deals.proofs.clear.Goals as goal
 

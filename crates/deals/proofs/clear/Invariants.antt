@@ -1,12 +1,9 @@
 -- `deals::clear` meets its contract. The loop's invariant: the rows passed are empty.
 -- Assumes nothing.
-use borrow.Author.Rules.{rules}
-use native.Mathlib.Omega.{arith}
 use Prim.Native.Nat.{◌-◌, ◌≤◌}
-use mathlib.Core.Path.{◌≡◌, refl}
+use mathlib.Core.Path.{◌≡◌}
 use lib.ListN.{length}
 use Rattle.cells.specs.ModelCells.{put}
-use Rattle.cells.proofs.Cells.{put-none, put_next}
 use Rattle.deals.proofs.clear.Given as goal
 
 abbrev pub invariant-loop-p : goal.invariant-loop-p

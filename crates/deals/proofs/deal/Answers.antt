@@ -1,25 +1,19 @@
 -- `deals::deal` meets its contract. The loop's invariant: the copies of the first b nodes are dealt.
 use borrow.Author.Rules.{rules}
 use native.Mathlib.Omega.{arith}
-use Prim.Native.Nat.{◌-◌, ◌≤◌, ◌<◌}
-use mathlib.Core.Path.{◌≡◌}
-use lib.ListN.{length}
-use Rattle.sets.specs.ModelBits.{mask_of}
-use Rattle.cluster.specs.Terms.{most_nodes, buffer_rows}
-use Rattle.cells.specs.ModelCells.{put}
+use Prim.Native.Nat.{◌≤◌, ◌<◌}
+use Rattle.cluster.specs.Terms.{most_nodes}
 use Rattle.incidence.specs.ModelIncidence.{cell}
-use Rattle.dealing.specs.ModelDeal.{among}
 use Rattle.deals.proofs.Dealing.{dealt-none, dealt-all, node-dealt}
 use Rattle.deals.proofs.deal.Goals as goal
 
 pub loop-b-init : goal.loop-b-init
-loop-b-init c =
-    (
-      search rules,
-      search rules,
-      search rules,
-      dealt-none c.args.partitions (cell c.args.starts.now) (cell c.args.copies.now) c.args.rows.now _ (search rules) c.clear.ensures,
-    )
+loop-b-init c = (
+  search rules,
+  search rules,
+  search rules,
+  dealt-none c.args.partitions (cell c.args.starts.now) (cell c.args.copies.now) c.args.rows.now _ (search rules) c.clear.ensures,
+)
 
 pub overflow_add-end : goal.overflow_add-end
 overflow_add-end c =
@@ -36,8 +30,7 @@ join-requires-in-loop-b c =
 pub loop-b-preserved : goal.loop-b-preserved
 loop-b-preserved c =
     let a = c.args in
-    let few : (c.loop-b.b < a.n) × (a.n ≤ most_nodes) = (c.loop-b-test.true, c.requires.0) in
-    (
+    let few : (c.loop-b.b < a.n) × (a.n ≤ most_nodes) = (c.loop-b-test.true, c.requires.0) in (
       omega (arith, few),
       search rules,
       search rules,

@@ -1,16 +1,13 @@
 -- `deals::deal` meets its contract. The loop's invariant: the copies of the first b nodes are dealt.
 -- Assumes nothing.
-use borrow.Author.Rules.{rules}
-use native.Mathlib.Omega.{arith}
-use Prim.Native.Nat.{◌-◌, ◌≤◌, ◌<◌}
+use Prim.Native.Nat.{◌-◌, ◌≤◌}
 use mathlib.Core.Path.{◌≡◌}
 use lib.ListN.{length}
 use Rattle.sets.specs.ModelBits.{mask_of}
-use Rattle.cluster.specs.Terms.{most_nodes, buffer_rows}
+use Rattle.cluster.specs.Terms.{buffer_rows}
 use Rattle.cells.specs.ModelCells.{put}
 use Rattle.incidence.specs.ModelIncidence.{cell}
 use Rattle.dealing.specs.ModelDeal.{among}
-use Rattle.deals.proofs.Dealing.{dealt-none, dealt-all, node-dealt}
 use Rattle.deals.proofs.deal.Given as goal
 
 abbrev pub invariant-loop-b : goal.invariant-loop-b

@@ -1,12 +1,12 @@
 -- `deals::join` meets its contract. The loop's invariant: the node is in the rows passed.
 use borrow.Author.Rules.{rules}
 use native.Mathlib.Omega.{arith}
-use Prim.Native.Nat.{ℕ, ◌+◌, ◌-◌, ◌≤◌, max}
+use Prim.Native.Nat.{ℕ, ◌+◌, ◌-◌}
 use mathlib.Core.Path.{◌≡◌, ap, ◌∙◌}
-use lib.ListN.{length, get_or}
+use lib.ListN.{get_or}
 use Rattle.cells.specs.ModelCells.{put}
 use Rattle.sets.specs.ModelBits.{with_of}
-use Rattle.deals.proofs.Dealing.{joined, join-none, join-next}
+use Rattle.deals.proofs.Dealing.{join-none, join-next}
 use Rattle.deals.proofs.join.Goals as goal
 
 pub loop-p-init : goal.loop-p-init

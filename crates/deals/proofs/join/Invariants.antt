@@ -1,13 +1,9 @@
 -- `deals::join` meets its contract. The loop's invariant: the node is in the rows passed.
 -- Assumes nothing.
-use borrow.Author.Rules.{rules}
-use native.Mathlib.Omega.{arith}
-use Prim.Native.Nat.{ℕ, ◌+◌, ◌-◌, ◌≤◌, max}
-use mathlib.Core.Path.{◌≡◌, ap, ◌∙◌}
-use lib.ListN.{length, get_or}
-use Rattle.cells.specs.ModelCells.{put}
-use Rattle.sets.specs.ModelBits.{with_of}
-use Rattle.deals.proofs.Dealing.{joined, join-none, join-next}
+use Prim.Native.Nat.{◌-◌, ◌≤◌, max}
+use mathlib.Core.Path.{◌≡◌}
+use lib.ListN.{length}
+use Rattle.deals.proofs.Dealing.{joined}
 use Rattle.deals.proofs.join.Given as goal
 
 abbrev pub invariant-loop-p : goal.invariant-loop-p

@@ -1,10 +1,7 @@
 -- `id_bytes::has_zero` meets its contract. The loop's invariant: there is a 0 exactly where there is one among the ids left.
-use Prim.Native.Nat.{◌≤◌, ◌-◌, ◌*◌}
-use mathlib.Core.Path.{◌≡◌, refl, sym, ap, ◌∙◌}
+use mathlib.Core.Path.{refl, sym, ap, ◌∙◌}
 use native.Mathlib.Omega.{arith}
-use lib.ListN.{length}
 use Rattle.cluster.specs.Terms.{mem}
-use Rattle.id_bytes.specs.RecordIds.{ids_at}
 use Rattle.id_bytes.proofs.IdBytes.{zero_missing, zero_found, zero_passed, ids-none}
 use borrow.Author.Rules.{rules}
 use Rattle.id_bytes.proofs.has_zero.Goals as goal
@@ -23,12 +20,11 @@ returns-then-word_in-eq0 c =
     ∙ zero_found c.args.bytes.now c.loop-left.at c.loop-left.left (search rules) (sym c.word_in.ensures.0 ∙ c.if-word_in-eq0.true))
 
 pub loop-left-preserved : goal.loop-left-preserved
-loop-left-preserved c =
-    (
-      search rules,
-      c.loop-left.invariant.1
-          ∙ zero_passed c.args.bytes.now c.loop-left.at c.loop-left.left (search rules) (λ e. c.if-word_in-eq0.false (c.word_in.ensures.0 ∙ e)),
-    )
+loop-left-preserved c = (
+  search rules,
+  c.loop-left.invariant.1
+      ∙ zero_passed c.args.bytes.now c.loop-left.at c.loop-left.left (search rules) (λ e. c.if-word_in-eq0.false (c.word_in.ensures.0 ∙ e)),
+)
 
 pub returns : goal.returns
 unfolding mem

@@ -1,13 +1,10 @@
 -- `id_bytes::has_zero` meets its contract. The loop's invariant: there is a 0 exactly where there is one among the ids left.
 -- Assumes nothing.
 use Prim.Native.Nat.{◌≤◌, ◌-◌, ◌*◌}
-use mathlib.Core.Path.{◌≡◌, refl, sym, ap, ◌∙◌}
-use native.Mathlib.Omega.{arith}
+use mathlib.Core.Path.{◌≡◌}
 use lib.ListN.{length}
 use Rattle.cluster.specs.Terms.{mem}
 use Rattle.id_bytes.specs.RecordIds.{ids_at}
-use Rattle.id_bytes.proofs.IdBytes.{zero_missing, zero_found, zero_passed, ids-none}
-use borrow.Author.Rules.{rules}
 use Rattle.id_bytes.proofs.has_zero.Given as goal
 
 abbrev pub invariant-loop-left : goal.invariant-loop-left

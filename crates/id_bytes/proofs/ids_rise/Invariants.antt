@@ -1,13 +1,10 @@
 -- `id_bytes::ids_rise` meets its contract. The loop's invariant: the ids rise exactly where those left rise from the last one.
 -- Assumes nothing.
-use Prim.Native.Nat.{ℕ, ◌≤◌, ◌+◌, ◌-◌, ◌*◌}
-use mathlib.Core.Path.{◌≡◌, refl, sym, ap, ◌∙◌}
-use native.Mathlib.Omega.{arith}
+use Prim.Native.Nat.{◌≤◌, ◌-◌, ◌*◌}
+use mathlib.Core.Path.{◌≡◌}
 use lib.ListN.{length}
 use Rattle.cluster.specs.Terms.{rising, rising_from}
 use Rattle.id_bytes.specs.RecordIds.{ids_at}
-use Rattle.id_bytes.proofs.IdBytes.{fall-missing, fall-found, rise_passed, ids-none}
-use borrow.Author.Rules.{rules}
 use Rattle.id_bytes.proofs.ids_rise.Given as goal
 
 abbrev pub invariant-loop-left : goal.invariant-loop-left

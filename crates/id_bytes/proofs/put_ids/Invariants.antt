@@ -1,15 +1,11 @@
 -- `id_bytes::put_ids` meets its contract. The loop's invariant: the first ids are written.
 -- Assumes nothing.
-use Prim.Native.Nat.{ℕ, ◌≤◌, ◌+◌, ◌-◌, ◌*◌}
-use mathlib.Core.Path.{◌≡◌, ap, ap₂, ◌∙◌}
-use mathlib.Core.List.{List}
-use lib.ListN.{length, set}
+use Prim.Native.Nat.{◌≤◌, ◌+◌, ◌-◌, ◌*◌}
+use mathlib.Core.Path.{◌≡◌}
+use lib.ListN.{length}
 use Rattle.cells.specs.ModelCells.{put}
-use Rattle.cells.proofs.Cells.{put-none, put-more}
 use Rattle.cluster.specs.Terms.{row_cells}
 use Rattle.numbers.specs.RecordNumber.{number_at}
-use borrow.Author.Rules.{rules}
-use native.Mathlib.Omega.{arith}
 use Rattle.id_bytes.proofs.put_ids.Given as goal
 
 abbrev pub invariant-loop-j : goal.invariant-loop-j

@@ -3,7 +3,6 @@
 use mathlib.Core.Path.{sym, ap, subst, ◌∙◌}
 use Prim.Native.Nat.{◌<◌}
 use native.Mathlib.Omega.{arith}
-use borrow.Author.Rules.{rules}
 use Rattle.lengths.specs.RecordLengths.{rule, rule_of}
 use Rattle.lengths.specs.declared.Rule.{Rule}
 use Rattle.lengths.proofs.Lengths.{step_pos, rule_there}

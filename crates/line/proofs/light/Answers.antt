@@ -1,10 +1,8 @@
 -- `line::light` meets its contract. The loop's invariant: the sum so far.
 use borrow.Author.Rules.{rules}
 use native.Mathlib.Omega.{arith}
-use Prim.Native.Nat.{ℕ, ◌*◌, ◌-◌, ◌≤◌}
+use Prim.Native.Nat.{ℕ}
 use mathlib.Core.Path.{sym, ◌≡◌, refl, ap, ◌∙◌}
-use mathlib.Core.Logic.{⊎_elim}
-use Rattle.tallies.specs.ModelTallies.{most_in_zone}
 use Rattle.dealing.proofs.Line.{light_zone, heavy_zone}
 use Rattle.dealing.specs.ModelDeal.{light}
 use Rattle.sums.specs.TermsSums.{sum_to}
@@ -26,10 +24,14 @@ loop-z-preserved c =
     let a = c.args in
     let f = cell a.sums.now in (
       search rules,
-      elim c.if-sums-z.branch [ then-sums-z w ↦ omega (arith, c.requires.2 c.loop-z.z (omega arith))
-          | else-sums-z w ↦ omega arith ],
-      elim c.if-sums-z.branch [ then-sums-z w ↦ w.sum-is ∙ sum-next (light a.partitions f) c.loop-z.z c.loop-z.sum (f c.loop-z.z) c.loop-z.invariant.2 (sym (light_zone a.partitions a.n f c.loop-z.z w.if-sums-z.true).lights)
-          | else-sums-z w ↦ w.sum-is ∙ omega (arith, sum-next (light a.partitions f) c.loop-z.z c.loop-z.sum 0 c.loop-z.invariant.2 (sym (heavy_zone a.partitions a.n f c.loop-z.z w.if-sums-z.false).lights)) ],
+      elim c.if-sums-z.branch [
+        | then-sums-z w ↦ omega (arith, c.requires.2 c.loop-z.z (omega arith))
+        | else-sums-z w ↦ omega arith
+      ],
+      elim c.if-sums-z.branch [
+        | then-sums-z w ↦ w.sum-is ∙ sum-next (light a.partitions f) c.loop-z.z c.loop-z.sum (f c.loop-z.z) c.loop-z.invariant.2 (sym (light_zone a.partitions a.n f c.loop-z.z w.if-sums-z.true).lights)
+        | else-sums-z w ↦ w.sum-is ∙ omega (arith, sum-next (light a.partitions f) c.loop-z.z c.loop-z.sum 0 c.loop-z.invariant.2 (sym (heavy_zone a.partitions a.n f c.loop-z.z w.if-sums-z.false).lights))
+      ],
     )
 
 pub returns : goal.returns

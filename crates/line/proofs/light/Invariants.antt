@@ -1,16 +1,11 @@
 -- `line::light` meets its contract. The loop's invariant: the sum so far.
 -- Assumes nothing.
-use borrow.Author.Rules.{rules}
-use native.Mathlib.Omega.{arith}
-use Prim.Native.Nat.{ℕ, ◌*◌, ◌-◌, ◌≤◌}
-use mathlib.Core.Path.{sym, ◌≡◌, refl, ap, ◌∙◌}
-use mathlib.Core.Logic.{⊎_elim}
+use Prim.Native.Nat.{◌*◌, ◌-◌, ◌≤◌}
+use mathlib.Core.Path.{◌≡◌}
 use Rattle.tallies.specs.ModelTallies.{most_in_zone}
-use Rattle.dealing.proofs.Line.{light_zone, heavy_zone}
 use Rattle.dealing.specs.ModelDeal.{light}
 use Rattle.sums.specs.TermsSums.{sum_to}
 use Rattle.incidence.specs.ModelIncidence.{cell}
-use Rattle.sums.proofs.Sum.{sum-next}
 use Rattle.line.proofs.light.Given as goal
 
 abbrev pub invariant-loop-z : goal.invariant-loop-z

@@ -1,7 +1,6 @@
 -- `sets::rest` meets its contract. Assumes nothing.
 use mathlib.Core.Path.{sym}
 use native.Mathlib.Omega.{arith}
-use borrow.Author.Rules.{rules}
 use Rattle.sets.proofs.Words.{word-rest, rest-none}
 use Rattle.sets.proofs.rest.Goals as goal
 

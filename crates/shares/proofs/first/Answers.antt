@@ -1,12 +1,9 @@
 -- `shares::first` meets its contract. The loop's invariant: the first b numbers are written, and the room that is left.
 use borrow.Author.Rules.{rules}
 use native.Mathlib.Omega.{arith}
-use Prim.Native.Nat.{◌-◌, ◌≤◌}
-use mathlib.Core.Path.{◌≡◌}
-use Rattle.cluster.specs.Terms.{most_nodes}
 use Rattle.sums.specs.TermsSums.{sum_to}
 use Rattle.dealing.specs.ModelDeal.{pour, zoned}
-use Rattle.incidence.specs.ModelIncidence.{cell, column}
+use Rattle.incidence.specs.ModelIncidence.{cell}
 use Rattle.incidence.proofs.Columns.{column-none, column-next, column_end}
 use Rattle.shares.proofs.Pouring.{pour_here, pour_left}
 use Rattle.shares.proofs.first.Goals as goal

@@ -1,15 +1,11 @@
 -- `shares::second` meets its contract. The loop's invariant: the first b numbers are written, and the room that is left.
 -- Assumes nothing.
-use borrow.Author.Rules.{rules}
-use native.Mathlib.Omega.{arith}
-use Prim.Native.Nat.{ℕ, ◌+◌, ◌-◌, ◌≤◌}
-use mathlib.Core.Path.{◌≡◌, ap}
+use Prim.Native.Nat.{◌+◌, ◌-◌, ◌≤◌}
+use mathlib.Core.Path.{◌≡◌}
 use Rattle.cluster.specs.Terms.{most_nodes}
 use Rattle.sums.specs.TermsSums.{sum_to}
 use Rattle.dealing.specs.ModelDeal.{pour}
 use Rattle.incidence.specs.ModelIncidence.{cell, column}
-use Rattle.incidence.proofs.Columns.{column-none, column-next, column_end}
-use Rattle.shares.proofs.Pouring.{pour_here, pour_left}
 use Rattle.shares.proofs.second.Given as goal
 
 abbrev pub invariant-loop-b : goal.invariant-loop-b

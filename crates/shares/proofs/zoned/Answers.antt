@@ -1,6 +1,5 @@
 -- `shares::zoned` meets its contract.
 -- Assumes nothing.
-use borrow.Author.Rules.{rules}
 use native.Mathlib.Omega.{arith}
 use Rattle.dealing.specs.ModelDeal.{zoned}
 use Rattle.shares.proofs.zoned.Goals as goal

@@ -1,6 +1,6 @@
 -- `cluster::Node::out_of_range` meets its contract.
 -- Assumes nothing.
-use mathlib.Core.Path.{◌≡◌, sym, ap}
+use mathlib.Core.Path.{sym, ap}
 use mathlib.Core.Bool.{Bool, ◌||◌}
 use lib.Dec.{ltb}
 use borrow.Author.Rules.{rules}

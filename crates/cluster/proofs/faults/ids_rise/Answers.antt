@@ -1,10 +1,9 @@
 -- `cluster::faults::ids_rise` meets its contract. The loop's invariant: the used ids rise exactly where those that are still before the
 use borrow.Author.Rules.{rules}
 use native.Mathlib.Omega.{arith}
-use Prim.Native.Nat.{◌≤◌, ◌-◌}
 use mathlib.Core.Path.{◌≡◌, sym, ap, ◌∙◌}
 use mathlib.Core.List.{List}
-use lib.ListN.{take, drop, length}
+use lib.ListN.{length}
 use Rattle.cells.proofs.Cells.{rest_all, rest-none, length_of_map}
 use Rattle.cluster.specs.Terms.{most_nodes, ids_of, rising, rising_from}
 use Rattle.cluster.specs.declared.Node.{Node}
@@ -23,8 +22,7 @@ returns-then-id-last c =
 
 pub loop-i-preserved : goal.loop-i-preserved
 loop-i-preserved c =
-    let long : length c.args.c.nodes ≡ most_nodes = search length_of_map in
-    (
+    let long : length c.args.c.nodes ≡ most_nodes = search length_of_map in (
       search rules,
       search rules,
       c.loop-i.invariant.2

@@ -1,13 +1,10 @@
 -- `cluster::faults::some_out_of_range` meets its contract. The loop's invariant: a node in use is out of range exactly where one of those is that are
 use borrow.Author.Rules.{rules}
 use native.Mathlib.Omega.{arith}
-use Prim.Native.Nat.{◌≤◌, ◌-◌}
 use mathlib.Core.Path.{◌≡◌, sym, ap, ◌∙◌}
-use mathlib.Core.List.{List}
-use lib.ListN.{take, drop, length}
+use lib.ListN.{length}
 use Rattle.cells.proofs.Cells.{rest_all, rest-none, length_of_map}
 use Rattle.cluster.specs.Terms.{most_nodes, some_out_of_range}
-use Rattle.cluster.specs.declared.Node.{Node}
 use Rattle.cluster.proofs.Scans.{out_here, out_not_here}
 use Rattle.cluster.proofs.faults.some_out_of_range.Goals as goal
 
@@ -23,8 +20,7 @@ returns-then-out_of_range c =
 
 pub loop-i-preserved : goal.loop-i-preserved
 loop-i-preserved c =
-    let long : length c.args.c.nodes ≡ most_nodes = search length_of_map in
-    (
+    let long : length c.args.c.nodes ≡ most_nodes = search length_of_map in (
       search rules,
       search rules,
       c.loop-i.invariant.2

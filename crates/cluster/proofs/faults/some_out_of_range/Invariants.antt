@@ -1,16 +1,10 @@
 -- `cluster::faults::some_out_of_range` meets its contract. The loop's invariant: a node in use is out of range exactly where one of those is that are
 -- still before the scan.
 -- Assumes nothing.
-use borrow.Author.Rules.{rules}
-use native.Mathlib.Omega.{arith}
 use Prim.Native.Nat.{◌≤◌, ◌-◌}
-use mathlib.Core.Path.{◌≡◌, sym, ap, ◌∙◌}
-use mathlib.Core.List.{List}
-use lib.ListN.{take, drop, length}
-use Rattle.cells.proofs.Cells.{rest_all, rest-none, length_of_map}
+use mathlib.Core.Path.{◌≡◌}
+use lib.ListN.{take, drop}
 use Rattle.cluster.specs.Terms.{most_nodes, some_out_of_range}
-use Rattle.cluster.specs.declared.Node.{Node}
-use Rattle.cluster.proofs.Scans.{out_here, out_not_here}
 use Rattle.cluster.proofs.faults.some_out_of_range.Given as goal
 
 abbrev pub invariant-loop-i : goal.invariant-loop-i

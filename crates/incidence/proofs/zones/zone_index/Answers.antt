@@ -1,12 +1,11 @@
 -- `incidence::zones::zone_index` meets its contract. The loop's invariant: no node before i is of the zone.
 use borrow.Author.Rules.{rules}
 use native.Mathlib.Omega.{arith}
-use Prim.Native.Nat.{ℕ, ◌-◌, ◌≤◌, ◌<◌}
 use mathlib.Core.Path.{◌≡◌, refl, sym}
-use lib.ListN.{length, get_or}
+use lib.ListN.{length}
 use borrow.Author.Count.{below_more}
 use Rattle.cells.proofs.Cells.{length_of_map}
-use Rattle.cluster.specs.Terms.{most_nodes, no_node}
+use Rattle.cluster.specs.Terms.{most_nodes}
 use Rattle.incidence.proofs.ZoneScan.{zone_found}
 use Rattle.incidence.proofs.zones.zone_index.Goals as goal
 

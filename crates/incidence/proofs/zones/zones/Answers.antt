@@ -1,10 +1,8 @@
 -- `incidence::zones::zones` meets its contract. The loop's invariant: the first b zone indices are written.
 use borrow.Author.Rules.{rules}
 use native.Mathlib.Omega.{arith}
-use Prim.Native.Nat.{◌-◌, ◌≤◌}
-use mathlib.Core.Path.{◌≡◌}
-use Rattle.cluster.specs.Terms.{most_nodes, topology}
-use Rattle.incidence.specs.ModelIncidence.{zone_index, column, zone_cells}
+use Rattle.cluster.specs.Terms.{topology}
+use Rattle.incidence.specs.ModelIncidence.{zone_index, zone_cells}
 use Rattle.incidence.proofs.Columns.{column-none, column-next, column_end}
 use Rattle.incidence.proofs.zones.zones.Goals as goal
 

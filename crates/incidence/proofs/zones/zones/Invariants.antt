@@ -1,12 +1,9 @@
 -- `incidence::zones::zones` meets its contract. The loop's invariant: the first b zone indices are written.
 -- Assumes nothing.
-use borrow.Author.Rules.{rules}
-use native.Mathlib.Omega.{arith}
 use Prim.Native.Nat.{◌-◌, ◌≤◌}
 use mathlib.Core.Path.{◌≡◌}
 use Rattle.cluster.specs.Terms.{most_nodes, topology}
-use Rattle.incidence.specs.ModelIncidence.{zone_index, column, zone_cells}
-use Rattle.incidence.proofs.Columns.{column-none, column-next, column_end}
+use Rattle.incidence.specs.ModelIncidence.{zone_index, column}
 use Rattle.incidence.proofs.zones.zones.Given as goal
 
 abbrev pub invariant-loop-b : goal.invariant-loop-b

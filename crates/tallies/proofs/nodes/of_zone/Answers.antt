@@ -1,9 +1,7 @@
 -- `tallies::nodes::of_zone` meets its contract. The loop's invariant: the mask of the nodes passed.
 use borrow.Author.Rules.{rules}
 use native.Mathlib.Omega.{arith}
-use Prim.Native.Nat.{◌-◌, ◌≤◌}
 use mathlib.Core.Path.{◌≡◌, refl, ap, ◌∙◌}
-use mathlib.Core.Logic.{⊎_elim}
 use Rattle.sums.specs.ModelSums.{is}
 use Rattle.sums.proofs.Sum.{is_eq, is_ne}
 use Rattle.sets.specs.ModelBits.{mask_of}
@@ -21,8 +19,9 @@ loop-b-preserved c =
     let a = c.args in (
       search rules,
       elim c.if-zones-b.branch [
-          then-zones-b w ↦ w.mask-is ∙ (w.with-mask.ensures ∙ mask_here (λ i. is (cell a.zones.now i) a.z) c.loop-b.b c.loop-b.mask c.loop-b.invariant.1 (omega arith) (omega (arith, is_eq w.if-zones-b.true)))
-          | else-zones-b w ↦ w.mask-is ∙ mask_not_here (λ i. is (cell a.zones.now i) a.z) c.loop-b.b c.loop-b.mask c.loop-b.invariant.1 (is_ne w.if-zones-b.false) ],
+        | then-zones-b w ↦ w.mask-is ∙ (w.with-mask.ensures ∙ mask_here (λ i. is (cell a.zones.now i) a.z) c.loop-b.b c.loop-b.mask c.loop-b.invariant.1 (omega arith) (omega (arith, is_eq w.if-zones-b.true)))
+        | else-zones-b w ↦ w.mask-is ∙ mask_not_here (λ i. is (cell a.zones.now i) a.z) c.loop-b.b c.loop-b.mask c.loop-b.invariant.1 (is_ne w.if-zones-b.false)
+      ],
     )
 
 pub returns : goal.returns

@@ -1,15 +1,10 @@
 -- `tallies::nodes::of_zone` meets its contract. The loop's invariant: the mask of the nodes passed.
 -- Assumes nothing.
-use borrow.Author.Rules.{rules}
-use native.Mathlib.Omega.{arith}
 use Prim.Native.Nat.{◌-◌, ◌≤◌}
-use mathlib.Core.Path.{◌≡◌, refl, ap, ◌∙◌}
-use mathlib.Core.Logic.{⊎_elim}
+use mathlib.Core.Path.{◌≡◌}
 use Rattle.sums.specs.ModelSums.{is}
-use Rattle.sums.proofs.Sum.{is_eq, is_ne}
 use Rattle.sets.specs.ModelBits.{mask_of}
 use Rattle.incidence.specs.ModelIncidence.{cell}
-use Rattle.sets.proofs.Masks.{mask_here, mask_not_here}
 use Rattle.tallies.proofs.nodes.of_zone.Given as goal
 
 abbrev pub invariant-loop-b : goal.invariant-loop-b

@@ -1,10 +1,7 @@
 -- `tallies::totals::in_zone` meets its contract. The loop's invariant: the sum so far.
 use borrow.Author.Rules.{rules}
 use native.Mathlib.Omega.{arith}
-use Prim.Native.Nat.{◌*◌, ◌-◌, ◌≤◌}
 use mathlib.Core.Path.{◌≡◌, refl, ap, ◌∙◌}
-use mathlib.Core.Logic.{⊎_elim}
-use Rattle.cluster.specs.Terms.{buffer_rows}
 use Rattle.sums.specs.TermsSums.{sum_to}
 use Rattle.dealing.specs.ModelDeal.{in_zone}
 use Rattle.incidence.specs.ModelIncidence.{cell}
@@ -28,8 +25,9 @@ loop-b-preserved c =
       search rules,
       elim c.if-zones-b.branch [ then-zones-b w ↦ omega (arith, c.requires.3 c.loop-b.b (omega arith)) | else-zones-b w ↦ omega arith ],
       elim c.if-zones-b.branch [
-          then-zones-b w ↦ w.sum-is ∙ zone_here zone f c.loop-b.b a.z c.loop-b.sum (f c.loop-b.b) w.if-zones-b.true c.loop-b.invariant.2 refl
-          | else-zones-b w ↦ w.sum-is ∙ zone_not_here zone f c.loop-b.b a.z c.loop-b.sum w.if-zones-b.false c.loop-b.invariant.2 ],
+        | then-zones-b w ↦ w.sum-is ∙ zone_here zone f c.loop-b.b a.z c.loop-b.sum (f c.loop-b.b) w.if-zones-b.true c.loop-b.invariant.2 refl
+        | else-zones-b w ↦ w.sum-is ∙ zone_not_here zone f c.loop-b.b a.z c.loop-b.sum w.if-zones-b.false c.loop-b.invariant.2
+      ],
     )
 
 pub returns : goal.returns

@@ -1,15 +1,10 @@
 -- `tallies::totals::in_zone` meets its contract. The loop's invariant: the sum so far.
 -- Assumes nothing.
-use borrow.Author.Rules.{rules}
-use native.Mathlib.Omega.{arith}
 use Prim.Native.Nat.{◌*◌, ◌-◌, ◌≤◌}
-use mathlib.Core.Path.{◌≡◌, refl, ap, ◌∙◌}
-use mathlib.Core.Logic.{⊎_elim}
+use mathlib.Core.Path.{◌≡◌}
 use Rattle.cluster.specs.Terms.{buffer_rows}
-use Rattle.sums.specs.TermsSums.{sum_to}
 use Rattle.dealing.specs.ModelDeal.{in_zone}
 use Rattle.incidence.specs.ModelIncidence.{cell}
-use Rattle.tallies.proofs.Adding.{zone_here, zone_not_here}
 use Rattle.tallies.proofs.totals.in_zone.Given as goal
 
 abbrev pub invariant-loop-b : goal.invariant-loop-b

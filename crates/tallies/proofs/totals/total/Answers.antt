@@ -1,9 +1,8 @@
 -- `tallies::totals::total` meets its contract. The loop's invariant: the sum so far.
 use borrow.Author.Rules.{rules}
 use native.Mathlib.Omega.{arith}
-use Prim.Native.Nat.{ℕ, ◌*◌, ◌-◌, ◌≤◌, min}
+use Prim.Native.Nat.{ℕ, min}
 use mathlib.Core.Path.{◌≡◌, refl, ap, ◌∙◌}
-use Rattle.tallies.specs.ModelTallies.{most_in_zone}
 use Rattle.sums.specs.TermsSums.{sum_to}
 use Rattle.incidence.specs.ModelIncidence.{cell}
 use Rattle.sums.proofs.Sum.{sum-next}

@@ -1,13 +1,10 @@
 -- `tallies::totals::total` meets its contract. The loop's invariant: the sum so far.
 -- Assumes nothing.
-use borrow.Author.Rules.{rules}
-use native.Mathlib.Omega.{arith}
-use Prim.Native.Nat.{ℕ, ◌*◌, ◌-◌, ◌≤◌, min}
-use mathlib.Core.Path.{◌≡◌, refl, ap, ◌∙◌}
+use Prim.Native.Nat.{◌*◌, ◌-◌, ◌≤◌, min}
+use mathlib.Core.Path.{◌≡◌}
 use Rattle.tallies.specs.ModelTallies.{most_in_zone}
 use Rattle.sums.specs.TermsSums.{sum_to}
 use Rattle.incidence.specs.ModelIncidence.{cell}
-use Rattle.sums.proofs.Sum.{sum-next}
 use Rattle.tallies.proofs.totals.total.Given as goal
 
 abbrev pub invariant-loop-b : goal.invariant-loop-b

@@ -1,9 +1,9 @@
 -- `tallies::totals::zone_totals` meets its contract. The loop's invariant: each zone has the sum so far.
 use borrow.Author.Rules.{rules}
 use native.Mathlib.Omega.{arith}
-use Prim.Native.Nat.{ℕ, ◌-◌, ◌≤◌, ◌<◌}
+use Prim.Native.Nat.{ℕ, ◌<◌}
 use mathlib.Core.Path.{◌≡◌, ap, ◌∙◌}
-use lib.ListN.{length, get_or-replicate}
+use lib.ListN.{get_or-replicate}
 use Rattle.cluster.specs.Terms.{buffer_rows, most_nodes}
 use Rattle.sums.specs.TermsSums.{sum_to}
 use Rattle.dealing.specs.ModelDeal.{in_zone}

@@ -1,16 +1,11 @@
 -- `tallies::totals::zone_totals` meets its contract. The loop's invariant: each zone has the sum so far.
 -- Assumes nothing.
-use borrow.Author.Rules.{rules}
-use native.Mathlib.Omega.{arith}
 use Prim.Native.Nat.{ℕ, ◌-◌, ◌≤◌, ◌<◌}
-use mathlib.Core.Path.{◌≡◌, ap, ◌∙◌}
-use lib.ListN.{length, get_or-replicate}
-use Rattle.cluster.specs.Terms.{buffer_rows, most_nodes}
-use Rattle.sums.specs.TermsSums.{sum_to}
+use mathlib.Core.Path.{◌≡◌}
+use lib.ListN.{length}
+use Rattle.cluster.specs.Terms.{most_nodes}
 use Rattle.dealing.specs.ModelDeal.{in_zone}
 use Rattle.incidence.specs.ModelIncidence.{cell}
-use Rattle.incidence.proofs.Columns.{column-cells}
-use Rattle.tallies.proofs.Adding.{zone_bound, zones-next}
 use Rattle.tallies.proofs.totals.zone_totals.Given as goal
 
 abbrev pub invariant-loop-b : goal.invariant-loop-b
