@@ -7,14 +7,14 @@ COMMAND = console/target/release/dezghuri
 LIBRARY = build/libconsole.a
 PROGRAM = build/plan
 PREFIX = /usr/local
-CRATES := crates.txt $(shell find crates -name '*.rt' -o -name '*.antt')
+CRATES := crates.txt $(shell find crates -path '*/out' -prune -o \( -name '*.rt' -o -name '*.antt' \) -print)
 
 # What a bare `make` does: the gate takes twenty minutes or more, and nobody should start it by chance.
 help:
 	echo 'make plan      plans the sample cluster of five boxes, then the same cluster after one box was replaced'
 	echo 'make report    makes the page that shows the second plan, build/home.html'
 	echo 'make library   proves the C functions and puts the static library that programs link into build/'
-	echo 'make test      proves every crate from nothing, tries the edits that must be refused, runs all tests'
+	echo 'make test      proves every crate, tries the edits that must be refused, runs all tests'
 	echo 'make soak      compares many more cases with the listing and the parser than `make test` does'
 	echo 'make bench     times the planner beside plain Rust'
 	echo 'make look      takes pictures of report pages in headless Chromium, to be looked at'
@@ -61,10 +61,10 @@ install: $(LIBRARY) $(PROGRAM)
 uninstall:
 	PREFIX='$(PREFIX)' DESTDIR='$(DESTDIR)' sh tools/install.sh uninstall
 
-# The program `plan`, proved and compiled; again only when a crate has changed.
-$(PROGRAM): $(CRATES)
+# The program `plan`, proved and compiled; again only when a crate has changed. The library comes first: for it all crates are proved several at a time.
+$(PROGRAM): $(CRATES) | $(LIBRARY)
 	@mkdir -p build
-	@echo 'Proving the program plan and compiling it: some minutes the first time (see build/program.log).'
+	@echo 'Compiling the program plan (see build/program.log).'
 	@sh tools/program.sh >build/program.log 2>&1 || { cat build/program.log; exit 1; }
 
 # The C functions, proved and compiled; again only when a crate has changed.

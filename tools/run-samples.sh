@@ -4,7 +4,7 @@
 # command's `plan --record` must print the very same, and end with status 1 where the record is refused.
 set -u
 cd "$(dirname "$0")/.." || exit 2
-program=target/bin/plan
+program=build/plan
 command=console/target/release/dezghuri
 samples=samples/plan
 

@@ -13,8 +13,24 @@ bad=0
 last_parts='tools/run-samples.sh tools/program.sh tools/try-install.sh'
 for part in $last_parts; do printf 'exit 0\n' >"$part"; done
 mkdir -p crates/console_one/src console/src console/reference/src
-printf 'console_one:\n' >crates.txt
-printf '// One function for C, so that there is a library to build.\n#[no_mangle]\npub extern "C" fn one() -> u32 {\n    1\n}\n' >crates/console_one/src/lib.rt
+printf 'console_one staticlib:\n' >crates.txt
+mkdir crates/console_one/must-fail
+cat >crates/console_one/src/lib.rt <<'END'
+// One function for C, so that there is a library to build.
+#![tactic(auto)]
+
+ghost use Rattle.std.specs.Prelude.{◌≡◌};
+
+// A number.
+#[unsafe(no_mangle)]
+pub extern "C" fn one() -> u32
+    ensures { result ≡ 1 }
+{
+    1
+}
+END
+edit=crates/console_one/must-fail/two.edit
+printf 'file: src/lib.rt\nold:     1\nnew:     2\n' >$edit
 package() { printf '[package]\nname = "%s"\nversion = "0.1.0"\nedition = "2021"\n' "$1"; }
 rust_test() { printf '#[test]\nfn holds() { assert!(%s); }\n' "$1"; }
 package small >console/Cargo.toml; rust_test true >console/src/lib.rs
@@ -36,10 +52,15 @@ without() { mv "$1" away; try "without $1" fail; mv away "$1"; }
 
 mkdir -p build; : >build/home.layout
 try 'the copy as it is' pass
+if grep -q '^rt: ok; .*; must-fail edits: 1 refused; ' log; then ok 'the edit is refused'; else wrong 'the edit is not refused'; fi
 if [ -f build/home.layout ] && [ -f build/libconsole.a ]; then ok 'build/ is kept'; else wrong 'build/ is not kept'; fi
 cp -r crates/console_one crates/other; try 'an unlisted crate' fail; rm -r crates/other
 printf 'fn f() {}\n' >stray.rt; try 'a stray .rt file' fail; rm stray.rt
 printf -- '-- x\n' >crates/console_one/stray.antt; try 'a stray .antt file' fail; rm crates/console_one/stray.antt
+cp $edit kept
+printf 'file: src/lib.rt\nold:     3\nnew:     2\n' >$edit; try 'an edit whose text no longer stands' fail
+printf 'file: src/lib.rt\nold:     1\nnew:     1 + 0\n' >$edit; try 'an edit that is proved' fail
+cp kept $edit
 for package in console console/reference; do
     rust_test false >$package/src/lib.rs; try "a Rust test of $package that fails" fail; rust_test true >$package/src/lib.rs
 done
@@ -54,10 +75,15 @@ done
 mkdir bin
 cat >bin/rt <<'END'
 #!/bin/sh
-[ "$1" = ci ] || { mkdir -p target/staticlib; : >"$2.o"; ar rc "target/staticlib/lib$2.a" "$2.o"; exit; }
+case $1 in
+    ci) ;;
+    lib) mkdir -p out; : >out/one.o; ar rc "out/lib$(basename "$PWD").a" out/one.o; exit ;;
+    *) exit ;;
+esac
 : >called
 printf 'rt: a line\n'
 while [ -n "${WAIT-}" ] && [ ! -e go ]; do sleep 1; done
+printf '%s\n' "${OK-rt: ok; handles allowed: none; must-fail edits: 12 refused; every proof and must-fail edit was done in this run}"
 printf '%s\n' "${LAST-3 passed, 0 failed}"
 exit "${STATUS-0}"
 END
@@ -67,6 +93,12 @@ PATH=$copy/bin:$PATH; export PATH
 try 'a stand-in for rt' pass
 STATUS=1; export STATUS; try 'rt ends with status 1 and a line that reads as a pass' fail; unset STATUS
 LAST='2 passed, 1 failed'; export LAST; try 'rt has another last line, and status 0' fail; unset LAST
+
+OK='rt: ok; handles allowed: none; must-fail edits: 9 refused, 2 of them only by a limit; every proof and must-fail edit was done in this run'
+export OK; try 'rt refuses two edits by a limit' pass
+OK='rt: ok; handles allowed: none; must-fail edits: 9 refused, 3 bad; done in this run: 0 of the 3 proofs'; try 'rt has three bad edits' fail
+OK='rt: ok; handles allowed: none; must-fail edits: 9 refused, 2 of them only by a limit, 11 bad; every proof'; try 'rt has a bad edit beside others' fail
+OK='rt: a line'; try "rt has no line 'rt: ok'" fail; unset OK
 
 # The gate's lines come while rt still runs.
 rm -f go
