@@ -1,14 +1,13 @@
 -- `sizing::bisected` meets its contract. The loop's invariant: the bits from i on are decided, and the bisection goes on from there.
 use borrow.Author.Rules.{rules}
 use native.Mathlib.Omega.{arith}
-use Prim.Native.Nat.{ℕ, ◌+◌, ◌-◌, ◌^◌, ◌≤◌}
+use Prim.Native.Nat.{ℕ, ◌-◌}
 use mathlib.Core.Path.{◌≡◌, sym, ap, ◌∙◌}
 use mathlib.Core.Bool.{true, false}
 use lib.Pow.{pow_pos}
 use Rattle.sets.proofs.Words.{word-one}
 use Rattle.cluster.specs.Terms.{topology}
 use Rattle.dealing.specs.ModelBisect.{bisect_from}
-use Rattle.tallies.specs.ModelTallies.{size_bits}
 use Rattle.sizing.specs.ModelSizing.{size_of}
 use Rattle.sizing.proofs.Bisecting.{passing, size_begins, power_half, next_bit}
 use Rattle.sizing.proofs.bisected.Goals as goal

@@ -1,7 +1,6 @@
 -- `swaps::cell` meets its contract. Assumes nothing.
 use mathlib.Core.Path.{sym}
 use lib.ListN.{get_or-eq_default}
-use borrow.Author.Rules.{rules}
 use native.Mathlib.Omega.{arith}
 use Rattle.swaps.proofs.cell.Goals as goal
 

@@ -3,7 +3,6 @@ use mathlib.Core.Path.{sym, ◌∙◌}
 use Rattle.sets.specs.ModelBits.{meet_of}
 use Rattle.sets.proofs.Laws.{meet_lt}
 use Rattle.swaps.proofs.Steps.{two_members, one-member, targets_crowded, targets_few, gone_is, near-is}
-use borrow.Author.Rules.{rules}
 use Rattle.swaps.proofs.targets_in.Goals as goal
 
 pub returns-then-rest-ne0 : goal.returns-then-rest-ne0

@@ -1,9 +1,9 @@
 -- `swaps::tighten` meets its contract. The cells of the rows before p are written. Assumes nothing.
-use Prim.Native.Nat.{ℕ, ◌≤◌, ◌-◌}
+use Prim.Native.Nat.{ℕ}
 use mathlib.Core.Path.{◌≡◌, ap, subst, ◌∙◌}
 use native.Mathlib.Omega.{arith}
 use borrow.Author.Rules.{rules}
-use lib.ListN.{length, length-set}
+use lib.ListN.{length-set}
 use Rattle.swaps.specs.ModelSwaps.{tight_of, Tight}
 use Rattle.swaps.proofs.Tightening.{tight-none, tight-more}
 use Rattle.swaps.proofs.tighten.Goals as goal

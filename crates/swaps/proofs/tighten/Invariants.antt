@@ -1,11 +1,8 @@
 -- `swaps::tighten` meets its contract. The cells of the rows before p are written. Assumes nothing.
-use Prim.Native.Nat.{ℕ, ◌≤◌, ◌-◌}
-use mathlib.Core.Path.{◌≡◌, ap, subst, ◌∙◌}
-use native.Mathlib.Omega.{arith}
-use borrow.Author.Rules.{rules}
-use lib.ListN.{length, length-set}
-use Rattle.swaps.specs.ModelSwaps.{tight_of, Tight}
-use Rattle.swaps.proofs.Tightening.{tight-none, tight-more}
+use Prim.Native.Nat.{◌≤◌, ◌-◌}
+use mathlib.Core.Path.{◌≡◌}
+use lib.ListN.{length}
+use Rattle.swaps.specs.ModelSwaps.{Tight}
 use Rattle.swaps.proofs.tighten.Given as goal
 
 abbrev pub invariant-loop-p : goal.invariant-loop-p

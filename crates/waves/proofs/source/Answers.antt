@@ -1,14 +1,11 @@
 -- `waves::source` meets its contract: what is left of the set has the source that the whole of it has.
-use Prim.Native.Nat.{ℕ, ◌^◌, ◌≤◌, ◌<◌}
+use Prim.Native.Nat.{ℕ, ◌^◌, ◌<◌}
 use mathlib.Core.Path.{◌≡◌, refl, sym, ap, ◌∙◌, subst}
-use lib.ListN.{length}
 use native.Mathlib.Omega.{arith}
 use borrow.Author.Rules.{rules}
-use Rattle.cluster.specs.Terms.{most_nodes}
-use Rattle.sets.specs.ModelBits.{mask_bits, count_of, without_of}
+use Rattle.sets.specs.ModelBits.{mask_bits, without_of}
 use Rattle.sets.proofs.Laws.{without_lt}
 use Rattle.sets.proofs.Scan.{fewer}
-use Rattle.waves.specs.ModelWaves.{source_of}
 use Rattle.waves.proofs.Sources.{source-node, source_here, source-on, source-none}
 use Rattle.waves.proofs.source.Goals as goal
 
@@ -34,8 +31,7 @@ loop-left-smaller c =
 pub loop-left-preserved : goal.loop-left-preserved
 loop-left-preserved c =
     let rest-is : c.rest-left.result ≡ without_of c.loop-left.left c.least-u.result = c.rest-left.ensures ∙ ap (without_of c.loop-left.left) (sym c.least-u.ensures) in
-    let a = c.args in
-    (
+    let a = c.args in (
       c.loop-left.invariant.0,
       subst (λ (x : ℕ). x < 2 ^ mask_bits) (sym rest-is) (without_lt c.loop-left.left c.least-u.result),
       source-on a.leads.now a.v c.loop-left.left c.least-u.result c.loop-left.invariant.1 c.loop-left-test.true c.least-u.ensures

@@ -1,16 +1,11 @@
 -- `waves::source` meets its contract: what is left of the set has the source that the whole of it has.
 -- Assumes nothing.
-use Prim.Native.Nat.{ℕ, ◌^◌, ◌≤◌, ◌<◌}
-use mathlib.Core.Path.{◌≡◌, refl, sym, ap, ◌∙◌, subst}
+use Prim.Native.Nat.{◌^◌, ◌≤◌, ◌<◌}
+use mathlib.Core.Path.{◌≡◌}
 use lib.ListN.{length}
-use native.Mathlib.Omega.{arith}
-use borrow.Author.Rules.{rules}
 use Rattle.cluster.specs.Terms.{most_nodes}
-use Rattle.sets.specs.ModelBits.{mask_bits, count_of, without_of}
-use Rattle.sets.proofs.Laws.{without_lt}
-use Rattle.sets.proofs.Scan.{fewer}
+use Rattle.sets.specs.ModelBits.{mask_bits, count_of}
 use Rattle.waves.specs.ModelWaves.{source_of}
-use Rattle.waves.proofs.Sources.{source-node, source_here, source-on, source-none}
 use Rattle.waves.proofs.source.Given as goal
 
 abbrev pub invariant-loop-left : goal.invariant-loop-left

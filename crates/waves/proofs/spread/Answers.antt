@@ -1,13 +1,11 @@
 -- `waves::spread` meets its contract. Assumes nothing.
-use Prim.Native.Nat.{ℕ, ◌^◌, ◌≤◌, ◌<◌}
+use Prim.Native.Nat.{ℕ, ◌^◌, ◌<◌}
 use mathlib.Core.Path.{◌≡◌, sym, ap, ◌∙◌, subst}
-use lib.ListN.{length}
 use native.Mathlib.Omega.{arith}
 use borrow.Author.Rules.{rules}
-use Rattle.sets.specs.ModelBits.{mask_bits, union_of, count_of, without_of}
+use Rattle.sets.specs.ModelBits.{mask_bits, union_of, without_of}
 use Rattle.sets.proofs.Laws.{union_lt, without_lt, least-some}
 use Rattle.sets.proofs.Scan.{fewer}
-use Rattle.cluster.specs.Terms.{most_nodes}
 use Rattle.waves.specs.ModelWaves.{spread_of}
 use Rattle.waves.proofs.Waving.{spread-start, spread-turn, spread_end}
 use Rattle.waves.proofs.spread.Goals as goal

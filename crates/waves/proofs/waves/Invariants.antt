@@ -1,14 +1,11 @@
 -- `waves::waves` meets its contract. Assumes nothing.
-use Prim.Native.Nat.{suc, ◌-◌, ◌≤◌, ◌<◌}
-use mathlib.Core.Path.{◌≡◌, refl, sym, ◌∙◌}
-use lib.ListN.{length, set, length-set}
-use native.Mathlib.Omega.{arith}
-use native.Mathlib.Numerals.{add-one}
-use borrow.Author.Rules.{rules}
+use Prim.Native.Nat.{◌-◌, ◌≤◌, ◌<◌}
+use mathlib.Core.Path.{◌≡◌}
+use lib.ListN.{length}
 use Rattle.sets.specs.ModelBits.{count_of}
 use Rattle.cluster.specs.Terms.{most_nodes}
 use Rattle.waves.specs.ModelWaves.{wave_cells}
-use Rattle.waves.proofs.Waving.{Going, going_starts, going_room, going_on, going_shut, going_met}
+use Rattle.waves.proofs.Waving.{Going}
 use Rattle.waves.proofs.waves.Given as goal
 
 abbrev pub invariant-loop-wave : goal.invariant-loop-wave
