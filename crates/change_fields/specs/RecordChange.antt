@@ -1,7 +1,6 @@
 -- What a change of the boxes is, and what a change record is, as bytes: document 02, requests 2026-04 and 2026-05. "Box" in the papers is a node here.
 -- Assumes nothing.
 use Rattle.std.specs.Prelude.{ℕ, ◌+◌, ◌-◌, ◌^◌, ◌<◌, cond, List, [], ◌∷◌, ◌++◌, eqb, length, replicate}
-use Rattle.cluster.specs.declared.Node.{Node}
 use Rattle.fields.specs.RecordField.{bytes_of, number_at, node_width, node_bytes, FitsNode, node_at_byte, head_width, field}
 use Rattle.change_fields.specs.declared.Change.{Change}
 use Rattle.change_fields.specs.declared.Change.TheVariants.{Add, Remove, Resize}
