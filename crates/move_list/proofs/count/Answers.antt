@@ -18,6 +18,7 @@ returns-then-fault-ne0 c =
 
 pub count_steps-requires : goal.count_steps-requires
 count_steps-requires c =
+    -- Past the test there is no fault.
     let none : let a = c.args in (moves_fault a.c a.former.now a.assignment.now).refusal ≡ 0 = sym (ap (λ (x : Checked). x.refusal) c.fault-fault.ensures) ∙ c.if-fault-ne0.false in
     none
 

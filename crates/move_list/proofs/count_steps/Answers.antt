@@ -27,6 +27,7 @@ wide_mask_of-old-requires c =
 
 pub overflow_add-steps : goal.overflow_add-steps
 overflow_add-steps c =
+    -- A row has few steps.
     let few : c.count-steps.result ≤ 2 * mask_bits = omega (arith, c.count-steps.ensures, few_steps c.wide_mask_of-old.result c.mask_of-new.result) in
     omega (arith, few)
 

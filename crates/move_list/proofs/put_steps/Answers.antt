@@ -28,6 +28,7 @@ wide_mask_of-old-requires c =
 
 pub put_row-at-requires : goal.put_row-at-requires
 put_row-at-requires c =
+    -- The number of partitions is that of the cluster.
     let rows : c.partitions-partitions.result ≡ partitions (topology c.args.c) = (let a = c.args in
     c.partitions-partitions.ensures.0 ∙ partitions_in_range a.c.bits (new_accepted a.c a.former.now a.assignment.now c.requires.0).bits) in
     let a = c.args in

@@ -17,6 +17,7 @@ use Rattle.loss.proofs.given.lost_of.Goals as goal
 
 pub overflow_sub-result : goal.overflow_sub-result
 overflow_sub-result c =
+    -- All rows that are lost, and those past the partitions.
     let total : let a = c.args in
     c.lost_rows-lost.result ≡ loss_of (layout_in a.c a.assignment.now) a.given.now + (buffer_rows - partitions (topology a.c)) = (let a = c.args in
     let p = c.partitions-partitions in
@@ -26,6 +27,7 @@ overflow_sub-result c =
     c.lost_rows-lost.ensures
     ∙ (ap (lost_rows _) c.set_of-set.ensures
     ∙ loss_same a.c a.assignment.now c.requires _ are _ a.given.now (given-ids (topology a.c).nodes a.given.now))) in
+    -- The rows past the partitions.
     let left : let a = c.args in c.past-past.result ≡ buffer_rows - partitions (topology a.c) = (let a = c.args in
     c.past-past.ensures
     ∙ ap (λ (n : ℕ). buffer_rows - n) (c.partitions-partitions.ensures.0 ∙ partitions_in_range a.c.bits (cluster_accepted a.c a.assignment.now c.requires).bits)) in

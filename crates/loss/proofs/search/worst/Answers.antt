@@ -11,6 +11,7 @@ use Rattle.loss.proofs.search.worst.Goals as goal
 
 pub returns-then-number-eq0 : goal.returns-then-number-eq0
 returns-then-number-eq0 c =
+    -- It begins with the lowest nodes, and what they cost.
     let lowest : let a = c.args in
     found c.lost_rows-lost.result c.below-set.result ≡ costing a.rows.now (below_of a.number) = unfold costing in (let a = c.args in
     ap₂ found (c.lost_rows-lost.ensures ∙ ap (lost_rows a.rows.now) c.below-set.ensures) c.below-set.ensures) in

@@ -14,6 +14,7 @@ use Rattle.loss.proofs.worst.worst_loss.Goals as goal
 pub returns-then-fault-ne0 : goal.returns-then-fault-ne0
 returns-then-fault-ne0 c =
     let long : length c.args.c.nodes ≡ most_nodes = search length_of_map in
+    -- What the definition owes is owed by the answer that is equal to it.
     let owed : (r : Loss) → r ≡ worst_loss c.args.c c.args.assignment.now c.args.number
     → (r ≡ worst_loss c.args.c c.args.assignment.now c.args.number) × LossOwed c.args.c c.args.assignment.now c.args.number r = λ r e. (let a = c.args in
     (e, subst (LossOwed a.c a.assignment.now a.number) (sym e) (loss_owed a.c a.assignment.now a.number long))) in
@@ -25,6 +26,7 @@ returns-then-fault-ne0 c =
 
 pub worst_of-found-requires : goal.worst_of-found-requires
 worst_of-found-requires c =
+    -- Past the test there is no fault.
     let none : let a = c.args in (loss_fault a.c a.assignment.now a.number).refusal ≡ 0 = sym (ap (λ (x : Checked). x.refusal) c.fault-fault.ensures) ∙ c.if-fault-ne0.false in
     none
 

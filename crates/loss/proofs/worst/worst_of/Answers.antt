@@ -23,8 +23,10 @@ use Rattle.loss.proofs.worst.worst_of.Goals as goal
 pub overflow_sub-result : goal.overflow_sub-result
 overflow_sub-result c =
     let long : length c.args.c.nodes ≡ most_nodes = search length_of_map in
+    -- There are as many rows as partitions.
     let many : 2 ^ min c.args.c.bits most_bits ≡ partitions (topology c.args.c) = (let a = c.args in
     partitions_in_range a.c.bits (cluster_accepted a.c a.assignment.now (all_pass a.c a.assignment.now a.number c.requires).0).bits) in
+    -- What is found, the rows past the partitions with it.
     let found : let a = c.args in
     (c.worst-found.result.lost ≡ loss_of (layout_in a.c a.assignment.now) (worst_in a.c a.assignment.now a.number) + (buffer_rows - partitions (topology a.c)))
     × (ids_where (topology a.c).nodes (bit c.worst-found.result.set) ≡ worst_in a.c a.assignment.now a.number) = (let a = c.args in
@@ -33,6 +35,7 @@ overflow_sub-result c =
     let are = sets-read a.c a.assignment.now rows _ p.result (p.ensures.0 ∙ many) (omega arith) (search rules) (get_or_zeros [] buffer_rows) c.read_masks.ensures in
     found-worst a.c a.assignment.now a.number c.requires (fits a.c a.assignment.now a.number long c.requires) rows are c.worst-found.result
     (c.worst-found.ensures ∙ ap (λ (n : ℕ). searched rows a.number 0 n 0 (costing rows (below_of a.number))) c.used-n.ensures.0)) in
+    -- The rows past the partitions.
     let left : let a = c.args in c.past-past.result ≡ buffer_rows - partitions (topology a.c) = c.past-past.ensures ∙ ap (λ (n : ℕ). buffer_rows - n) (c.partitions-partitions.ensures.0 ∙ many) in
     omega (arith, found.0, left)
 
