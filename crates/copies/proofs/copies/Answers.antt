@@ -19,6 +19,7 @@ slice_bounds-count_row-end c = let a = c.args in
 
 pub count_row-requires : goal.count_row-requires
 count_row-requires c =
+    -- The number of partitions of a cluster without fault.
     let rows : c.partitions-partitions.result ≡ partitions (topology c.args.c) = c.partitions-partitions.ensures.0 ∙ partitions_in_range c.args.c.bits (accepted c.args.c c.requires.0).bits in
     (c.requires.0, search rules, c.requires.1, c.loop-p.invariant.2, c.requires.2 c.loop-p.p (omega (arith, rows)))
 

@@ -22,11 +22,13 @@ loop-left-init c = (search rules, omega arith, λ b h. refl)
 
 pub offset_bounds-counts-b : goal.offset_bounds-counts-b
 offset_bounds-counts-b c =
+    -- The node that is met has a slot.
     let slot : c.least-b.result < most_nodes = omega (arith, c.least-b.ensures, least-some c.loop-left.left c.loop-left.invariant.1 c.loop-left-test.true) in
     omega (arith, slot)
 
 pub bounds-counts-b : goal.bounds-counts-b
 bounds-counts-b c =
+    -- There is a count for each slot.
     let slots : length c.loop-left.counts ≡ most_nodes = (let a = c.args in
     c.loop-left.invariant.0 ∙ (ap length c.requires.3 ∙ length-counts (topology a.c) a.cells.now a.p)) in
     let slot : c.least-b.result < most_nodes = omega (arith, c.least-b.ensures, least-some c.loop-left.left c.loop-left.invariant.1 c.loop-left-test.true) in
@@ -70,6 +72,7 @@ loop-left-preserved c =
 
 pub returns : goal.returns
 returns c =
+    -- The mask of the row is the set of the nodes that it names.
     let nodes : c.row_mask-nodes.result ≡ row_nodes (topology c.args.c) c.args.cells.now c.args.p = unfold row_nodes in (let a = c.args in
     c.row_mask-nodes.ensures
     ∙ mask-bits (topology a.c).nodes a.cells.now a.p (accepted a.c c.requires.0).ids (row_of_buffer a.cells.now a.p c.requires.2 c.requires.1) c.requires.4) in

@@ -26,6 +26,7 @@ returns-then-cells-lt-FIGURES c =
 
 pub returns-then-checked-ne0 : goal.returns-then-checked-ne0
 returns-then-checked-ne0 c =
+    -- Past the first test the refusal and the place are those of check.
     let answer : figures_fault c.args.c c.args.assignment.now c.args.size c.args.cells.now
     ≡ c.check-checked.result = (let a = c.args in
     check-fault a.c a.assignment.now a.size a.cells.now (search rules) ∙ sym c.check-checked.ensures) in
@@ -35,6 +36,7 @@ returns-then-checked-ne0 c =
 
 pub put_figures-requires : goal.put_figures-requires
 put_figures-requires c =
+    -- Past the second test neither the cluster nor a row has a fault, and the assignment is whole.
     let passes : (fault_of c.args.c ≡ 0) × (layout_cells ≤ length c.args.assignment.now)
     × ((rows_fault (topology c.args.c) c.args.assignment.now).refusal ≡ 0) = (let a = c.args in
     let w = all_pass a.c a.assignment.now a.size (sym (ap (λ (f : Checked). f.refusal) c.check-checked.ensures) ∙ c.if-checked-ne0.false) in

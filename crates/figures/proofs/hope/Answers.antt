@@ -15,6 +15,7 @@ overflow_mul-copies c = let a = accepted c.args.c c.requires in
 
 pub nonzero_div-result : goal.nonzero_div-result
 nonzero_div-result c =
+    -- The number of partitions of a cluster without fault.
     let rows : c.partitions.result ≡ 2 ^ c.args.c.bits = c.partitions.ensures.0 ∙ partitions_in_range c.args.c.bits (accepted c.args.c c.requires).bits in
     let a = accepted c.args.c c.requires in
     omega (arith, mul-le-mul_right c.partitions.result a.replication.0, pow_pos c.args.c.bits, rows)

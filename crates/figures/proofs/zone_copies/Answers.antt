@@ -24,6 +24,7 @@ loop-x-init c = (search rules, search rules, refl)
 
 pub overflow_add-total : goal.overflow_add-total
 overflow_add-total c =
+    -- What a node adds is at most the number of rows.
     let few-more : c.if-c-x.more ≤ buffer_rows =
     elim c.if-c-x.branch [
       | then-c-x w ↦ omega (arith, w.more-is, c.requires.1 c.loop-x.x (omega arith))

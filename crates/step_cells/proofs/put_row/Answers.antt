@@ -12,6 +12,7 @@ use Rattle.step_cells.proofs.put_row.Goals as goal
 pub put_steps-then-requires : goal.put_steps-then-requires
 unfolding step_count
 put_steps-then-requires c =
+    -- What is sent is what is new,
     let sent : let a = c.args in c.difference.result ≡ difference_of a.new a.old = c.difference.ensures in
     let a = c.args in
     let e = sent in (
@@ -25,6 +26,7 @@ pub put_steps-requires : goal.put_steps-requires
 unfolding step_count
 put_steps-requires c =
     let sent : let a = c.args in c.difference.result ≡ difference_of a.new a.old = c.difference.ensures in
+    -- and what is dropped is what was held and is not new.
     let dropped : let a = c.args in c.difference-2.result ≡ difference_of a.old a.new = c.difference-2.ensures in
     let a = c.args in
     let e = dropped in (

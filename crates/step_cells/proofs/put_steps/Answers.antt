@@ -17,6 +17,7 @@ loop-left-init c = (search rules, search rules, search rules, search rules, λ n
 
 pub offset_bounds-ids-b : goal.offset_bounds-ids-b
 offset_bounds-ids-b c =
+    -- The node that is met is one of the n.
     let inside : c.least-b.result < c.args.n =
     omega (arith, c.least-b.ensures, least-low c.args.n (omega arith) c.loop-left.left c.loop-left.invariant.2 c.loop-left.invariant.1 c.loop-left-test.true) in
     omega (arith, inside)

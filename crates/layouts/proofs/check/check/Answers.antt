@@ -19,6 +19,7 @@ returns-then-fault-ne0 c = let a = c.args in
 
 pub rows_fault-rows-requires : goal.rows_fault-rows-requires
 rows_fault-rows-requires c =
+    -- Past the second test the cluster and the size have no fault.
     let no_fault : cluster_fault c.args.c c.args.size ≡ 0 = sym c.cluster_fault-fault.ensures ∙ c.if-fault-ne0.false in
     let a = c.args in
     ((sound a.c a.size no_fault).0, search rules)

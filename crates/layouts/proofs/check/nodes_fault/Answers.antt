@@ -31,6 +31,7 @@ loop-b-init c =
 pub returns-then-not-takes : goal.returns-then-not-takes
 returns-then-not-takes c =
     let long : length c.args.c.nodes ≡ most_nodes = search length_of_map in
+    -- The fault of node b, by what the call answers.
     let told : let a = c.args in
     node_fault (topology a.c) (rows_in (partitions (topology a.c)) a.cells.now) a.size c.loop-b.b ≡ cond c.takes.result 0 12 = (let a = c.args in
     node-reads a.c a.cells.now (partitions (topology a.c)) a.size c.loop-b.b long (few_nodes a.c c.requires.0) (search rules)

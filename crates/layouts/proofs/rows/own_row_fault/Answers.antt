@@ -18,6 +18,7 @@ use Rattle.layouts.proofs.rows.own_row_fault.Goals as goal
 pub returns-then-row_ids-c : goal.returns-then-row_ids-c
 returns-then-row_ids-c c =
     let sound : Accepted (topology c.args.c) = accepted c.args.c c.requires.0 in
+    -- The row is one of the buffer's.
     let inside : c.args.p < buffer_rows = omega (arith, c.requires.2, few_partitions c.args.c.bits sound.bits) in
     sym (fault-ids (topology c.args.c) c.args.cells.now c.args.p sound c.requires.3 inside c.requires.2
     (λ e. c.if-row_ids-c.true (c.row_ids.ensures ∙ e)))
@@ -26,6 +27,7 @@ pub returns-then-count-c : goal.returns-then-count-c
 returns-then-count-c c =
     let sound : Accepted (topology c.args.c) = accepted c.args.c c.requires.0 in
     let inside : c.args.p < buffer_rows = omega (arith, c.requires.2, few_partitions c.args.c.bits sound.bits) in
+    -- The row has as many ids as there are copies.
     let ids : row_ids c.args.cells.now c.args.p ≡ c.args.c.replication = sym c.row_ids.ensures ∙ c.if-row_ids-c.false in
     sym (fault-nodes (topology c.args.c) c.args.cells.now c.args.p sound c.requires.3 inside c.requires.2 ids
     (λ e. c.if-count-c.true (c.count.ensures ∙ (ap count_of c.row_mask-nodes.ensures ∙ e))))
@@ -35,6 +37,7 @@ returns-then-count-c-2 c =
     let sound : Accepted (topology c.args.c) = accepted c.args.c c.requires.0 in
     let inside : c.args.p < buffer_rows = omega (arith, c.requires.2, few_partitions c.args.c.bits sound.bits) in
     let ids : row_ids c.args.cells.now c.args.p ≡ c.args.c.replication = sym c.row_ids.ensures ∙ c.if-row_ids-c.false in
+    -- The row names as many nodes as there are copies.
     let nodes : count_of (row_mask (topology c.args.c).nodes c.args.cells.now c.args.p)
     ≡ c.args.c.replication = sym (c.count.ensures ∙ ap count_of c.row_mask-nodes.ensures) ∙ c.if-count-c.false in
     let e : c.count-2.result ≡ count_of (zones_in (zone_cells (topology c.args.c)) (row_mask (topology c.args.c).nodes c.args.cells.now c.args.p))
