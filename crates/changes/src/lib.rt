@@ -94,7 +94,7 @@ pub fn change(c: &mut Cluster, bytes: &[u8], at: usize) -> Outcome
     made.answer
 }
 
-// The same with plain parameters, so that whoever calls it has no walk to prove: a cluster in, and the cluster out.
+// The same with plain parameters: a cluster in, and the cluster out.
 pub fn in_hand(c: Cluster, bytes: &[u8], at: usize) -> Made
     ensures { (result ≡ change_of c bytes.now at) × Owed c bytes.now at }
 {

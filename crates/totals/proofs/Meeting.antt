@@ -1,6 +1,6 @@
 -- The ids met in the cells, each once: one cell more.
 -- Assumes nothing.
-use Prim.Native.Nat.{ℕ, zero, suc, ◌+◌, ◌-◌, ◌≤◌, ◌<◌}
+use Prim.Native.Nat.{ℕ, ◌+◌, ◌-◌, ◌≤◌, ◌<◌}
 use mathlib.Core.Path.{◌≡◌, refl, sym, ap, ap₂, ◌∙◌}
 use mathlib.Core.Bool.{Bool, true, false, ◌||◌}
 use mathlib.Core.List.{List, [], ◌∷◌, ◌++◌}
@@ -11,9 +11,9 @@ use lib.Dec.{eqb}
 use lib.ListN.{length, take, drop, get_or, set, replicate, length-set, length-replicate, get_or-replicate}
 use lib.Seq.{take-suc, take-set-le, get_or-set_same, get_or-set_other}
 use borrow.Author.Tests.{eqb-true, eq-eqb}
-use Rattle.sums.proofs.Sum.{lt_or_ge, eq_or_ne}
+use Rattle.sums.proofs.Sum.{eq_or_ne}
 use Rattle.cluster.specs.Terms.{mem}
-use Rattle.cluster.proofs.Lists.{mem_head, mem-skip, mem-none}
+use Rattle.cluster.proofs.Lists.{mem_head, mem-skip}
 use Rattle.cells.proofs.Cells.{rest_cons, rest_all, rest-none}
 use Rattle.totals.specs.ModelTotals.{SameIds}
 

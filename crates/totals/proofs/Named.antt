@@ -3,22 +3,21 @@
 -- Assumes nothing.
 use Prim.Native.Nat.{ℕ, zero, suc, ◌+◌, ◌-◌, ◌*◌, ◌≤◌, ◌<◌}
 use mathlib.Core.Path.{◌≡◌, refl, sym, ap, ap₂, ◌∙◌, subst}
-use mathlib.Core.Bool.{Bool, true, false, cond}
+use mathlib.Core.Bool.{true, cond}
 use mathlib.Core.List.{List, [], ◌∷◌, ◌++◌}
 use mathlib.Core.Logic.{◌⊎◌, inl, inr, ⊎_elim}
-use native.Mathlib.Numerals.{add-one}
 use native.Mathlib.Nat.{suc-mul}
 use native.Mathlib.Omega.{arith}
-use lib.Dec.{ltb, leb, eqb}
-use lib.ListN.{length, take, drop, replicate}
+use lib.Dec.{ltb}
+use lib.ListN.{length, take, replicate}
 use lib.Seq.{take-add}
 use borrow.Author.Tests.{le-leb, lt-leb, lt-ltb, le-ltb, eq-eqb, ne_eqb}
 use Rattle.sums.specs.TermsSums.{one_if, tab}
 use Rattle.sums.specs.ModelSums.{is}
-use Rattle.sums.proofs.Sum.{lt_or_ge, eq_or_ne, is_eq, is_ne, is_one}
+use Rattle.sums.proofs.Sum.{lt_or_ge, eq_or_ne, is_eq, is_ne}
 use Rattle.sums.proofs.Tests.{true_or_false}
 use Rattle.cluster.specs.Terms.{row_cells, Layout, row, mem, rising_from, rising, copies_in, row_at, ids_in, rows_in, formed}
-use Rattle.cluster.proofs.Lists.{same_test, mem_head, mem-skip, mem_tail, mem-none, mem_cases, rising_head, rising_tail, rising_none, rising_cons, rising_down, rising_above, rising_fresh}
+use Rattle.cluster.proofs.Lists.{same_test, mem_head, mem-skip, mem_tail, mem-none, mem_cases, rising_head, rising_tail, rising_none, rising_cons, rising_above, rising_fresh}
 use Rattle.cell_rows.proofs.CellRows.{formed-rising, formed-cells}
 use Rattle.totals.specs.ModelTotals.{nearer_of, least_from, least_above, count_in}
 use Rattle.totals.specs.RecordTotals.{with_id, with_ids, ids_named}

@@ -7,7 +7,7 @@ use mathlib.Core.List.{List, [], ◌∷◌, ◌++◌, append_assoc, append-nil}
 use native.Mathlib.Omega.{arith}
 use lib.ListN.{length, take, length-append}
 use Rattle.cluster.specs.Terms.{row_cells, row_at, formed, rows_in}
-use Rattle.fields.specs.RecordField.{bytes_of, written, head_width}
+use Rattle.fields.specs.RecordField.{bytes_of, written}
 use Rattle.numbers.proofs.Numbers.{length-bytes}
 use Rattle.numbers.proofs.Written.{length-written, written_none}
 use Rattle.fields.proofs.RecordField.{length-field}

@@ -1,6 +1,6 @@
 -- The totals of a layout tell the copies of every id; totals that pass the comparison are these.
 -- Assumes nothing.
-use Prim.Native.Nat.{ℕ, ◌≤◌}
+use Prim.Native.Nat.{ℕ}
 use mathlib.Core.Path.{◌≡◌, refl, sym, ap, ap₂, ◌∙◌}
 use mathlib.Core.Bool.{true, false, ◌&&◌, false≢true}
 use mathlib.Core.List.{List, [], ◌∷◌, map}
@@ -14,7 +14,7 @@ use Rattle.cluster.specs.Terms.{Layout, mem, copies_in}
 use Rattle.cluster.proofs.Lists.{mem_head, mem-skip, mem-none}
 use Rattle.totals.specs.RecordTotals.{Total, total, ids_named, totals_of}
 use Rattle.totals.specs.RecordTotalsFaults.{copies_for, same_totals}
-use Rattle.totals.proofs.Named.{named-has, has_named}
+use Rattle.totals.proofs.Named.{has_named}
 
 module _ (f : ℕ → ℕ) where
   abbrev told : List ℕ → List Total

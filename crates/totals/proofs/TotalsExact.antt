@@ -1,10 +1,10 @@
 -- The totals are read exactly where their fields stand, one after the other.
 -- Assumes nothing.
-use Prim.Native.Nat.{ℕ, zero, suc, ◌+◌, ◌-◌, ◌*◌, ◌^◌, ◌≤◌, ◌<◌}
+use Prim.Native.Nat.{ℕ, zero, suc, ◌+◌, ◌*◌, ◌^◌, ◌≤◌, ◌<◌}
 use mathlib.Core.Path.{◌≡◌, refl, sym, ap, ap₂, ◌∙◌, subst}
 use mathlib.Core.Bool.{Bool, true, false, ◌&&◌, ◌||◌, cond}
 use mathlib.Core.List.{List, [], ◌∷◌, ◌++◌, append_assoc, append-nil}
-use mathlib.Core.Logic.{◌⊎◌, ⊎_elim}
+use mathlib.Core.Logic.{⊎_elim}
 use native.Mathlib.Omega.{arith}
 use lib.Dec.{leb, eqb}
 use lib.ListN.{length, drop, length-append, length-drop}
@@ -12,7 +12,6 @@ use lib.Seq.{drop-drop, drop_at}
 use borrow.Author.Tests.{lt-leb, eq-eqb, ne_eqb}
 use Rattle.sums.proofs.Sum.{eq_or_ne}
 use Rattle.sums.proofs.Tests.{true_or_false}
-use Rattle.cluster.specs.Terms.{mem}
 use Rattle.cluster.proofs.Lists.{mem_head}
 use Rattle.fields.specs.RecordField.{Bytes, part, bytes_of, has, number_at, rule_of, legal, head_width, field, field_at}
 use Rattle.fields.specs.declared.Field.{Field}
@@ -112,7 +111,8 @@ no_row s rest body at e =
 abbrev pub Stops : List ℕ → ℕ → Type 0
 Stops s at = leb (length s) at || row_begins s at ≡ true
 
-module _ (s rest : List ℕ) where
+-- Where the table of lengths has six bytes for tag 11. Until it has, no field 11 is whole.
+module _ (s rest : List ℕ) (listed : legal 11 6 ≡ true) where
   pub totals-found : (k at last : ℕ) (ts vs : List Total) → length vs ≤ k → drop at s ≡ total_fields vs ++ rest → Right last vs → Fit vs
       → Stops s (at + total_bytes * length vs) → totals_from k s at last ts ≡ totals_end (ts ++ vs) (at + total_bytes * length vs)
   unfolding totals_from total_fields total_field Right Fit rule_of legal
@@ -130,7 +130,7 @@ module _ (s rest : List ℕ) where
       let six : length body ≡ 6 = length-append (bytes_of 4 v.id) (bytes_of 2 v.copies) ∙ ap₂ ◌+◌ (length-bytes 4 v.id) (length-bytes 2 v.copies) in
       let inside : at < length s = omega (arith, ap length d, length-drop at s, length-append (field 11 body) after, length-field 11 body) in
       let here : field_at s at (11 ∷ []) 0 ≡ Body 11 (at + 3) (length body) =
-      field_here s after body at 11 d (11 ∷ []) 0 (mem_head 11 11 [] refl) (legal-any 11 (length body) ∙ ap (legal 11) six) in
+      field_here s after body at 11 d (11 ∷ []) 0 (mem_head 11 11 [] refl) (legal-any 11 (length body) ∙ (ap (legal 11) six ∙ listed)) in
       let start = body_here s after body at 11 d in
       let id : number_at s (at + 3) 4 ≡ v.id =
       number_here s (bytes_of 2 v.copies ++ after) (at + 3) 4 v.id (start ∙ append_assoc (bytes_of 4 v.id) (bytes_of 2 v.copies) after) f.0 in

@@ -1,17 +1,15 @@
 -- The steps of reading the totals: one total more, the fault that stops it, and its ends.
 -- Assumes nothing.
 use Prim.Native.Nat.{ℕ, zero, suc, ◌+◌, ◌-◌, ◌*◌, ◌/◌, ◌%◌, ◌≤◌, ◌<◌}
-use mathlib.Core.Path.{◌≡◌, refl, sym, ap, ap₂, ◌∙◌, subst}
-use mathlib.Core.Bool.{Bool, true, false, ◌&&◌, ◌||◌, cond}
+use mathlib.Core.Path.{◌≡◌, refl, sym, ap, ◌∙◌, subst}
+use mathlib.Core.Bool.{Bool, true, false, ◌||◌, cond}
 use mathlib.Core.List.{List, [], ◌∷◌, ◌++◌}
 use native.Mathlib.Omega.{arith}
-use native.Mathlib.Numerals.{add-one}
-use lib.Dec.{ltb, leb, eqb}
+use lib.Dec.{leb}
 use lib.ListN.{length}
 use borrow.Author.Tests.{le-leb, lt-leb, lt-ltb, le-ltb, eq-eqb, ne_eqb}
 use Rattle.sums.specs.TermsSums.{tab}
-use Rattle.fields.specs.RecordField.{head_width, number_at, rule_of, Whole, field_at}
-use Rattle.fields.specs.declared.Field.{Field}
+use Rattle.fields.specs.RecordField.{head_width, rule_of, Whole, field_at}
 use Rattle.fields.specs.declared.Field.TheVariants.{Body, Refused}
 use Rattle.fields.proofs.RecordField.{one_tag}
 use Rattle.totals.specs.RecordTotals.{Total}
@@ -50,8 +48,8 @@ pub total-width : {n at tag start len : ℕ} → Whole n at (11 ∷ []) 0 tag st
 unfolding rule_of
 total-width {n} {at} {tag} {start} {len} w =
     let t : tag ≡ 11 = one_tag 11 tag w.member in
-    let l : 6 ≤ len = subst (λ (x : ℕ). (rule_of x).least ≤ len) t w.least in
-    let g : len ≤ 6 = subst (λ (x : ℕ). len ≤ (rule_of x).greatest) t w.greatest in
+    let l : (rule_of 11).least ≤ len = subst (λ (x : ℕ). (rule_of x).least ≤ len) t w.least in
+    let g : len ≤ (rule_of 11).greatest = subst (λ (x : ℕ). len ≤ (rule_of x).greatest) t w.greatest in
     (w.begins, omega arith, omega (arith, w.ends))
 
 stopped : (k : ℕ) (s : List ℕ) (at last : ℕ) (ts : List Total) → leb (length s) at || row_begins s at ≡ true → totals_from k s at last ts ≡ totals_end ts at
