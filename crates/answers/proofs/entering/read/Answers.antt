@@ -1,0 +1,9 @@
+-- `answers::entering::read` meets its contract.
+-- Assumes nothing.
+use borrow.Author.Rules.{rules}
+use Rattle.answers.specs.TermsAnswers.{reading}
+use Rattle.answers.proofs.entering.read.Goals as goal
+
+pub returns : goal.returns
+unfolding reading
+returns c = c.read_cluster.ensures.0

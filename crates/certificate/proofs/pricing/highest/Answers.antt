@@ -1,0 +1,27 @@
+-- `certificate::pricing::highest` meets its contract. The highest of the levels passed. Assumes nothing.
+use borrow.Author.Rules.{rules}
+use native.Mathlib.Omega.{arith}
+use Prim.Native.Nat.{◌-◌, ◌≤◌}
+use mathlib.Core.Path.{◌≡◌, refl}
+use mathlib.Core.Logic.{⊎_elim}
+use lib.ListN.{length, get_or}
+use Rattle.sums.specs.ModelSums.{max_to}
+use Rattle.certificate.proofs.Making.{max_next, max_passed}
+use Rattle.certificate.proofs.pricing.highest.Goals as goal
+
+pub loop-v-init : goal.loop-v-init
+unfolding max_to
+loop-v-init c = (search rules, search rules, refl)
+
+pub loop-v-preserved : goal.loop-v-preserved
+loop-v-preserved c =
+    let a = c.args in (
+      search rules,
+      search rules,
+      max_next (λ i. get_or a.levels.now i 0) c.loop-v.v c.loop-v.most (get_or a.levels.now c.loop-v.v 0) c.if-most-level.most c.loop-v.invariant.2 refl
+          (⊎_elim (λ w. omega (arith, w.0.taken, w.1)) (λ w. omega (arith, w.0.left, w.1)) c.if-most-level.branch),
+    )
+
+pub returns : goal.returns
+returns c =
+    max_passed (λ i. get_or c.args.levels.now i 0) c.loop-v.v c.args.n c.loop-v.most c.loop-v.invariant.2 (omega arith)
