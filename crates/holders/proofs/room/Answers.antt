@@ -1,4 +1,4 @@
--- `holders::room` meets its contract. The loop's invariant: the set has the nodes with room of those that are no more left. The measure is the number of
+-- `holders::room` meets its contract: the steps of the set of nodes with room. Assumes nothing.
 use Prim.Native.Nat.{ℕ, ◌≤◌, ◌<◌}
 use mathlib.Core.Path.{◌≡◌, refl, sym, ap, ◌∙◌, subst}
 use mathlib.Core.Logic.{⊎_elim}

@@ -11,7 +11,7 @@ use Rattle.walks.proofs.first.Goals as goal
 pub returns-then-u-ge-NODES : goal.returns-then-u-ge-NODES
 returns-then-u-ge-NODES c = let a = c.args in (
   first-none a.rows.now a.former.now a.mates.now a.all a.z a.w a.u a.v a.partitions a.start a.partitions (omega arith) (omega arith)
-      (λ q f g d. no_source a.rows.now a.former.now a.mates.now a.all a.z a.w a.u a.v (λ p. omega (arith, c.shared_slice_known-1.given p)) (omega arith) q),
+      (λ q f g d. no_source a.rows.now a.former.now a.mates.now a.all a.z a.w a.u a.v (λ p. omega (arith, c.type_inv.rows p)) (omega arith) q),
   omega arith,
 )
 

@@ -8,7 +8,7 @@ use Rattle.walks.proofs.room.Goals as goal
 
 pub returns-then-u-ge-NODES : goal.returns-then-u-ge-NODES
 returns-then-u-ge-NODES c = let a = c.args in
-    room-none a.rows.now a.partitions a.caps.now a.u c.cell-cap.result (λ q. omega (arith, c.shared_slice_known-1.given q))
+    room-none a.rows.now a.partitions a.caps.now a.u c.cell-cap.result (λ q. omega (arith, c.type_inv.rows q))
     (omega arith) c.cell-cap.ensures
 
 pub returns : goal.returns
