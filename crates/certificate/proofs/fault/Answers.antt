@@ -15,36 +15,6 @@ use Rattle.certificate.specs.TermsCertify.{former_fault, certify_fault}
 use Rattle.certificate.proofs.Owing.{former_formed, order_short, order-check, order-former}
 use Rattle.certificate.proofs.fault.Goals as goal
 
-module _ (c : tie.After-rows-formed) where
-  abbrev checked : goal.Else-checked-ne0
-  checked = c
-
-  abbrev start : goal.Start
-  start = checked
-
-  -- Check has passed.
-  passed : (check_of start.args.c start.args.assignment.now start.args.size).refusal ≡ 0
-  passed = sym (ap (λ (r : Checked). r.refusal) checked.check.ensures) ∙ checked.if2.left
-
-  sound : fault_of start.args.c ≡ 0
-  sound = (passed_valid start.args.c start.args.assignment.now start.args.size passed).accepted_cluster
-
-  -- The test was of the first P former rows.
-  tested : c.rows_formed-formed.result ≡ former_formed (topology start.args.c) start.args.former.now
-  tested =
-      c.rows_formed-formed.ensures
-      ∙ (ap (rows_formed start.args.former.now)
-      (c.partitions.ensures.0 ∙ partitions_in_range start.args.c.bits (accepted start.args.c sound).bits)
-      ∙ sym (former_same start.args.c start.args.former.now (omega arith) sound))
-
-  -- So their fault is what is answered.
-  answered : (b : Bool) → c.rows_formed-formed.result ≡ b
-      → certify_fault start.args.c start.args.former.now start.args.assignment.now start.args.size ≡ fault (cond b 0 5) 0
-  unfolding former_fault
-  answered b e =
-      order-former start.args.c start.args.former.now start.args.assignment.now start.args.size (omega arith) passed
-      ∙ ap (λ (t : Bool). fault (cond t 0 5) 0) (sym tested ∙ e)
-
 pub returns-then-former-lt-CELLS : goal.returns-then-former-lt-CELLS
 returns-then-former-lt-CELLS c =
     let a = c.args in
@@ -57,7 +27,33 @@ returns-then-checked-ne0 c =
     e ∙ sym (order-check a.c a.former.now a.assignment.now a.size (search rules) (λ z. c.if-checked-ne0.true (ap (λ (r : Checked). r.refusal) e ∙ z)))
 
 pub returns-then-formed : goal.returns-then-formed
-returns-then-formed c = sym (answered c true c.if-formed.true)
+unfolding former_fault
+returns-then-formed c =
+    let a = c.args in
+    -- Check has passed.
+    let passed : (check_of a.c a.assignment.now a.size).refusal ≡ 0 = sym (ap (λ (r : Checked). r.refusal) c.check-checked.ensures) ∙ c.if-checked-ne0.false in
+    let sound : fault_of a.c ≡ 0 = (passed_valid a.c a.assignment.now a.size passed).accepted_cluster in
+    -- The test was of the first P former rows, so their fault is what is answered.
+    let tested : c.rows_formed-formed.result ≡ former_formed (topology a.c) a.former.now =
+        c.rows_formed-formed.ensures
+        ∙ (ap (rows_formed a.former.now) (c.partitions.ensures.0 ∙ partitions_in_range a.c.bits (accepted a.c sound).bits)
+        ∙ sym (former_same a.c a.former.now (omega arith) sound)) in
+    sym
+    (order-former a.c a.former.now a.assignment.now a.size (omega arith) passed
+    ∙ ap (λ (t : Bool). fault (cond t 0 5) 0) (sym tested ∙ c.if-formed.true))
 
 pub returns-else-formed : goal.returns-else-formed
-returns-else-formed c = sym (answered c false c.if-formed.false)
+unfolding former_fault
+returns-else-formed c =
+    let a = c.args in
+    -- Check has passed.
+    let passed : (check_of a.c a.assignment.now a.size).refusal ≡ 0 = sym (ap (λ (r : Checked). r.refusal) c.check-checked.ensures) ∙ c.if-checked-ne0.false in
+    let sound : fault_of a.c ≡ 0 = (passed_valid a.c a.assignment.now a.size passed).accepted_cluster in
+    -- The test was of the first P former rows, so their fault is what is answered.
+    let tested : c.rows_formed-formed.result ≡ former_formed (topology a.c) a.former.now =
+        c.rows_formed-formed.ensures
+        ∙ (ap (rows_formed a.former.now) (c.partitions.ensures.0 ∙ partitions_in_range a.c.bits (accepted a.c sound).bits)
+        ∙ sym (former_same a.c a.former.now (omega arith) sound)) in
+    sym
+    (order-former a.c a.former.now a.assignment.now a.size (omega arith) passed
+    ∙ ap (λ (t : Bool). fault (cond t 0 5) 0) (sym tested ∙ c.if-formed.false))

@@ -8,6 +8,7 @@ use lib.ListN.{length, get_or}
 use Rattle.sums.specs.ModelSums.{max_to}
 use Rattle.certificate.proofs.Making.{max_next, max_passed}
 use Rattle.certificate.proofs.pricing.highest.Goals as goal
+use Rattle.certificate.proofs.pricing.highest.Goals.{then-most-level, else-most-level}
 
 pub loop-v-init : goal.loop-v-init
 unfolding max_to
@@ -19,7 +20,7 @@ loop-v-preserved c =
       search rules,
       search rules,
       max_next (λ i. get_or a.levels.now i 0) c.loop-v.v c.loop-v.most (get_or a.levels.now c.loop-v.v 0) c.if-most-level.most c.loop-v.invariant.2 refl
-          (⊎_elim (λ w. omega (arith, w.0.taken, w.1)) (λ w. omega (arith, w.0.left, w.1)) c.if-most-level.branch),
+          (elim c.if-most-level.branch [ then-most-level w ↦ omega (arith, w.most-is) | else-most-level w ↦ omega (arith, w.most-is) ]),
     )
 
 pub returns : goal.returns
