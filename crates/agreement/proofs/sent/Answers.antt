@@ -12,6 +12,7 @@ overflow_mul-result c =
 
 pub overflow_sub-result : goal.overflow_sub-result
 overflow_sub-result c =
+    -- The pairs that are counted are those of the definition.
     let shared : c.agreement-shared.result ≡ agreement_in c.args.rows.now c.args.before.now c.args.partitions = shared-is _ _ _ _ c.requires.1 c.requires.3 c.requires.2 c.agreement-shared.ensures in
     omega (arith, shared)
 

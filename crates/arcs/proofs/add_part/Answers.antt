@@ -24,6 +24,7 @@ loop-left-init c =
 
 pub overflow_add-k : goal.overflow_add-k
 overflow_add-k c =
+    -- Within a turn, the node is one of the masks, and the list is long enough.
     let bounds : (c.least-k.result < most_nodes) × (arc_cells ≤ length c.loop-left.arcs) = (let w = least-word c.args.part c.loop-left.left c.loop-left.invariant.2 c.loop-left-test.true in
     omega (arith, w, c.least-k.ensures, c.loop-left.invariant.3.long)) in
     omega (arith, bounds)

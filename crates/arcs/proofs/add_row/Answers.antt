@@ -29,6 +29,7 @@ loop-left-init c =
 
 pub note-requires : goal.note-requires
 note-requires c =
+    -- Within a turn, the node is one of the masks, and the list is long enough.
     let bounds : (c.least-a.result < most_nodes) × (arc_cells ≤ length c.loop-left.arcs) = (let w = least-word c.args.row c.loop-left.left c.loop-left.invariant.2 c.loop-left-test.true in
     omega (arith, w, c.least-a.ensures, c.loop-left.invariant.3.long)) in
     omega (arith, bounds)

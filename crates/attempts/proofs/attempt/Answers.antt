@@ -23,25 +23,25 @@ returns-then-k-ge-WAVES c =
     )
 
 pub trace-traced-requires : goal.trace-traced-requires
-trace-traced-requires c =
-    (
-      search rules,
-      search rules,
-      search rules,
-      search rules,
-      omega (arith, c.requires.4),
-      omega (arith, c.waves-k.ensures.1),
-      omega (arith, c.requires.5),
-      search rules,
-      search rules,
-      c.waves-k.ensures.0,
-      c.requires.7,
-      c.requires.8,
-      c.requires.9,
-    )
+trace-traced-requires c = (
+  search rules,
+  search rules,
+  search rules,
+  search rules,
+  omega (arith, c.requires.4),
+  omega (arith, c.waves-k.ensures.1),
+  omega (arith, c.requires.5),
+  search rules,
+  search rules,
+  c.waves-k.ensures.0,
+  c.requires.7,
+  c.requires.8,
+  c.requires.9,
+)
 
 pub overflow_cast-u : goal.overflow_cast-u
 overflow_cast-u c =
+    -- Where an arc was nowhere, its nodes are nodes of the lists.
     let nodes : (get_or c.trace-traced.new.y (c.trace-traced.result + 1) 0 < most_nodes)
     × (length c.args.leads.now ≡ most_nodes) = (let a = c.args in
     let n =
@@ -109,15 +109,14 @@ returns-then-traced-k c =
     )
 
 pub make-requires : goal.make-requires
-make-requires c =
-    (
-      omega (arith, c.trace-traced.ensures.0),
-      omega (arith, c.trace-traced.ensures.1),
-      search rules,
-      search rules,
-      c.requires.7,
-      c.requires.8,
-    )
+make-requires c = (
+  omega (arith, c.trace-traced.ensures.0),
+  omega (arith, c.trace-traced.ensures.1),
+  search rules,
+  search rules,
+  c.requires.7,
+  c.requires.8,
+)
 
 pub refresh-requires : goal.refresh-requires
 refresh-requires c =

@@ -57,14 +57,15 @@ loop-i-preserved c =
       search rules,
       c.loop-i.invariant.5,
       elim c.if-p-partitions.branch [
-          then-p-partitions w ↦ refresh-row a.rows.now a.former.now a.partitions a.mates.now a.all a.z a.even.now a.y.now a.q.now a.leads.now i c.loop-i.leads
-          c.if-p-partitions.leads r (get_or a.q.now i 0) w.cell-row.result w.cell.result refl w.if-p-partitions.true w.cell-row.ensures w.cell.ensures
-          (subst (λ (x : List ℕ). Widened a.mates.now a.all a.z a.even.now w.cell-row.result w.cell.result c.loop-i.leads x) (sym w.leads-is) w.widen.ensures)
-          | else-p-partitions+then-v-lt-NODES w ↦ refresh-store a.rows.now a.former.now a.partitions a.mates.now a.all a.z a.even.now a.y.now a.q.now a.leads.now i c.loop-i.leads
-          c.if-p-partitions.leads r (get_or a.y.now i 0) (get_or a.even.now (most_nodes + get_or a.y.now i 0) 0) refl (omega (arith, w.if-p-partitions.false)) w.if-v-lt-NODES.true refl c.loop-i.invariant.1
-          (w.leads-is ∙ w.join.ensures)
-          | else-p-partitions+else-v-lt-NODES w ↦ refresh-past a.rows.now a.former.now a.partitions a.mates.now a.all a.z a.even.now a.y.now a.q.now a.leads.now i c.loop-i.leads
-          c.if-p-partitions.leads r (omega (arith, w.if-p-partitions.false)) (omega (arith, w.if-v-lt-NODES.false)) w.leads-is ],
+        | then-p-partitions w ↦ refresh-row a.rows.now a.former.now a.partitions a.mates.now a.all a.z a.even.now a.y.now a.q.now a.leads.now i c.loop-i.leads
+            c.if-p-partitions.leads r (get_or a.q.now i 0) w.cell-row.result w.cell.result refl w.if-p-partitions.true w.cell-row.ensures w.cell.ensures
+            (subst (λ (x : List ℕ). Widened a.mates.now a.all a.z a.even.now w.cell-row.result w.cell.result c.loop-i.leads x) (sym w.leads-is) w.widen.ensures)
+        | else-p-partitions+then-v-lt-NODES w ↦ refresh-store a.rows.now a.former.now a.partitions a.mates.now a.all a.z a.even.now a.y.now a.q.now a.leads.now i c.loop-i.leads
+            c.if-p-partitions.leads r (get_or a.y.now i 0) (get_or a.even.now (most_nodes + get_or a.y.now i 0) 0) refl (omega (arith, w.if-p-partitions.false)) w.if-v-lt-NODES.true refl c.loop-i.invariant.1
+            (w.leads-is ∙ w.join.ensures)
+        | else-p-partitions+else-v-lt-NODES w ↦ refresh-past a.rows.now a.former.now a.partitions a.mates.now a.all a.z a.even.now a.y.now a.q.now a.leads.now i c.loop-i.leads
+            c.if-p-partitions.leads r (omega (arith, w.if-p-partitions.false)) (omega (arith, w.if-v-lt-NODES.false)) w.leads-is
+      ],
     )
 
 pub returns : goal.returns

@@ -18,7 +18,9 @@ returns-then-fault-ne0 c =
 
 pub returns-then-size : goal.returns-then-size
 returns-then-size c =
+    -- Past the first test there is no fault,
     let sound : (certify_fault c.args.c c.args.former.now c.args.assignment.now c.args.size).refusal ≡ 0 = sym (ap (λ (k : Checked). k.refusal) c.fault-fault.ensures) ∙ c.if-fault-ne0.false in
+    -- and the size that is compared with is the cluster's.
     let compared : c.size.result ≡ size_of (topology c.args.c) = (let a = c.args in
     c.size.ensures ∙ size_in_lem a.c (faultless a.c a.former.now a.assignment.now a.size sound)) in
     let a = c.args in

@@ -35,9 +35,9 @@ returns-then-formed c =
     let sound : fault_of a.c ≡ 0 = (passed_valid a.c a.assignment.now a.size passed).accepted_cluster in
     -- The test was of the first P former rows, so their fault is what is answered.
     let tested : c.rows_formed-formed.result ≡ former_formed (topology a.c) a.former.now =
-        c.rows_formed-formed.ensures
-        ∙ (ap (rows_formed a.former.now) (c.partitions.ensures.0 ∙ partitions_in_range a.c.bits (accepted a.c sound).bits)
-        ∙ sym (former_same a.c a.former.now (omega arith) sound)) in
+    c.rows_formed-formed.ensures
+    ∙ (ap (rows_formed a.former.now) (c.partitions.ensures.0 ∙ partitions_in_range a.c.bits (accepted a.c sound).bits)
+    ∙ sym (former_same a.c a.former.now (omega arith) sound)) in
     sym
     (order-former a.c a.former.now a.assignment.now a.size (omega arith) passed
     ∙ ap (λ (t : Bool). fault (cond t 0 5) 0) (sym tested ∙ c.if-formed.true))
@@ -51,9 +51,9 @@ returns-else-formed c =
     let sound : fault_of a.c ≡ 0 = (passed_valid a.c a.assignment.now a.size passed).accepted_cluster in
     -- The test was of the first P former rows, so their fault is what is answered.
     let tested : c.rows_formed-formed.result ≡ former_formed (topology a.c) a.former.now =
-        c.rows_formed-formed.ensures
-        ∙ (ap (rows_formed a.former.now) (c.partitions.ensures.0 ∙ partitions_in_range a.c.bits (accepted a.c sound).bits)
-        ∙ sym (former_same a.c a.former.now (omega arith) sound)) in
+    c.rows_formed-formed.ensures
+    ∙ (ap (rows_formed a.former.now) (c.partitions.ensures.0 ∙ partitions_in_range a.c.bits (accepted a.c sound).bits)
+    ∙ sym (former_same a.c a.former.now (omega arith) sound)) in
     sym
     (order-former a.c a.former.now a.assignment.now a.size (omega arith) passed
     ∙ ap (λ (t : Bool). fault (cond t 0 5) 0) (sym tested ∙ c.if-formed.false))

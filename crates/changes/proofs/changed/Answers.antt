@@ -34,6 +34,7 @@ returns-then-bytes-at c =
 
 pub returns-in_default : goal.returns-in_default
 returns-in_default c =
+    -- The field that was looked for.
     let field_is : c.field_in-f.result
     ≡ field_at c.args.bytes.now c.args.at change_tags 0 = (let a = c.args in
     c.field_in-f.ensures.0 ∙ ap (λ (l : List ℕ). field_at a.bytes.now a.at l 0) c.tags.ensures) in
@@ -49,6 +50,7 @@ returns-in_default c =
 
 pub change_in-requires : goal.change_in-requires
 change_in-requires c =
+    -- What is known of it where it is whole.
     let whole_is : (tag start len : ℕ) → c.field_in-f.result ≡ Body tag start len
     → Whole (length c.args.bytes.now) c.args.at change_tags 0 tag start len = λ tag start len e. (let a = c.args in
     subst (λ (l : List ℕ). Whole (length a.bytes.now) a.at l 0 tag start len) c.tags.ensures

@@ -29,6 +29,7 @@ pub overflow_cast-from : goal.overflow_cast-from
 overflow_cast-from c =
     let at : Visit c.args.fell c.loop-left.left c.least-v.result c.rest-left.result =
     record { some = c.loop-left-test.true; scan = c.loop-left.invariant.1; at_least = c.least-v.ensures; at_rest = c.rest-left.ensures ∙ ap (without_of c.loop-left.left) (sym c.least-v.ensures) } in
+    -- Where the next one came from is a node.
     let from : get_or c.args.row.now c.least-v.result 0 < most_nodes =
     c.requires.5 c.least-v.result (visit_below at c.args.n c.requires.4) (bit-true c.args.fell c.least-v.result (visit_member at)) in
     omega (arith, from)

@@ -53,6 +53,7 @@ slice_bounds-descend-end-in-loop-k-3 c = sym c.loop-k.invariant.12
 
 pub descend-fell-requires : goal.descend-fell-requires
 descend-fell-requires c =
+    -- Within a turn, the level is below n.
     let inside : c.loop-k.k < c.args.n = let t = c.loop-k-test.true in omega arith in
     let i = c.loop-k.invariant in
     let a = c.args in

@@ -35,8 +35,10 @@ givers-goal-requires c =
 
 pub loop-again-init : goal.loop-again-init
 loop-again-init c =
+    -- The row lacks b.
     let out : (let a = c.args in bits_at a.rows.now a.p a.b ≡ 0) = (let a = c.args in
     member-false (get_or a.rows.now a.p 0) a.b (sym c.member.ensures ∙ c.if-member.false)) in
+    -- The goal is the set of those that could give way.
     let is-goal : (let a = c.args in c.givers-goal.result ≡ givers_of a.mates.now a.all a.z a.even.now (get_or a.rows.now a.p 0) (get_or a.former.now a.p 0) a.b) = (let a = c.args in
     goal_told a.mates.now a.all a.z a.even.now (get_or a.rows.now a.p 0) c.cell.result (get_or a.former.now a.p 0) a.b c.givers-goal.result
     c.givers-goal.ensures c.cell.ensures) in

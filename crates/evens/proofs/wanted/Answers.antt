@@ -19,11 +19,13 @@ loop-left-init c =
 
 pub even_of-requires : goal.even_of-requires
 even_of-requires c =
+    -- The node is one of the masks.
     let node : c.least-a.result < most_nodes = omega (arith, c.least-a.ensures, least-some c.loop-left.left c.loop-left.invariant.2 c.loop-left-test.true) in
     (node, c.loop-left.invariant.0)
 
 pub loop-left-smaller : goal.loop-left-smaller
 loop-left-smaller c =
+    -- What is left is without the node that was taken.
     let rest-is : c.rest-left.result ≡ without_of c.loop-left.left c.least-a.result = (c.rest-left.ensures
     ∙ ap (without_of c.loop-left.left) (sym c.least-a.ensures)) in
     fewer c.loop-left.left c.least-a.result c.rest-left.result c.loop-left.invariant.2 c.loop-left-test.true c.least-a.ensures rest-is

@@ -24,6 +24,7 @@ loop-left-init c =
 
 pub even_of-requires : goal.even_of-requires
 even_of-requires c =
+    -- Within a turn, the node is one of the masks, and the list is long enough.
     let bounds : (c.least-a.result < most_nodes) × (most_nodes ≤ length c.loop-left.leads) = (let w = least-word c.args.row c.loop-left.left c.loop-left.invariant.3 c.loop-left-test.true in
     omega (arith, w, c.least-a.ensures, c.loop-left.invariant.4.long)) in
     omega (arith, bounds)

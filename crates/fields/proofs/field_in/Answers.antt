@@ -23,6 +23,7 @@ returns-then-not-reaches c =
 
 pub returns-then-not-member : goal.returns-then-not-member
 returns-then-not-member c =
+    -- What each test leaves: the three bytes are there, the tag is allowed, the length is legal.
     let head : c.args.at + 3 ≤ length c.args.s.now = (let a = c.args in
     let r = c.reaches in
     true-has (length a.s.now) a.at 3 (sym r.ensures ∙ c.if-not-reaches.false)) in

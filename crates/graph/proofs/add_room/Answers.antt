@@ -18,6 +18,7 @@ loop-left-init c = let a = c.args in (search rules, left_all a.room (search rule
 
 pub overflow_add-a : goal.overflow_add-a
 overflow_add-a c =
+    -- Within a turn, the node is one of the masks, and the list is long enough.
     let bounds : (c.least-a.result < most_nodes) × (arc_cells ≤ length c.loop-left.arcs) = (let w = least-word c.args.room c.loop-left.left c.loop-left.invariant.1 c.loop-left-test.true in
     omega (arith, w, c.least-a.ensures, c.loop-left.invariant.2.long)) in
     omega (arith, bounds)

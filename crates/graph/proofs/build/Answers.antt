@@ -42,6 +42,7 @@ shape_of-kept-then-arcs-lt-ARCS c = c.loop-i.invariant.3.long ∙ sym c.requires
 pub returns-then-arcs-lt-ARCS : goal.returns-then-arcs-lt-ARCS
 unfolding arcs_of
 returns-then-arcs-lt-ARCS c =
+    -- Where all branches are passed, all is right.
     let fresh : parts ≤ c.loop-i.i
     → (let a = c.args in
     Kept a.rows.now a.former.now a.partitions a.mates.now a.all a.z (bit 0) c.loop-i.kept) = λ h. (let a = c.args in

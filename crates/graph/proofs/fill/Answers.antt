@@ -13,8 +13,10 @@ use Rattle.graph.proofs.fill.Goals.{then-first-partitions, else-first-partitions
 
 pub write_rows-requires : goal.write_rows-requires
 write_rows-requires c =
+    -- The part of the cells that is lent.
     let sub-long : length (take (c.args.leaf * arc_cells + arc_cells - c.args.leaf * arc_cells) (drop (c.args.leaf * arc_cells) c.args.kept.now)) ≡ arc_cells = (let i = c.args.leaf * arc_cells in
     omega (arith, c.requires, length-take (i + arc_cells - i) (drop i c.args.kept.now), length-drop i c.args.kept.now)) in
+    -- The rows of the leaf.
     let rows_are : c.if-rest-lt-LEAF.n ≡ rows_in leaf_rows c.args.partitions c.args.leaf = elim c.if-rest-lt-LEAF.branch [
       | then-rest-lt-LEAF v ↦ elim c.if-first-partitions.branch [ then-first-partitions w ↦ omega arith | else-first-partitions w ↦ omega arith ]
       | else-rest-lt-LEAF v ↦ elim c.if-first-partitions.branch [ then-first-partitions w ↦ omega arith | else-first-partitions w ↦ omega arith ]

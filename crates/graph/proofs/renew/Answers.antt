@@ -33,6 +33,7 @@ loop-left-init c =
 
 pub overflow_add-leaf : goal.overflow_add-leaf
 overflow_add-leaf c =
+    -- Within a turn, the leaf is one of the branch.
     let inside : c.least.result < parts = (let s = c.args.stale in
     let L = c.loop-left.invariant.5 in
     let w = least-word s c.loop-left.left L c.loop-left-test.true in

@@ -18,6 +18,7 @@ loop-i-init c =
 
 pub put_number-requires : goal.put_number-requires
 put_number-requires c =
+    -- What is left to put, before the number at hand and after it.
     let step : let values = c.numbers_in-values.result in
     length (number_fields (drop c.loop-i.i head_table) (drop c.loop-i.i values))
     ≡ 3 + c.at-entry.result.width + length (number_fields (drop (c.loop-i.i + 1) head_table) (drop (c.loop-i.i + 1) values)) = (let n = c.numbers_in-values in

@@ -13,6 +13,7 @@ loop-a-init c = (search rules, search rules, search rules, search rules, search 
 
 pub overflow_cast-c : goal.overflow_cast-c
 overflow_cast-c c =
+    -- Each node that is read stands at a level of which there is a set.
     let low : get_or c.args.levels.now c.loop-a.a 0 ≤ most_nodes = c.requires.2 c.loop-a.a (omega arith) in
     omega (arith, low)
 

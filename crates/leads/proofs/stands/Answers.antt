@@ -13,6 +13,7 @@ loop-v-init c = (search rules, search rules, search rules, search rules, stood_n
 
 pub overflow_cast-c-in-loop-v : goal.overflow_cast-c-in-loop-v
 overflow_cast-c-in-loop-v c =
+    -- Each node that is read stands at a level of which there is a set.
     let low : get_or c.args.levels.now c.loop-v.v 0 ≤ most_nodes = c.requires.2 c.loop-v.v (omega arith) in
     omega (arith, low)
 

@@ -28,6 +28,7 @@ overflow_add-weight c =
       at_least = c.least-u.ensures;
       at_rest = c.rest-left.ensures ∙ ap (without_of c.loop-left.left) (sym c.least-u.ensures);
     }) in
+    -- The sets of a node begin among the arcs.
     let begins : c.weight.result ≤ 2 * most_nodes = (let a = c.args in
     subst (λ (x : ℕ). x ≤ 2 * most_nodes) (sym c.weight.ensures) (weight-most a.even a.up c.least-u.result)) in
     arcs-fit c.least-u.result (visit_node at) c.weight.result begins

@@ -22,6 +22,7 @@ loop-c-init c =
 
 pub overflow_cast-atmost : goal.overflow_cast-atmost
 overflow_cast-atmost c =
+    -- The distance is below most_nodes.
     let small : c.loop-c.c < most_nodes = let r = c.requires.4 in omega (arith, r.small, c.loop-c-test.true) in
     let p = small in search rules
 

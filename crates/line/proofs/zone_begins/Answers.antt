@@ -19,6 +19,7 @@ returns-then-sums-z c =
 
 pub overflow_sub-result : goal.overflow_sub-result
 overflow_sub-result c =
+    -- No zone has more than the most, so that all copies are counted.
     let whole : c.total.result ≡ sum_to c.args.z (cell c.args.sums.now) =
     c.total.ensures ∙ sum_whole (cell c.args.sums.now) c.args.z most_in_zone (λ x l. c.requires.3 x (omega arith)) in
     let a = c.args in

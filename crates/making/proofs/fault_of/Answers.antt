@@ -19,12 +19,14 @@ returns-then-out_of_range c = fault-range _ c.args.x (sym c.out_of_range.ensures
 pub returns-then-is_there : goal.returns-then-is_there
 returns-then-is_there c =
     let long : length c.args.c.nodes ≡ most_nodes = search length_of_map in
+    -- The fault, by how many nodes have the id.
     let known : change_fault (topology c.args.c).nodes c.args.x
     ≡ verdict c.args.x (ltb 0 c.find-is_there.result.with) c.args.c.count = (let a = c.args in
     let l = (topology a.c).nodes in
     fault-is l a.x c.id_of-id.result c.find-is_there.result.with (sym c.out_of_range.ensures ∙ c.if-out_of_range.false)
     c.id_of-id.ensures c.find-is_there.ensures.1
     ∙ ap (verdict a.x (ltb 0 c.find-is_there.result.with)) (nodes-count a.c long c.requires)) in
+    -- The same of a change that is known by its kind.
     let said : (x : Change) (is : Bool) → c.args.x ≡ x → ltb 0 c.find-is_there.result.with ≡ is
     → verdict x is c.args.c.count ≡ change_fault (topology c.args.c).nodes c.args.x = λ x is e t. sym (known ∙ ap₂ (λ (y : Change) (b : Bool). verdict y b c.args.c.count) e t) in
     said _ true c.in-Add.is (lt-ltb 0 c.find-is_there.result.with c.if-is_there.true)

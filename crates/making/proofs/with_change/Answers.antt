@@ -22,6 +22,7 @@ unfolding new_nodes id_of
 replace-requires c =
     let long : length c.args.c.nodes ≡ most_nodes = search length_of_map in
     let few : c.args.c.count ≤ most_nodes = few_nodes c.args.c c.requires.0 in
+    -- There is a slot for what the change puts in.
     let room : (x : Change) → c.args.x ≡ x
     → c.args.c.count + length (new_nodes (topology c.args.c).nodes x) ≤ most_nodes + length (nodes_with (id_of x) (topology c.args.c).nodes) = λ x e. (let a = accepted c.args.c c.requires.0 in
     let l = (topology c.args.c).nodes in

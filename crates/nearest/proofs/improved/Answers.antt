@@ -15,6 +15,7 @@ overflow_cast-count c = omega (arith, few_nodes c.args.c c.requires.0)
 
 pub run-requires : goal.run-requires
 run-requires c =
+    -- The number of partitions of a cluster without fault.
     let rows : c.partitions-partitions.result ≡ partitions (topology c.args.c) = c.partitions-partitions.ensures.0 ∙ partitions_in_range c.args.c.bits (accepted c.args.c c.requires.0).bits in
     let d = dealt-fits c.args.c c.requires.0 c.args.size c.args.rows.now _ c.requires.4 c.deal.ensures _ rows in
     (d.0, d.1, c.requires.5)
@@ -22,6 +23,7 @@ run-requires c =
 pub returns : goal.returns
 returns c =
     let long : length c.args.c.nodes ≡ most_nodes = search length_of_map in
+    -- The count is the number of nodes in use.
     let used : c.args.c.count ≡ nodes_of (topology c.args.c) = sym (nodes-count c.args.c long (few_nodes c.args.c c.requires.0)) in
     let rows : c.partitions-partitions.result ≡ partitions (topology c.args.c) = c.partitions-partitions.ensures.0 ∙ partitions_in_range c.args.c.bits (accepted c.args.c c.requires.0).bits in
     let w =

@@ -17,6 +17,7 @@ returns-then-unusable-ne0 c =
 
 pub clear-requires : goal.clear-requires
 clear-requires c =
+    -- Past the first test nothing but the lack of a layout can be refused.
     let past : unusable c.args.c c.args.former.now (length c.args.assignment.now) (length c.args.scratch.now) ≡ 0 = sym c.unusable-unusable.ensures ∙ c.if-unusable-ne0.false in
     let usable : Usable c.args.c c.args.former.now (length c.args.assignment.now) (length c.args.scratch.now) = usable-has _ _ _ _ past in
     usable.scratch_long
@@ -38,6 +39,7 @@ pub slice_bounds-settle-end-2 : goal.slice_bounds-settle-end-2
 slice_bounds-settle-end-2 c =
     let past : unusable c.args.c c.args.former.now (length c.args.assignment.now) (length c.args.scratch.now) ≡ 0 = sym c.unusable-unusable.ensures ∙ c.if-unusable-ne0.false in
     let usable : Usable c.args.c c.args.former.now (length c.args.assignment.now) (length c.args.scratch.now) = usable-has _ _ _ _ past in
+    -- The part of the scratch that is lent.
     let lent : length (take kept_cells c.args.scratch.now) ≡ kept_cells = let h = usable.scratch_long in length-take-le kept_cells c.args.scratch.now (omega (arith, h)) in
     sym lent
 
@@ -62,6 +64,7 @@ clear-requires-2 c =
     let past : unusable c.args.c c.args.former.now (length c.args.assignment.now) (length c.args.scratch.now) ≡ 0 = sym c.unusable-unusable.ensures ∙ c.if-unusable-ne0.false in
     let usable : Usable c.args.c c.args.former.now (length c.args.assignment.now) (length c.args.scratch.now) = usable-has _ _ _ _ past in
     let lent : length (take kept_cells c.args.scratch.now) ≡ kept_cells = let h = usable.scratch_long in length-take-le kept_cells c.args.scratch.now (omega (arith, h)) in
+    -- The part comes back as long as it was.
     let came-back : length c.settle-planned.new.kept ≡ kept_cells = omega (arith, lent) in
     let s = c.args.scratch.now in
     let h = usable.scratch_long in

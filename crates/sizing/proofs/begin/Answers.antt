@@ -20,6 +20,7 @@ given-copies-requires c =
     let ok : Accepted (topology c.args.c) × (c.partitions-most.result ≡ partitions (topology c.args.c)) × (1 ≤ c.partitions-most.result) × (c.partitions-most.result ≤ buffer_rows) = (let a : Accepted (topology c.args.c) = accepted c.args.c c.requires.0 in
     let p = partitions_known (topology c.args.c) a c.partitions-most.result c.partitions-most.ensures.0 in
     (a, p.0, p.1, search rules)) in
+    -- The caps are those of the cluster.
     let caps-told : c.caps-caps.result ≡ cap_cells (topology c.args.c) c.args.size = c.caps-caps.ensures.0 ∙ caps_in_lem c.args.c c.args.size ok.0.bits in
     let few : (b : ℕ) → b < c.used-n.result → cell c.caps-caps.result b ≤ buffer_rows = λ b l. (let o = ok in
     let m = caps-most (topology c.args.c) o.0.few c.args.size c.caps-caps.result caps-told b (omega (arith, c.used-n.ensures)) in

@@ -18,6 +18,7 @@ returns-then-most-size c =
 
 pub fit-requires : goal.fit-requires
 fit-requires c =
+    -- The caps are those of the cluster.
     let caps-told : c.caps-caps.result ≡ cap_cells (topology c.args.c) c.args.size = c.caps-caps.ensures.0 ∙ caps_in_lem c.args.c c.args.size (accepted c.args.c c.requires.0).bits in
     let t = topology c.args.c in
     let n = c.used-n in

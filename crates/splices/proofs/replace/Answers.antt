@@ -23,6 +23,7 @@ loop-b-init c = (search rules, put-none 0 _ _)
 pub slot-requires : goal.slot-requires
 slot-requires c =
     let long : length c.args.c.nodes ≡ most_nodes = search length_of_map in
+    -- The place that was found is among the nodes in use.
     let room : c.find-place.result.below + c.find-place.result.with ≤ c.args.c.count = (let a = c.args in
     omega (
       arith,

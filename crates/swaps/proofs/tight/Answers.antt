@@ -23,9 +23,11 @@ returns-then-count-z c =
 
 pub overflow_add-count : goal.overflow_add-count
 overflow_add-count c =
+    -- What the turn leaves.
     let rest : c.difference-left.result
     ≡ rest_of c.args.mates.now c.loop-left.left = (rest-is c.args.mates.now c.loop-left.left c.least.result c.cell-mate.result c.rest.result c.difference-left.result
     c.least.ensures c.cell-mate.ensures c.rest.ensures c.difference-left.ensures) in
+    -- The count is below the width and below z within a turn, and what is left counts less.
     let falls : (count_of c.difference-left.result + 1 ≤ count_of c.loop-left.left)
     × (c.loop-left.count < mask_bits) = (let m = rest-count c.args.mates.now c.loop-left.left c.loop-left.invariant.0 c.loop-left-test.true in
     omega (arith, m, ap count_of rest)) in

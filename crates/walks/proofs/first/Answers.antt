@@ -36,6 +36,7 @@ sift-found-requires c =
 
 pub returns-then-found-lt-WIDTH : goal.returns-then-found-lt-WIDTH
 returns-then-found-lt-WIDTH c =
+    -- What is found is sifted from the candidates from p on.
     let found : let a = c.args in
     c.sift-found.result ≡ sifted_of a.rows.now a.mates.now a.all a.z a.u a.v (mask_bits * (c.loop-p.p / mask_bits))
     (difference_of c.candidates-word.result (below_of (c.loop-p.p % mask_bits))) = (let a = c.args in

@@ -25,6 +25,7 @@ returns-then-member c =
 
 pub loop-left-smaller : goal.loop-left-smaller
 loop-left-smaller c =
+    -- What is left is without the member that was taken.
     let rest-is : c.rest-left.result ≡ without_of c.loop-left.left c.least-u.result = c.rest-left.ensures ∙ ap (without_of c.loop-left.left) (sym c.least-u.ensures) in
     fewer c.loop-left.left c.least-u.result c.rest-left.result c.loop-left.invariant.1 c.loop-left-test.true c.least-u.ensures rest-is
 

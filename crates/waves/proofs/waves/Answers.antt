@@ -33,6 +33,7 @@ returns-then-wave-eq0 c =
 
 pub overflow_add-k : goal.overflow_add-k
 overflow_add-k c =
+    -- Within a turn whose wave is not empty, there is room for it.
     let more : suc (suc c.loop-wave.k) ≤ most_nodes = (let a = c.args in
     going_room a.leads.now a.b c.loop-wave.invariant.3 a.goal c.loop-wave.k c.loop-wave.wave c.loop-wave.seen c.loop-wave.waves c.loop-wave.invariant.4
     c.difference-wave.result c.spread.result c.spread.ensures c.difference-wave.ensures

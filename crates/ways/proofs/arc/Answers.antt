@@ -24,6 +24,7 @@ returns-then-room c = let a = c.args in (
 
 pub first-q-requires : goal.first-q-requires
 first-q-requires c =
+    -- They begin at a partition, or after the last.
     let start-low : c.if-b-u.start ≤ c.args.partitions =
     elim c.if-b-u.branch [ then-b-u+then-b-v w ↦ omega arith | then-b-u+else-b-v w ↦ omega arith | else-b-u w ↦ omega arith ] in
     (omega (arith, c.if-w-eq-NONE.false, c.weight-w.ensures.1), start-low, c.requires.2, c.requires.4, c.requires.5, c.requires.6)

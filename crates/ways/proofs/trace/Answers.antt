@@ -29,6 +29,7 @@ offset_bounds-y-i c = omega arith
 
 pub bounds-y-i : goal.bounds-y-i
 bounds-y-i c =
+    -- The nodes are as many as at first.
     let y-long : length c.loop-i.y ≡ length c.args.y.now = c.loop-i.invariant.1 ∙ length-set c.args.y.now 0 c.least.result in
     omega (arith, y-long)
 
@@ -57,6 +58,7 @@ bounds-y-i-in-loop-i c =
 
 pub arc-at-requires : goal.arc-at-requires
 arc-at-requires c =
+    -- The source is a node of the wave before, and leads to the node at hand.
     let source_is : let a = c.args in
     (c.source-u.result < most_nodes) × (bit (wave_of a.leads.now a.b (a.k - suc c.loop-i.i)) c.source-u.result ≡ 1)
     × (bit (get_or a.leads.now c.source-u.result 0) (get_or c.loop-i.y c.loop-i.i 0) ≡ 1) = (let g = c.requires in

@@ -1,4 +1,5 @@
 -- `cluster::faults::ids_rise` meets its contract. The loop's invariant: the used ids rise exactly where those that are still before the
+-- scan rise from the last one.
 use borrow.Author.Rules.{rules}
 use native.Mathlib.Omega.{arith}
 use mathlib.Core.Path.{◌≡◌, sym, ap, ◌∙◌}

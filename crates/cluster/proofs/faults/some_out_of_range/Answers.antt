@@ -1,4 +1,5 @@
 -- `cluster::faults::some_out_of_range` meets its contract. The loop's invariant: a node in use is out of range exactly where one of those is that are
+-- still before the scan.
 use borrow.Author.Rules.{rules}
 use native.Mathlib.Omega.{arith}
 use mathlib.Core.Path.{◌≡◌, sym, ap, ◌∙◌}

@@ -13,6 +13,7 @@ use Rattle.cluster_fields.proofs.row_faults.row_fault.Goals as goal
 
 pub returns-then-partitions-partition : goal.returns-then-partitions-partition
 returns-then-partitions-partition c =
+    -- What the first test says of the partition.
     let above : let a = c.args in 2 ^ a.bits ≤ number_at a.bytes.now a.start 2 =
     omega (arith, c.pair_at-partition.ensures, c.partitions.ensures, partitions_in_range c.args.bits c.requires.0) in
     let a = c.args in
@@ -22,6 +23,7 @@ pub returns-then-partition-next : goal.returns-then-partition-next
 returns-then-partition-next c =
     let below : let a = c.args in number_at a.bytes.now a.start 2 < 2 ^ a.bits =
     omega (arith, c.pair_at-partition.ensures, c.partitions.ensures, partitions_in_range c.args.bits c.requires.0) in
+    -- Where the ids rise none of them is 0.
     let rise : let a = c.args in
     (mem 0 (ids_at a.bytes.now (a.start + 2) ((a.len - 2) / 4)) ≡ false) × (rising (ids_at a.bytes.now (a.start + 2) ((a.len - 2) / 4)) ≡ true) = (let a = c.args in
     let e = sym c.ids_rise.ensures ∙ c.if-ids_rise.true in

@@ -34,6 +34,7 @@ returns-then-tag-eq3 c = λ t len e.
 
 pub offset_bounds-next-at : goal.offset_bounds-next-at
 offset_bounds-next-at c =
+    -- A node has a slot.
     let room : c.args.c.count < most_nodes = c.requires.2 (omega arith) in
     omega (arith, room)
 

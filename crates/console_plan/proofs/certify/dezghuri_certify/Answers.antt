@@ -26,6 +26,7 @@ put-requires c =
 pub returns : goal.returns
 unfolding reading former_in
 returns c =
+    -- There is a price for each slot.
     let priced : length c.certify_read-made.result.prices ≡ most_nodes = search rules in
     let a = c.args in
     let h = c.if-answer-lt-ANSWER.false in

@@ -14,6 +14,7 @@ loop-i-init c = (search rules, refl)
 
 pub returns-then-not-holds : goal.returns-then-not-holds
 returns-then-not-holds c =
+    -- The test of the number at hand, and of those after it.
     let step : let values = c.numbers_in-values.result in
     all_hold head_table values ≡ c.holds.result && all_hold (drop (c.loop-i.i + 1) head_table) (drop (c.loop-i.i + 1) values) = (let e = c.at-entry in
     let n = c.numbers_in-values in

@@ -19,7 +19,9 @@ use Rattle.layout_record.proofs.rows.read_into.Goals as goal
 
 pub read_rows-requires : goal.read_rows-requires
 read_rows-requires c =
+    -- The head that was read.
     let head : head_from head_table c.args.bytes.now 0 [] ≡ head_ends c.in-Read.numbers c.in-Read.end = sym c.read_head-h.ensures ∙ ap head_says c.in-Read.is in
+    -- The bytes are bytes.
     let bytes : Bytes c.args.bytes.now = λ i. omega (arith, c.type_inv.bytes i) in
     let h = (head_back c.args.bytes.now _ _ bytes head).1 in
     let r = few_copies _ h in

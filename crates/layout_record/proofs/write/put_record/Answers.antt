@@ -18,12 +18,14 @@ use Rattle.layout_record.proofs.write.put_record.Goals as goal
 
 pub put_numbers-requires : goal.put_numbers-requires
 put_numbers-requires c =
+    -- The record can be written.
     let can : Writable c.args.numbers c.args.cells.now (length c.args.out.now) = no_fault c.args.numbers c.args.cells.now (length c.args.out.now) c.requires in
     omega (arith, head_room c.args.numbers c.args.cells.now (length c.args.out.now) can)
 
 pub put_rows-requires : goal.put_rows-requires
 put_rows-requires c =
     let can : Writable c.args.numbers c.args.cells.now (length c.args.out.now) = no_fault c.args.numbers c.args.cells.now (length c.args.out.now) c.requires in
+    -- The number of partitions of bits in range.
     let rows : c.partitions.result ≡ 2 ^ c.args.numbers.bits = c.partitions.ensures.0 ∙ partitions_in_range c.args.numbers.bits (few_bits c.args.numbers can.fit) in
     let a = c.args in
     let e = rows in (

@@ -22,6 +22,7 @@ loop-p-init c =
 
 pub put_row-requires : goal.put_row-requires
 put_row-requires c =
+    -- There is room for one row more.
     let room : let a = c.args in c.loop-p.at + 5 + 4 * a.count ≤ length a.out.now = let a = c.args in omega (arith, row_ends c.loop-p.p a.partitions (5 + 4 * a.count) (omega arith)) in
     (omega (arith, room), search rules, search rules, search rules)
 

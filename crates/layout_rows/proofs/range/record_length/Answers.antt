@@ -10,6 +10,7 @@ use Rattle.layout_rows.proofs.range.record_length.Goals as goal
 
 pub overflow_mul-result-2 : goal.overflow_mul-result-2
 overflow_mul-result-2 c =
+    -- The rows take at most 9,472 bytes.
     let bytes : c.partitions.result * (5 + 4 * c.args.replication) ≤ 9472 = (let a = c.args in
     few_bytes c.partitions.result (5 + 4 * a.replication) c.partitions.ensures.1 (omega arith)) in
     omega (arith, bytes)

@@ -22,6 +22,7 @@ returns-then-not-in_range c =
 
 pub rows_fit-requires : goal.rows_fit-requires
 rows_fit-requires c =
+    -- What the tests leave: the numbers are in range, the rows fit.
     let fit : in_range c.args.numbers ≡ true = let r = c.in_range in sym r.ensures ∙ c.if-not-in_range.false in
     let copies : let n = c.args.numbers in (1 ≤ n.replication) × (n.replication ≤ most_copies) = few_copies c.args.numbers fit in
     (omega arith, copies.1)

@@ -23,7 +23,9 @@ returns-then-fault-ne0 c =
 
 pub returns-then-rows_formed : goal.returns-then-rows_formed
 returns-then-rows_formed c =
+    -- Past the test the cluster has no fault.
     let faultless : fault_of c.args.c ≡ 0 = sym c.fault-fault.ensures ∙ c.if-fault-ne0.false in
+    -- The test of the rows is the one of the definition.
     let rows_told : c.rows_formed.result ≡ rows_formed c.args.former.now (partitions (topology c.args.c)) = (c.rows_formed.ensures
     ∙ ap (rows_formed _) (c.partitions.ensures.0 ∙ partitions_in_range _ (accepted _ faultless).bits)) in
     usable _ _ _ _ (omega arith) (omega arith) (omega arith) faultless (sym rows_told ∙ c.if-rows_formed.true)

@@ -7,8 +7,8 @@ use Rattle.planner.proofs.settle.settle.Goals as goal
 
 pub improved-ended-requires : goal.improved-ended-requires
 improved-ended-requires c =
-    let rows : c.partitions-partitions.result ≡ partitions (topology c.args.c) = c.partitions-partitions.ensures.0 ∙ partitions_in_range c.args.c.bits (accepted c.args.c c.requires.0).bits in
-    (
+    -- The number of partitions of a cluster without fault.
+    let rows : c.partitions-partitions.result ≡ partitions (topology c.args.c) = c.partitions-partitions.ensures.0 ∙ partitions_in_range c.args.c.bits (accepted c.args.c c.requires.0).bits in (
       c.requires.0,
       c.requires.3,
       c.requires.4,

@@ -15,6 +15,7 @@ loop-at-init c = let a = c.args in (search rules, search rules, search rules, λ
 -- src/lib.rt:93:13
 pub returns-then-id-eq0 : goal.returns-then-id-eq0
 returns-then-id-eq0 c =
+    -- The least id that is answered is that of the rows.
     let told : c.least_above-id.result ≡ least_above c.loop-at.last (take (c.args.partitions * row_cells) c.args.cells.now) = c.least_above-id.ensures ∙ least_same (take c.gather-count.result c.gather-count.new.ids) (take (c.args.partitions * row_cells) c.args.cells.now) c.loop-at.invariant.5 c.loop-at.last in
     let a = c.args in
     let shape = c.requires.5 in

@@ -15,6 +15,7 @@ loop-ids-init c = let a = c.args in (search rules, search rules, λ shape. count
 -- src/writing.rt:21:13
 pub returns-then-id-eq0 : goal.returns-then-id-eq0
 returns-then-id-eq0 c =
+    -- The least id that is answered is that of the rows.
     let told : c.least_above-id.result ≡ least_above c.loop-ids.last (take (c.args.partitions * row_cells) c.args.cells.now) = c.least_above-id.ensures ∙ least_same (take c.gather-count.result c.gather-count.new.ids) (take (c.args.partitions * row_cells) c.args.cells.now) c.loop-ids.invariant.4 c.loop-ids.last in
     let a = c.args in (
       count_end a.cells.now a.partitions c.requires.2 c.loop-ids.n c.loop-ids.last c.least_above-id.result told c.if-id-eq0.true (c.loop-ids.invariant.2 c.requires.2),
@@ -25,6 +26,7 @@ returns-then-id-eq0 c =
 pub loop-ids-smaller : goal.loop-ids-smaller
 loop-ids-smaller c =
     let told : c.least_above-id.result ≡ least_above c.loop-ids.last (take (c.args.partitions * row_cells) c.args.cells.now) = c.least_above-id.ensures ∙ least_same (take c.gather-count.result c.gather-count.new.ids) (take (c.args.partitions * row_cells) c.args.cells.now) c.loop-ids.invariant.4 c.loop-ids.last in
+    -- An id has 32 bits.
     let small : c.least_above-id.result < 2 ^ 32 = search rules in
     let a = c.args in
     omega (arith, next_up a.cells.now a.partitions c.loop-ids.last c.least_above-id.result told c.if-id-eq0.false, small)
