@@ -1,7 +1,7 @@
 -- Whatever the prices, no layout sends fewer than the cheapest rows cost together less what the nodes can take; so a layout with a certificate is
 -- nearest. A layout with prices has one, and the prices of a certificate are such prices.
 -- Assumes nothing.
-use Prim.Native.Nat.{ℕ, suc, ◌+◌, ◌-◌, ◌*◌, ◌≤◌, ◌<◌}
+use Prim.Native.Nat.{ℕ, suc, ◌+◌, ◌*◌, ◌≤◌, ◌<◌}
 use mathlib.Core.Path.{◌≡◌, refl, sym, ap, ◌∙◌}
 use mathlib.Core.List.{List}
 use mathlib.Core.Bool.{true}

@@ -1,13 +1,10 @@
 -- `answers::put_nodes` meets its contract. The loop's invariant: the cells before them are kept, the cells of the first b slots are written.
 use borrow.Author.Rules.{rules}
 use native.Mathlib.Omega.{arith}
-use Prim.Native.Nat.{◌≤◌, ◌-◌, ◌+◌, ◌*◌}
 use mathlib.Core.Path.{◌≡◌, ap, ◌∙◌}
-use mathlib.Core.List.{◌++◌}
-use lib.ListN.{length, take, drop}
+use lib.ListN.{length}
 use Rattle.cells.proofs.Cells.{length_of_map}
 use Rattle.cluster.specs.Terms.{most_nodes}
-use Rattle.answers.specs.TermsAnswers.{node_cells_width, node_cells}
 use Rattle.answers.proofs.NodePuts.{written, node-next, node-none, node-all}
 use Rattle.answers.proofs.put_nodes.Goals as goal
 

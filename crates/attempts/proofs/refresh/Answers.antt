@@ -1,14 +1,12 @@
 -- `attempts::refresh` meets its contract. The arcs that the loop passed lead anew. Assumes nothing.
 use borrow.Author.Rules.{rules}
 use native.Mathlib.Omega.{arith}
-use Prim.Native.Nat.{ℕ, ◌+◌, ◌-◌, ◌≤◌}
+use Prim.Native.Nat.{ℕ, ◌+◌}
 use mathlib.Core.Path.{◌≡◌, refl, sym, ap, ◌∙◌, subst}
 use mathlib.Core.List.{List}
-use mathlib.Core.Logic.{⊎_elim}
-use lib.ListN.{length, get_or}
+use lib.ListN.{get_or}
 use Rattle.cluster.specs.Terms.{most_nodes}
-use Rattle.levels.specs.ModelGraph.{arc_cells}
-use Rattle.swaps.specs.ModelSwaps.{tight_of, Tight}
+use Rattle.swaps.specs.ModelSwaps.{tight_of}
 use Rattle.evens.specs.ModelEvens.{Widened}
 use Rattle.attempts.specs.ModelDeciding.{Refreshed}
 use Rattle.attempts.proofs.Refreshing.{refresh-none, refresh-row, refresh-store, refresh-past}

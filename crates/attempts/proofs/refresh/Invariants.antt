@@ -1,17 +1,11 @@
 -- `attempts::refresh` meets its contract. The arcs that the loop passed lead anew. Assumes nothing.
-use borrow.Author.Rules.{rules}
-use native.Mathlib.Omega.{arith}
-use Prim.Native.Nat.{ℕ, ◌+◌, ◌-◌, ◌≤◌}
-use mathlib.Core.Path.{◌≡◌, refl, sym, ap, ◌∙◌, subst}
-use mathlib.Core.List.{List}
-use mathlib.Core.Logic.{⊎_elim}
-use lib.ListN.{length, get_or}
+use Prim.Native.Nat.{◌-◌, ◌≤◌}
+use mathlib.Core.Path.{◌≡◌}
+use lib.ListN.{length}
 use Rattle.cluster.specs.Terms.{most_nodes}
 use Rattle.levels.specs.ModelGraph.{arc_cells}
-use Rattle.swaps.specs.ModelSwaps.{tight_of, Tight}
-use Rattle.evens.specs.ModelEvens.{Widened}
+use Rattle.swaps.specs.ModelSwaps.{Tight}
 use Rattle.attempts.specs.ModelDeciding.{Refreshed}
-use Rattle.attempts.proofs.Refreshing.{refresh-none, refresh-row, refresh-store, refresh-past}
 use Rattle.attempts.proofs.refresh.Given as goal
 
 abbrev pub invariant-loop-i : goal.invariant-loop-i

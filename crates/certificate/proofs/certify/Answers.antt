@@ -1,5 +1,4 @@
 -- `certificate::certify` meets its contract. Assumes nothing.
-use borrow.Author.Rules.{rules}
 use native.Mathlib.Omega.{arith}
 use mathlib.Core.Path.{◌≡◌, sym, ap, ◌∙◌, subst}
 use Rattle.cluster.specs.Terms.{topology}

@@ -3,7 +3,7 @@
 use borrow.Author.Rules.{rules}
 use native.Mathlib.Omega.{arith}
 use mathlib.Core.Path.{◌≡◌, sym, ap, ◌∙◌}
-use mathlib.Core.Bool.{Bool, cond, true, false}
+use mathlib.Core.Bool.{Bool, cond}
 use Rattle.cluster.specs.Terms.{topology, fault_of}
 use Rattle.cluster.proofs.Accepting.{partitions_in_range, accepted}
 use Rattle.layouts.specs.declared.check.Checked.{Checked}
@@ -11,7 +11,7 @@ use Rattle.layouts.specs.TermsCheck.{fault, check_of}
 use Rattle.layouts.proofs.CheckMeaning.{passed_valid}
 use Rattle.masks.specs.ModelMasks.{rows_formed}
 use Rattle.planner.proofs.Refusals.{former_same}
-use Rattle.certificate.specs.TermsCertify.{former_fault, certify_fault}
+use Rattle.certificate.specs.TermsCertify.{former_fault}
 use Rattle.certificate.proofs.Owing.{former_formed, order_short, order-check, order-former}
 use Rattle.certificate.proofs.fault.Goals as goal
 

@@ -1,9 +1,9 @@
 use borrow.Author.Rules.{rules}
 use native.Mathlib.Omega.{arith}
-use Prim.Native.Nat.{ℕ, ◌≤◌, ◌-◌}
+use Prim.Native.Nat.{ℕ}
 use mathlib.Core.Path.{◌≡◌, ap, ◌∙◌}
-use mathlib.Core.List.{List, ◌++◌}
-use lib.ListN.{length, drop, set, replicate}
+use mathlib.Core.List.{List}
+use lib.ListN.{set}
 use borrow.Author.Fill.{fill_none, fill_more}
 use Rattle.cluster.specs.Terms.{scratch_cells}
 use Rattle.clearing.proofs.clear.Goals as goal

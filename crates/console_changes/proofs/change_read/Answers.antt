@@ -1,6 +1,5 @@
 -- `console_changes::change_read` meets its contract.
 -- Assumes nothing.
-use borrow.Author.Rules.{rules}
 use mathlib.Core.Path.{ap, ◌∙◌}
 use Rattle.change_fields.specs.declared.Reverse.{Reverse}
 use Rattle.changes.specs.declared.Made.{Made}

@@ -1,13 +1,10 @@
 -- `console_changes::copy` meets its contract. The loop's invariant: the first bytes are copied, the others are as lent.
 -- Assumes nothing.
-use borrow.Author.Rules.{rules}
-use native.Mathlib.Omega.{arith}
-use Prim.Native.Nat.{ℕ, ◌≤◌, ◌-◌}
-use mathlib.Core.Path.{◌≡◌, ap, ◌∙◌}
-use mathlib.Core.List.{List, ◌++◌}
-use lib.ListN.{length, drop, get_or, set}
+use Prim.Native.Nat.{◌≤◌, ◌-◌}
+use mathlib.Core.Path.{◌≡◌}
+use mathlib.Core.List.{◌++◌}
+use lib.ListN.{length, drop, get_or}
 use Rattle.sums.specs.TermsSums.{tab}
-use Rattle.cells.proofs.Cells.{tab-none, tab-more, tab_get_or}
 use Rattle.console_changes.proofs.copy.Given as goal
 
 abbrev pub invariant-loop-i : goal.invariant-loop-i

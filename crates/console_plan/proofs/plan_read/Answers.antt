@@ -1,6 +1,5 @@
 -- `console_plan::plan_read` meets its contract.
 -- Assumes nothing.
-use borrow.Author.Rules.{rules}
 use Rattle.console_plan.specs.TermsConsolePlan.{planned, planned_assignment, planned_scratch}
 use Rattle.answers.proofs.Answered.{refused, accepted}
 use Rattle.console_plan.proofs.plan_read.Goals as goal

@@ -1,8 +1,6 @@
 -- `deciding::consider` meets its contract. Assumes nothing.
 use Prim.Native.Nat.{ℕ}
 use lib.ListN.{get_or}
-use borrow.Author.Tests.{not-true}
-use borrow.Author.Rules.{rules}
 use Rattle.sets.proofs.Laws.{member-false}
 use mathlib.Core.Path.{refl, sym, ap, ◌∙◌}
 use Rattle.evens.specs.ModelEvens.{wanted_of}

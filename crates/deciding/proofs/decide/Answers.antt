@@ -2,18 +2,14 @@
 use native.Mathlib.Omega.{arith}
 use Prim.Native.Nat.{ℕ, suc}
 use mathlib.Core.Path.{◌≡◌, refl, sym, ap, ◌∙◌}
-use mathlib.Core.Bool.{true, not, cond}
+use mathlib.Core.Bool.{not, cond}
 use mathlib.Core.List.{List}
 use lib.Dec.{eqb}
-use lib.ListN.{length, get_or}
-use Rattle.cluster.specs.Terms.{most_nodes}
+use lib.ListN.{get_or}
 use Rattle.sets.specs.ModelBits.{bits_at}
 use Rattle.sets.proofs.Laws.{member-true, member-false}
-use Rattle.swaps.specs.ModelSwaps.{Tight}
-use Rattle.holders.specs.ModelHolders.{Held}
 use Rattle.evens.specs.ModelEvens.{givers_of}
-use Rattle.attempts.specs.ModelDeciding.{Keeps}
-use Rattle.attempts.proofs.Ends.{goal_told, again_same, in_keeps, begin_keeps, again_keeps, end_keeps, left, left_less}
+use Rattle.attempts.proofs.Ends.{goal_told, again_same, in_keeps, begin_keeps, again_keeps, end_keeps, left_less}
 use borrow.Author.Tests.{eqb-true, not-false}
 use borrow.Author.Rules.{rules}
 use Rattle.deciding.proofs.decide.Goals as goal

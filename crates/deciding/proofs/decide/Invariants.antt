@@ -1,21 +1,13 @@
 -- `deciding::decide` meets its contract. While the pair is to be tried again, the rows are those of the start. Assumes nothing.
-use native.Mathlib.Omega.{arith}
-use Prim.Native.Nat.{ℕ, suc}
-use mathlib.Core.Path.{◌≡◌, refl, sym, ap, ◌∙◌}
-use mathlib.Core.Bool.{true, not, cond}
-use mathlib.Core.List.{List}
-use lib.Dec.{eqb}
-use lib.ListN.{length, get_or}
+use Prim.Native.Nat.{suc}
+use mathlib.Core.Path.{◌≡◌}
+use mathlib.Core.Bool.{true, cond}
+use lib.ListN.{length}
 use Rattle.cluster.specs.Terms.{most_nodes}
-use Rattle.sets.specs.ModelBits.{bits_at}
-use Rattle.sets.proofs.Laws.{member-true, member-false}
 use Rattle.swaps.specs.ModelSwaps.{Tight}
 use Rattle.holders.specs.ModelHolders.{Held}
-use Rattle.evens.specs.ModelEvens.{givers_of}
 use Rattle.attempts.specs.ModelDeciding.{Keeps}
-use Rattle.attempts.proofs.Ends.{goal_told, again_same, in_keeps, begin_keeps, again_keeps, end_keeps, left, left_less}
-use borrow.Author.Tests.{eqb-true, not-false}
-use borrow.Author.Rules.{rules}
+use Rattle.attempts.proofs.Ends.{left}
 use Rattle.deciding.proofs.decide.Given as goal
 
 abbrev pub invariant-loop-again : goal.invariant-loop-again

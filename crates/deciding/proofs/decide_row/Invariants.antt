@@ -1,15 +1,12 @@
 -- `deciding::decide_row` meets its contract. The pairs that the loop passed are decided. Assumes nothing.
-use native.Mathlib.Omega.{arith}
 use Prim.Native.Nat.{◌-◌, ◌≤◌}
-use mathlib.Core.Path.{◌≡◌, refl, ap, ◌∙◌}
+use mathlib.Core.Path.{◌≡◌}
 use lib.ListN.{length, get_or}
 use Rattle.cluster.specs.Terms.{most_nodes}
 use Rattle.swaps.specs.ModelSwaps.{Tight}
 use Rattle.holders.specs.ModelHolders.{Held}
 use Rattle.evens.specs.ModelEvens.{wanted_of}
 use Rattle.attempts.specs.ModelDeciding.{Reaches}
-use Rattle.attempts.proofs.Ends.{reaches-pair, reaches-row}
-use borrow.Author.Rules.{rules}
 use Rattle.deciding.proofs.decide_row.Given as goal
 
 abbrev pub invariant-loop-b : goal.invariant-loop-b

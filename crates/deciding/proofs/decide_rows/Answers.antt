@@ -1,14 +1,9 @@
 -- `deciding::decide_rows` meets its contract. The rows that the loop passed are decided. Assumes nothing.
 use native.Mathlib.Omega.{arith}
-use Prim.Native.Nat.{ℕ, ◌-◌, ◌≤◌}
+use Prim.Native.Nat.{ℕ}
 use mathlib.Core.Path.{◌≡◌, refl, subst}
-use lib.ListN.{length}
-use Rattle.cluster.specs.Terms.{most_nodes}
-use Rattle.swaps.specs.ModelSwaps.{Tight}
-use Rattle.holders.specs.ModelHolders.{Held}
 use Rattle.attempts.specs.ModelDeciding.{Reaches}
 use Rattle.attempts.proofs.Ends.{reaches-next}
-use borrow.Author.Rules.{rules}
 use Rattle.deciding.proofs.decide_rows.Goals as goal
 
 pub loop-p-init : goal.loop-p-init

@@ -1,14 +1,11 @@
 -- `deciding::decide_rows` meets its contract. The rows that the loop passed are decided. Assumes nothing.
-use native.Mathlib.Omega.{arith}
-use Prim.Native.Nat.{ℕ, ◌-◌, ◌≤◌}
-use mathlib.Core.Path.{◌≡◌, refl, subst}
+use Prim.Native.Nat.{◌-◌, ◌≤◌}
+use mathlib.Core.Path.{◌≡◌}
 use lib.ListN.{length}
 use Rattle.cluster.specs.Terms.{most_nodes}
 use Rattle.swaps.specs.ModelSwaps.{Tight}
 use Rattle.holders.specs.ModelHolders.{Held}
 use Rattle.attempts.specs.ModelDeciding.{Reaches}
-use Rattle.attempts.proofs.Ends.{reaches-next}
-use borrow.Author.Rules.{rules}
 use Rattle.deciding.proofs.decide_rows.Given as goal
 
 abbrev pub invariant-loop-p : goal.invariant-loop-p

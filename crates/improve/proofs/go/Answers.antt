@@ -1,20 +1,16 @@
 -- `improve::go` meets its contract. The cells hold the state that the run has reached, and what is kept of its rows. Assumes nothing.
 use native.Mathlib.Omega.{arith}
-use Prim.Native.Nat.{ℕ, ◌+◌, ◌-◌, ◌^◌, ◌≤◌, ◌<◌}
+use Prim.Native.Nat.{ℕ}
 use mathlib.Core.List.{List}
 use mathlib.Core.Path.{◌≡◌, refl, sym, ap, ◌∙◌, subst}
 use lib.ListN.{length, replicate}
-use Rattle.cluster.specs.Terms.{most_nodes}
 use Rattle.cycles.specs.ModelFound.{walk_cells}
 use Rattle.exchange.specs.ModelUncross.{Same}
-use Rattle.sets.specs.ModelBits.{bit, below_of}
-use Rattle.swaps.specs.ModelSwaps.{Tight}
-use Rattle.graph.specs.ModelKept.{Kept}
+use Rattle.sets.specs.ModelBits.{below_of}
 use Rattle.graph.proofs.Keeping.{kept-none}
-use Rattle.holders.specs.ModelHolders.{Held}
 use Rattle.walks.specs.ModelWalks.{walk_in}
 use Rattle.improve.specs.ModelImprove.{begun}
-use Rattle.improve.proofs.Turns.{At, Stopped, blank-walk, run_begins, run_finished, run_goes}
+use Rattle.improve.proofs.Turns.{blank-walk, run_begins, run_finished, run_goes}
 use borrow.Author.Rules.{rules}
 use Rattle.improve.proofs.go.Goals as goal
 

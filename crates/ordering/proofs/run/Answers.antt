@@ -5,7 +5,6 @@ use native.Mathlib.Omega.{arith}
 use borrow.Author.Tests.{not-true, not-false}
 use Rattle.holders.proofs.Holding.{held_none}
 use Rattle.ordering.proofs.Finishing.{run-first}
-use borrow.Author.Rules.{rules}
 use Rattle.ordering.proofs.run.Goals as goal
 
 pub fill-requires : goal.fill-requires

@@ -4,7 +4,6 @@ use mathlib.Core.Path.{sym, subst}
 use Rattle.sets.specs.ModelBits.{bit}
 use Rattle.graph.specs.ModelKept.{Kept}
 use Rattle.steps.proofs.Steps.{room-bit, the_arcs}
-use borrow.Author.Rules.{rules}
 use Rattle.steps.proofs.arcs.Goals as goal
 
 pub build-requires : goal.build-requires

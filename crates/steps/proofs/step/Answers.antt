@@ -1,5 +1,4 @@
 -- `steps::step` meets its contract. Assumes nothing.
-use borrow.Author.Tests.{not-true, not-false}
 use native.Mathlib.Omega.{arith}
 use Rattle.sets.specs.ModelBits.{below_of}
 use Rattle.graph.proofs.Keeping.{kept-changed}

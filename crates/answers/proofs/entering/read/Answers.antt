@@ -1,6 +1,5 @@
 -- `answers::entering::read` meets its contract.
 -- Assumes nothing.
-use borrow.Author.Rules.{rules}
 use Rattle.answers.specs.TermsAnswers.{reading}
 use Rattle.answers.proofs.entering.read.Goals as goal
 

@@ -1,10 +1,8 @@
 -- `certificate::pricing::highest` meets its contract. The highest of the levels passed. Assumes nothing.
 use borrow.Author.Rules.{rules}
 use native.Mathlib.Omega.{arith}
-use Prim.Native.Nat.{◌-◌, ◌≤◌}
-use mathlib.Core.Path.{◌≡◌, refl}
-use mathlib.Core.Logic.{⊎_elim}
-use lib.ListN.{length, get_or}
+use mathlib.Core.Path.{refl}
+use lib.ListN.{get_or}
 use Rattle.sums.specs.ModelSums.{max_to}
 use Rattle.certificate.proofs.Making.{max_next, max_passed}
 use Rattle.certificate.proofs.pricing.highest.Goals as goal

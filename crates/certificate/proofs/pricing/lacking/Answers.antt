@@ -1,13 +1,11 @@
 -- `certificate::pricing::lacking` meets its contract. The first b prices are written. Assumes nothing.
 use borrow.Author.Rules.{rules}
 use native.Mathlib.Omega.{arith}
-use Prim.Native.Nat.{ℕ, ◌-◌, ◌≤◌}
-use mathlib.Core.Path.{◌≡◌, ap}
-use lib.ListN.{length, get_or}
-use Rattle.cluster.specs.Terms.{most_nodes}
+use Prim.Native.Nat.{ℕ, ◌-◌}
+use mathlib.Core.Path.{ap}
+use lib.ListN.{get_or}
 use Rattle.sums.specs.ModelSums.{max_to}
 use Rattle.sums.proofs.Count.{max_ge}
-use Rattle.incidence.specs.ModelIncidence.{column}
 use Rattle.incidence.proofs.Columns.{column-none, column-next, column_end}
 use Rattle.certificate.proofs.pricing.lacking.Goals as goal
 

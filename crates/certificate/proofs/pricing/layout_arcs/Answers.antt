@@ -2,7 +2,6 @@
 use mathlib.Core.Path.{◌∙◌}
 use Rattle.cluster.proofs.Accepting.{partitions_in_range, accepted}
 use Rattle.certificate.proofs.Making.{arcs_are}
-use borrow.Author.Rules.{rules}
 use Rattle.certificate.proofs.pricing.layout_arcs.Goals as goal
 
 pub returns : goal.returns

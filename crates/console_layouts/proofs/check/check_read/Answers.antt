@@ -1,6 +1,5 @@
 -- `console_layouts::check::check_read` meets its contract.
 -- Assumes nothing.
-use borrow.Author.Rules.{rules}
 use Rattle.console_layouts.specs.TermsConsoleLayouts.{checked}
 use Rattle.answers.proofs.Answered.{refused, accepted}
 use Rattle.console_layouts.proofs.check.check_read.Goals as goal

@@ -1,6 +1,5 @@
 -- `console_layouts::figure::dezghuri_figures` meets its contract.
 -- Assumes nothing.
-use borrow.Author.Rules.{rules}
 use mathlib.Core.Path.{◌≡◌, ap, ◌∙◌}
 use Prim.Native.Nat.{◌/◌, ◌%◌, ◌^◌}
 use mathlib.Core.List.{[], ◌∷◌, ◌++◌}

@@ -1,6 +1,5 @@
 -- `console_layouts::figure::figures_read` meets its contract.
 -- Assumes nothing.
-use borrow.Author.Rules.{rules}
 use Rattle.console_layouts.specs.TermsConsoleLayouts.{figured, figures_left}
 use Rattle.answers.proofs.Answered.{refused, accepted}
 use Rattle.console_layouts.proofs.figure.figures_read.Goals as goal

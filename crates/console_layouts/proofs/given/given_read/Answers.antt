@@ -1,6 +1,5 @@
 -- `console_layouts::given::given_read` meets its contract.
 -- Assumes nothing.
-use borrow.Author.Rules.{rules}
 use Rattle.console_layouts.specs.TermsConsoleLosses.{given_found}
 use Rattle.answers.proofs.Answered.{refused, accepted}
 use Rattle.console_layouts.proofs.given.given_read.Goals as goal

@@ -10,7 +10,6 @@ use Rattle.loss.specs.TermsLossAnswer.{LossOwed}
 use Rattle.answers.specs.TermsAnswers.{reading}
 use Rattle.console_layouts.specs.TermsConsoleLosses.{worst_cells, worst_found, worst_numbers}
 use Rattle.answers.proofs.Answered.{short, long}
-use borrow.Author.Rules.{rules}
 use Rattle.console_layouts.proofs.worst.dezghuri_worst_loss.Goals as goal
 
 pub returns-then-answer-lt-ANSWER : goal.returns-then-answer-lt-ANSWER

@@ -2,7 +2,6 @@
 -- Assumes nothing.
 use Rattle.console_layouts.specs.TermsConsoleLosses.{worst_found}
 use Rattle.answers.proofs.Answered.{refused, accepted}
-use borrow.Author.Rules.{rules}
 use Rattle.console_layouts.proofs.worst.worst_read.Goals as goal
 
 pub returns-then-read-ne0 : goal.returns-then-read-ne0

@@ -1,6 +1,5 @@
 -- `console_moves::count::count_read` meets its contract.
 -- Assumes nothing.
-use borrow.Author.Rules.{rules}
 use Rattle.console_moves.specs.TermsConsoleMoves.{counted_of}
 use Rattle.answers.proofs.Answered.{refused, accepted}
 use Rattle.console_moves.proofs.count.count_read.Goals as goal

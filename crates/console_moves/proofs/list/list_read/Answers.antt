@@ -1,6 +1,5 @@
 -- `console_moves::list::list_read` meets its contract.
 -- Assumes nothing.
-use borrow.Author.Rules.{rules}
 use Rattle.console_moves.specs.TermsConsoleMoves.{listed_of, moves_left}
 use Rattle.answers.proofs.Answered.{refused, accepted}
 use Rattle.console_moves.proofs.list.list_read.Goals as goal

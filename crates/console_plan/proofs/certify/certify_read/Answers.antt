@@ -1,6 +1,5 @@
 -- `console_plan::certify::certify_read` meets its contract.
 -- Assumes nothing.
-use borrow.Author.Rules.{rules}
 use Rattle.console_plan.specs.TermsConsoleCertify.{certified_read}
 use Rattle.answers.proofs.Answered.{refused, accepted}
 use Rattle.console_plan.proofs.certify.certify_read.Goals as goal

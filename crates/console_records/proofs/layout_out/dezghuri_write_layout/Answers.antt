@@ -1,6 +1,5 @@
 -- `console_records::layout_out::dezghuri_write_layout` meets its contract.
 -- Assumes nothing.
-use borrow.Author.Rules.{rules}
 use mathlib.Core.Path.{ap, ◌∙◌}
 use Prim.Native.Nat.{◌/◌, ◌%◌, ◌^◌}
 use mathlib.Core.List.{◌∷◌}
