@@ -1,8 +1,9 @@
 -- `ordering::run` meets its contract. Assumes nothing.
 use mathlib.Core.Path.{◌≡◌, sym, ◌∙◌}
-use mathlib.Core.Bool.{true, false, false≢true}
+use mathlib.Core.Bool.{true, false≢true}
 use native.Mathlib.Omega.{arith}
-use borrow.Author.Tests.{not-true, not-false}
+use borrow.Author.Rules.{rules}
+use borrow.Author.Tests.{not-false}
 use Rattle.holders.proofs.Holding.{held_none}
 use Rattle.ordering.proofs.Finishing.{run-first}
 use Rattle.ordering.proofs.run.Goals as goal
@@ -13,11 +14,6 @@ fill-requires c = (c.requires.0, held_none c.args.rows.now)
 pub fill-requires-2 : goal.fill-requires-2
 fill-requires-2 c = (c.requires.0, held_none c.args.former.now)
 
-pub returns-then-not-ran : goal.returns-then-not-ran
-returns-then-not-ran c =
-    let f : c.run-ran.result.finished ≡ false = not-true c.run-ran.result.finished c.if-not-ran.true in
-    (sym f ∙ c.run-ran.ensures.1, c.run-ran.ensures.2, c.run-ran.ensures.3, λ h. c.run-ran.ensures.0, λ h. absurd (false≢true h))
-
 pub order-requires : goal.order-requires
 order-requires c =
     (c.requires.0, omega (arith, c.requires.1, c.run-ran.ensures.3), c.run-ran.ensures.6, c.run-ran.ensures.4, c.run-ran.ensures.5, c.fill-2.ensures)
@@ -25,7 +21,7 @@ order-requires c =
 pub returns : goal.returns
 returns c =
     let a = c.args in
-    let f : c.run-ran.result.finished ≡ true = not-false c.run-ran.result.finished c.if-not-ran.false in (
+    let f : c.run-ran.result.finished ≡ true = not-false c.run-ran.result.finished (search rules) in (
       sym f ∙ c.run-ran.ensures.1,
       c.run-ran.ensures.2,
       c.order.ensures.0 ∙ c.run-ran.ensures.3,
