@@ -18,6 +18,26 @@ pub struct Folder {
     variables: Vec<(&'static str, OsString)>,
 }
 
+/// No link stays behind: `rt ci` refuses one wherever it lies in the checkout, also in what a test has left.
+impl Drop for Folder {
+    fn drop(&mut self) {
+        if self.variables.is_empty() {
+            remove_links(&self.path);
+        }
+    }
+}
+
+fn remove_links(folder: &Path) {
+    for entry in fs::read_dir(folder).into_iter().flatten().flatten() {
+        let path = entry.path();
+        if path.is_symlink() {
+            let _ = fs::remove_file(&path);
+        } else if path.is_dir() {
+            remove_links(&path);
+        }
+    }
+}
+
 /// What a call came to.
 pub struct Done {
     pub status: i32,
