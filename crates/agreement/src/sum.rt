@@ -8,10 +8,8 @@ pub(crate) fn agreement_of(rows: &[u32], former: &[u32], partitions: usize) -> u
     ensures { result ≡ agreement_in rows.now former.now partitions }
 {
     let mut sum = 0;
-    let mut p = 0;
-    while p < partitions {
+    for p in 0..partitions {
         sum += sets::count(sets::meet(rows[p], former[p]));
-        p += 1;
     }
     sum
 }

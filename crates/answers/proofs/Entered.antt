@@ -8,7 +8,7 @@ use lib.ListN.{length, replicate, length-append, length-replicate}
 use Rattle.cluster.specs.Terms.{most_nodes, Topology, no_node}
 use Rattle.cluster.specs.TermsReading.{slots_of}
 use Rattle.cluster_record.specs.RecordClusterAnswer.{cluster_outcome, cluster_answer, read_cluster_of}
-use Rattle.cluster_record.specs.declared.ReadCluster.{ReadCluster}
+use Rattle.cluster_record.specs.RecordClusterAnswer.{ReadCluster}
 
 -- The slots of a cluster are 32 in every program.
 pub slots_few : (t : Topology) → length (slots_of t).nodes ≡ most_nodes → (slots_of t).count ≤ most_nodes

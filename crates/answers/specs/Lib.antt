@@ -1,1 +1,2 @@
 pub mod TermsAnswers
+pub mod TermsStopped

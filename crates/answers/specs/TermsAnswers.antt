@@ -5,7 +5,7 @@ use Rattle.std.specs.Prelude.{ℕ, ◌/◌, ◌%◌, ◌^◌, cond, List, [], �
 use Rattle.cluster.specs.Terms.{layout_cells}
 use Rattle.cluster.specs.declared.Node.{Node}
 use Rattle.cluster_record.specs.RecordClusterAnswer.{read_cluster_of}
-use Rattle.cluster_record.specs.declared.ReadCluster.{ReadCluster}
+use Rattle.cluster_record.specs.RecordClusterAnswer.{ReadCluster}
 
 -- ---- lent cells
 

@@ -8,6 +8,7 @@ ghost use Rattle.answers.specs.TermsAnswers.{halves, node_cells_width, node_cell
 use cluster::Cluster;
 
 pub mod entering;
+pub mod stopped;
 
 // The cells of a node: id, zone, capacity, ceiling.
 pub const NODE: usize = 4;
@@ -16,14 +17,14 @@ pub const NODE: usize = 4;
 pub fn high(x: u64) -> u32
     ensures { result ≡ x / 2 ^ 32 }
 {
-    (x / 4294967296) as u32
+    (x >> 32) as u32
 }
 
 // The low half of a number of 64 bits.
 pub fn low(x: u64) -> u32
     ensures { result ≡ x % 2 ^ 32 }
 {
-    (x % 4294967296) as u32
+    (x & 0xffff_ffff) as u32
 }
 
 // A number of 64 bits goes into the first two cells, numbers into those after them.
@@ -41,9 +42,7 @@ pub fn put_nodes(c: Cluster, at: usize, cells: &mut [u32])
     requires { at + node_cells_width * most_nodes ≤ length cells.old }
     ensures { cells.new ≡ take at cells.old ++ node_cells c.nodes ++ drop (at + node_cells_width * most_nodes) cells.old }
 {
-    let mut b = 0;
-    while b < Cluster::NODES {
-        let node = c.nodes[b];
+    for (b, node) in c.nodes.iter().enumerate() {
         let numbers = [
             node.id,
             node.zone as u32,
@@ -51,6 +50,5 @@ pub fn put_nodes(c: Cluster, at: usize, cells: &mut [u32])
             node.ceiling as u32,
         ];
         cells::put(&numbers, at + NODE * b, cells);
-        b += 1;
     }
 }

@@ -13,6 +13,7 @@ use Rattle.sums.specs.TermsSums.{tab}
 use Rattle.sums.specs.ModelSums.{max_to, is}
 use Rattle.sums.proofs.Sum.{lt_or_ge}
 use Rattle.sets.specs.ModelBits.{bit, without_of, meet_of, difference_of, least_of}
+use Rattle.sets.specs.ModelMembers.{Comes}
 use Rattle.sets.proofs.Laws.{bit_zero, bit_le, bit-meet, bit-difference}
 use Rattle.cells.proofs.Cells.{length-tab, get_or_tab}
 use Rattle.swaps.specs.ModelSwaps.{tight_of, targets_in, targets_of}
@@ -36,18 +37,18 @@ module _ (mates : List ℕ) (all z row former : ℕ) (l₀ : List ℕ) where
   row-none = grown_same (doing mates all z row former row) l₀ (λ j b p q. omega arith)
 
   -- A turn.
-  pub row-turn : (left a next to : ℕ) (l m : List ℕ) → Left row left → (left ≡ 0 → ⊥) → arc_cells ≤ length l₀
-      → a ≡ least_of left → next ≡ without_of left (least_of left) → to ≡ targets_of mates all z row a → m ≡ noted l a former to
+  pub row-turn : (left a next to : ℕ) (l m : List ℕ) → Left row left → Comes left a next → arc_cells ≤ length l₀
+      → to ≡ targets_of mates all z row a → m ≡ noted l a former to
       → Grown (doing mates all z row former left) l₀ l → Grown (doing mates all z row former next) l₀ m
   unfolding doing
-  row-turn left a next to l m L s g ea en et em G =
+  row-turn left a next to l m L C g et em G =
       let k = least_of left in
       let T = targets_of mates all z row k in
-      rw (em, et, en, ea)
+      rw (em, et, C.rest, C.least)
       (grown_then (doing mates all z row former left) (λ j b. min (is k (j % most_nodes)) (min (bit T b) (weighs former (j / most_nodes) k b)))
       (doing mates all z row former (without_of left k)) l₀ l (noted l k former T) G
-      (grown_noted l k former T (least-word row left L s) (omega (arith, G.long)))
-      (λ j b p q. done_grows row left L s (j % most_nodes) (is k (j % most_nodes)) (min (bit T b) (weighs former (j / most_nodes) k b))
+      (grown_noted l k former T (least-word row left L C.some) (omega (arith, G.long)))
+      (λ j b p q. done_grows row left L C.some (j % most_nodes) (is k (j % most_nodes)) (min (bit T b) (weighs former (j / most_nodes) k b))
       (min (bit (targets_of mates all z row (j % most_nodes)) b) (weighs former (j / most_nodes) (j % most_nodes) b)) (omega arith) refl
       (λ e. ap (λ (i : ℕ). min (bit (targets_of mates all z row i) b) (weighs former (j / most_nodes) i b)) e)))
 
@@ -77,13 +78,13 @@ module _ (all : ℕ) (X : ℕ → ℕ → ℕ) (l₀ : List ℕ) where
   nodes-none = grown_same (adding all all X) l₀ (λ j b p q. omega arith)
 
   -- A turn.
-  pub nodes-turn : (left a next : ℕ) (l m : List ℕ) → Left all left → (left ≡ 0 → ⊥) → a ≡ least_of left → next ≡ without_of left (least_of left)
-      → Grown (adding all left X) l₀ l → Grown (λ j b. min (is a (j % most_nodes)) (X j b)) l m → Grown (adding all next X) l₀ m
+  pub nodes-turn : (left a next : ℕ) (l m : List ℕ) → Left all left → Comes left a next → Grown (adding all left X) l₀ l
+      → Grown (λ j b. min (is a (j % most_nodes)) (X j b)) l m → Grown (adding all next X) l₀ m
   unfolding adding
-  nodes-turn left a next l m L n ea en G H =
-      rw en
+  nodes-turn left a next l m L C G H =
+      rw C.rest
       (grown_then (adding all left X) (λ j b. min (is a (j % most_nodes)) (X j b)) (adding all (without_of left (least_of left)) X) l₀ l m G H
-      (λ j b p q. done_grows all left L n (j % most_nodes) (is a (j % most_nodes)) (X j b) (X j b) (omega arith) (ap (λ (x : ℕ). is x (j % most_nodes)) ea) (λ e. refl)))
+      (λ j b p q. done_grows all left L C.some (j % most_nodes) (is a (j % most_nodes)) (X j b) (X j b) (omega arith) (ap (λ (x : ℕ). is x (j % most_nodes)) C.least) (λ e. refl)))
 
   -- At last the sets of all nodes of `all` are there.
   pub nodes-all : (left : ℕ) (l : List ℕ) → left ≡ 0 → Grown (adding all left X) l₀ l → Grown (λ j b. min (bit all (j % most_nodes)) (X j b)) l₀ l

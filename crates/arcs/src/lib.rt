@@ -12,6 +12,7 @@ ghost use Rattle.arcs.specs.ModelMoves.{joined, noted, leads, weighs, moves, mov
 ghost use Rattle.arcs.specs.ModelGrowth.{Grown, Written};
 
 use cluster::Cluster;
+use swaps::instance::Instance;
 
 // The most nodes, as nodes are numbered.
 const NODES: u32 = Cluster::NODES as u32;
@@ -21,11 +22,7 @@ fn clear(arcs: &mut [u32])
     requires { arc_cells ≤ length arcs.old }
     ensures { arcs.new ≡ tab (λ k. 0) arc_cells ++ drop arc_cells arcs.old }
 {
-    let mut i = 0;
-    while i < levels::ARCS {
-        arcs[i] = 0;
-        i += 1;
-    }
+    arcs[..levels::ARCS].fill(0);
 }
 
 // Adds the members of s to the set in cell i.
@@ -51,13 +48,10 @@ fn add_part(arcs: &mut [u32], part: u32, h: usize, low: u32, high: u32)
     requires { (arc_cells ≤ length arcs.old) × (h ≤ 1) }
     ensures { Grown (λ j b. min (bit part (j % most_nodes)) (leads h low high j b)) arcs.old arcs.new }
 {
-    let at = h * Cluster::NODES;
-    let mut left = part;
-    while left != 0 {
-        let k = sets::least(left) as usize;
-        join(arcs, k + at, low);
-        join(arcs, k + at + Cluster::NODES, high);
-        left = sets::rest(left);
+    for a in sets::iter(part) {
+        let i = a as usize + h * Cluster::NODES;
+        join(arcs, i, low);
+        join(arcs, i + Cluster::NODES, high);
     }
 }
 
@@ -85,12 +79,9 @@ fn add_row(arcs: &mut [u32], row: u32, tight: u32, former: u32, mates: &[u32], a
         add_spare(arcs, row, former, all);
         return;
     }
-    let mut left = row;
-    while left != 0 {
-        let a = sets::least(left);
+    for a in sets::iter(row) {
         let mate = swaps::cell(mates, a as usize);
         note(arcs, a, former, swaps::targets_in(all, row, mate, tight));
-        left = sets::rest(left);
     }
 }
 
@@ -99,25 +90,20 @@ fn add_rows(
     arcs: &mut [u32],
     rows: &[u32],
     tight: &[u32],
-    former: &[u32],
-    partitions: usize,
+    given: &Instance,
     first: usize,
     n: usize,
-    mates: &[u32],
     all: u32,
-    z: u32,
 )
-    requires { (arc_cells ≤ length arcs.old) × (partitions ≤ buffer_rows) × ((i : ℕ) → i < n → first + i < partitions)
-        × Tight mates.now z rows.now partitions tight.now }
-    ensures { Grown (moves_to (drop first rows.now) (drop first former.now) n mates.now all z) arcs.old arcs.new }
+    requires { let g = given.now in (arc_cells ≤ length arcs.old) × (g.partitions ≤ buffer_rows) × ((i : ℕ) → i < n → first + i < g.partitions)
+        × Tight g.mates.now g.z rows.now g.partitions tight.now }
+    ensures { let g = given.now in Grown (moves_to (drop first rows.now) (drop first g.former.now) n g.mates.now all g.z) arcs.old arcs.new }
 {
-    let mut i = 0;
-    while i < n {
+    for i in 0..n {
         let p = first + i;
         let row = swaps::cell(rows, p);
-        let old = swaps::cell(former, p);
-        add_row(arcs, row, tight[p], old, mates, all, z);
-        i += 1;
+        let old = swaps::cell(given.former, p);
+        add_row(arcs, row, tight[p], old, given.mates, all, given.z);
     }
 }
 
@@ -126,20 +112,15 @@ pub fn write_rows(
     arcs: &mut [u32],
     rows: &[u32],
     tight: &[u32],
-    former: &[u32],
-    partitions: usize,
+    given: &Instance,
     first: usize,
     n: usize,
-    mates: &[u32],
     all: u32,
-    z: u32,
 )
-    requires { (arc_cells ≤ length arcs.old) × (partitions ≤ buffer_rows) × ((i : ℕ) → i < n → first + i < partitions)
-        × Tight mates.now z rows.now partitions tight.now }
-    ensures { Written (moves_to (drop first rows.now) (drop first former.now) n mates.now all z) arcs.old arcs.new }
+    requires { let g = given.now in (arc_cells ≤ length arcs.old) × (g.partitions ≤ buffer_rows) × ((i : ℕ) → i < n → first + i < g.partitions)
+        × Tight g.mates.now g.z rows.now g.partitions tight.now }
+    ensures { let g = given.now in Written (moves_to (drop first rows.now) (drop first g.former.now) n g.mates.now all g.z) arcs.old arcs.new }
 {
     clear(arcs);
-    add_rows(
-        arcs, rows, tight, former, partitions, first, n, mates, all, z,
-    );
+    add_rows(arcs, rows, tight, given, first, n, all);
 }

@@ -6,11 +6,12 @@ ghost use Rattle.std.specs.Prelude.{◌≡◌, true, cond, suc, ◌≤◌, ◌<�
 ghost use Rattle.cluster.specs.Terms.{most_nodes, buffer_rows};
 ghost use Rattle.levels.specs.ModelGraph.{arc_cells};
 ghost use Rattle.swaps.specs.ModelSwaps.{Tight};
-ghost use Rattle.holders.specs.ModelHolders.{Held};
+ghost use Rattle.holders.specs.ModelHolders.{Follows, Held};
 ghost use Rattle.evens.specs.ModelEvens.{givers_of};
 ghost use Rattle.attempts.specs.ModelDeciding.{Goes, Refreshed, members};
 
 use cluster::Cluster;
+use swaps::instance::Instance;
 
 // The cells of a way with its closing arc, and its first node again.
 const WAY: usize = Cluster::NODES + 2;
@@ -20,34 +21,30 @@ fn refresh(
     leads: &mut [u32],
     rows: &[u32],
     tight: &[u32],
-    former: &[u32],
-    partitions: usize,
-    mates: &[u32],
+    given: &Instance,
     all: u32,
-    z: u32,
     even: &[u32],
     y: &[u32],
     q: &[u32],
     m: usize,
 )
-    requires { (length leads.old ≡ most_nodes) × (length even.now ≡ arc_cells) × (m ≤ length y.now) × (m ≤ length q.now)
-        × Tight mates.now z rows.now partitions tight.now }
-    ensures { Refreshed rows.now former.now partitions mates.now all z even.now y.now q.now m
+    requires { let g = given.now in (length leads.old ≡ most_nodes) × (length even.now ≡ arc_cells) × (m ≤ length y.now) × (m ≤ length q.now)
+        × Tight g.mates.now g.z rows.now g.partitions tight.now }
+    ensures { let g = given.now in Refreshed rows.now g.former.now g.partitions g.mates.now all g.z even.now y.now q.now m
         leads.old leads.new }
 {
-    let mut i = 0;
-    while i < m {
+    for i in 0..m {
         let p = q[i] as usize;
-        if p < partitions {
+        if p < given.partitions {
             let row = swaps::cell(rows, p);
             evens::widen(
                 leads,
                 row,
                 tight[p],
-                swaps::cell(former, p),
-                mates,
+                swaps::cell(given.former, p),
+                given.mates,
                 all,
-                z,
+                given.z,
                 even,
             );
         } else {
@@ -56,7 +53,6 @@ fn refresh(
                 arcs::join(leads, v, even[Cluster::NODES + v]);
             }
         }
-        i += 1;
     }
 }
 
@@ -67,37 +63,30 @@ pub fn attempt(
     tight: &mut [u32],
     held: &mut [u32],
     leads: &mut [u32],
-    former: &[u32],
-    had: &[u32],
-    partitions: usize,
-    mates: &[u32],
-    caps: &[u32],
+    given: &Instance,
     all: u32,
-    z: u32,
     even: &[u32],
     p: usize,
     b: u32,
     goal: u32,
 ) -> bool
-    requires { (b < most_nodes) × (p < partitions) × (partitions ≤ buffer_rows) × (partitions ≤ length rows.old) × (length leads.old ≡ most_nodes)
-        × (length even.now ≡ arc_cells) × (goal ≡ givers_of mates.now all z even.now (get_or rows.old p 0) (get_or former.now p 0) b)
-        × Tight mates.now z rows.old partitions tight.old × Held rows.old partitions held.old × Held former.now partitions had.now }
-    ensures { (length rows.new ≡ length rows.old) × (length leads.new ≡ most_nodes)
-        × Tight mates.now z rows.new partitions tight.new × Held rows.new partitions held.new
+    requires { let g = given.now in (b < most_nodes) × (p < g.partitions) × (g.partitions ≤ buffer_rows) × (g.partitions ≤ length rows.old) × (length leads.old ≡ most_nodes)
+        × (length even.now ≡ arc_cells) × (goal ≡ givers_of g.mates.now all g.z even.now (get_or rows.old p 0) (get_or g.former.now p 0) b)
+        × Follows g rows.old tight.old held.old × Held g.former.now g.partitions g.had.now }
+    ensures { let g = given.now in (length rows.new ≡ length rows.old) × (length leads.new ≡ most_nodes)
+        × Follows g rows.new tight.new held.new
         × (result ≡ true → (rows.new ≡ rows.old) × (members leads.new < members leads.old))
-        × Goes partitions former.now mates.now caps.now all z even.now p b
+        × Goes g.partitions g.former.now g.mates.now g.caps.now all g.z even.now p b
         rows.old leads.old (cond result b (suc b)) rows.new leads.new }
 {
     let mut waves = [0u32; waves::WAVES];
-    let k = waves::waves(leads, b, goal, &mut waves);
-    if waves::WAVES <= k {
+    let Some(k) = waves::waves(leads, b, goal, &mut waves) else {
         return false;
-    }
+    };
     let mut y = [0u32; WAY];
     let mut q = [0u32; WAY];
     let traced = ways::trace(
-        leads, &waves, k, goal, rows, tight, held, former, had, partitions, mates, caps, all, z,
-        even, p, b, &mut y, &mut q,
+        leads, &waves, k, goal, rows, tight, held, given, all, even, p, b, &mut y, &mut q,
     );
     if traced < k {
         let u = y[traced + 1] as usize;
@@ -105,9 +94,7 @@ pub fn attempt(
         return true;
     }
     let m = k + 1;
-    exchanging::make(rows, tight, held, partitions, mates, z, &y, &q, m);
-    refresh(
-        leads, rows, tight, former, partitions, mates, all, z, even, &y, &q, m,
-    );
+    exchanging::make(rows, tight, held, given, &y, &q, m);
+    refresh(leads, rows, tight, given, all, even, &y, &q, m);
     false
 }

@@ -9,19 +9,17 @@ ghost use Rattle.caps.specs.ModelCaps.{mate_cells, caps_in};
 
 use cluster::Cluster;
 use incidence::zones;
-use tallies::{nodes, totals};
+use tallies::nodes;
 
 // For each of the first n nodes, at most as many as a cluster has, the set of the nodes of its zone, then zeros.
 pub fn mates(zones: [u32; Cluster::NODES], n: usize) -> [u32; Cluster::NODES]
     ensures { result ≡ mate_cells zones n }
 {
-    let m = nodes::cut(n);
+    let m = n.min(Cluster::NODES);
     let mut mates = [0u32; Cluster::NODES];
-    let mut b = 0;
-    while b < m {
+    for b in 0..m {
         let z = zones[b];
         mates[b] = nodes::of_zone(&zones, m, z);
-        b += 1;
     }
     mates
 }
@@ -34,13 +32,11 @@ pub fn caps(c: Cluster, size: u32) -> [u32; Cluster::NODES]
     let n = zones::used(c);
     let most = cluster::partitions(c.bits) as u32;
     let mut caps = [0u32; Cluster::NODES];
-    let mut b = 0;
-    while b < n {
+    for b in 0..n {
         let node = c.nodes[b];
         let usable = node.usable();
-        let highest = totals::least(most, node.ceiling as u32);
+        let highest = most.min(node.ceiling as u32);
         caps[b] = nodes::cap(usable, highest, size);
-        b += 1;
     }
     caps
 }
@@ -51,12 +47,8 @@ pub fn greatest(c: Cluster) -> u32
 {
     let n = zones::used(c);
     let mut most = 0;
-    let mut b = 0;
-    while b < n {
-        let node = c.nodes[b];
-        let usable = node.usable();
-        most = if most < usable { usable } else { most };
-        b += 1;
+    for node in &c.nodes[..n] {
+        most = most.max(node.usable());
     }
     most
 }

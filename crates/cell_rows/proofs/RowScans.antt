@@ -12,6 +12,8 @@ use borrow.Author.Tests.{eq-eqb, ne_eqb, lt-ltb, le-ltb, le-leb, lt-leb}
 use Rattle.cells.proofs.Cells.{rest_cons}
 use Rattle.cluster.specs.Terms.{row_cells, buffer_rows, layout_cells, wide_row_cells, row_at, ids_in, blank, formed_from, formed}
 use Rattle.cell_rows.specs.ModelRows.{HoldsRows, ill_formed, has_row, id_count, row_ids}
+use Rattle.std.specs.Prelude.{Option, None, Some, unwrap_or, is_some, IfSome}
+use Rattle.std.specs.Option.{option_eq}
 use Rattle.cell_rows.proofs.CellRows.{blank-ids, blank-formed, ids-length}
 
 -- What the scan of a row answers that has passed `count` ids, `last` the last of them, and has l before it.
@@ -48,14 +50,14 @@ onward_end last count l e = ap (λ (r : List ℕ). onward last count r) e ∙ go
 
 module _ (l : List ℕ) (n i : ℕ) (inside : i < n) (long : n ≤ length l) where
   -- A cell that is not 0: the cells are not blank.
-  pub id_not_blank : (get_or l i 0 ≡ 0 → ⊥) → blank (take (n - i) (drop i l)) ≡ false
+  id_not_blank : (get_or l i 0 ≡ 0 → ⊥) → blank (take (n - i) (drop i l)) ≡ false
   unfolding blank
   id_not_blank h =
       ap (λ (r : List ℕ). blank r) (rest_cons l n i 0 inside long)
       ∙ ap (λ (t : Bool). t && blank (take (n - (i + 1)) (drop (i + 1) l))) (ne_eqb (get_or l i 0) 0 h)
 
   -- A cell that is 0: the cells are blank where the others are.
-  pub zero_blank : get_or l i 0 ≡ 0 → blank (take (n - i) (drop i l)) ≡ blank (take (n - (i + 1)) (drop (i + 1) l))
+  zero_blank : get_or l i 0 ≡ 0 → blank (take (n - i) (drop i l)) ≡ blank (take (n - (i + 1)) (drop (i + 1) l))
   unfolding blank
   zero_blank e =
       ap (λ (r : List ℕ). blank r) (rest_cons l n i 0 inside long)
@@ -110,6 +112,16 @@ module _ (l : List ℕ) (n i : ℕ) (inside : i < n) (long : n ≤ length l) whe
         (ne_eqb (get_or l i 0) no_more (λ e. omega arith))))
 
 -- ---- what the answers tell
+
+-- There is an answer where the number that is told is not ill_formed,
+pub some-told : (answer : Option ℕ) (n : ℕ) → unwrap_or answer ill_formed ≡ n → IfSome answer (λ k. k < ill_formed) → is_some answer ≡ ltb n ill_formed
+some-told None n e h = sym (le-ltb n ill_formed (omega arith))
+some-told (Some k) n e h = sym (lt-ltb n ill_formed (omega arith))
+
+-- and it is a number below ill_formed where that number is told.
+pub same-told : (answer : Option ℕ) (n k : ℕ) → unwrap_or answer ill_formed ≡ n → k < ill_formed → option_eq eqb answer (Some k) ≡ eqb n k
+same-told None n k e h = sym (ne_eqb n k (λ q. omega arith))
+same-told (Some j) n k e h = ap (λ (i : ℕ). eqb i k) e
 
 -- A row of no more cells than the widest has is answered by less than ill_formed exactly where it is rising ids followed by zeros.
 pub count-formed : (l : List ℕ) → length l ≤ wide_row_cells → ltb (id_count l) ill_formed ≡ formed l

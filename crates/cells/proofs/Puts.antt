@@ -1,40 +1,11 @@
--- Numbers put into lent cells, one by one, and two more in front of them.
+-- Numbers put into lent cells: two more in front of them, and a part right behind another one.
 -- Assumes nothing.
-use Prim.Native.Nat.{ℕ, suc, ◌+◌, ◌≤◌, ◌<◌}
+use Prim.Native.Nat.{ℕ, ◌+◌, ◌≤◌}
 use mathlib.Core.Path.{◌≡◌, sym, ap, ap₂, ◌∙◌}
-use mathlib.Core.List.{List, [], ◌∷◌, ◌++◌, append_assoc, append-nil}
-use native.Mathlib.Numerals.{add-one}
+use mathlib.Core.List.{List, ◌∷◌, ◌++◌, append_assoc}
 use native.Mathlib.Omega.{arith}
-use lib.ListN.{length, take, drop, get_or, set, length-append, take-append-drop}
-use lib.Seq.{length-take-le, take-suc, take_at, take_all, drop_at, drop-append-add, drop-drop, drop-cons, set_at}
-
-module _ (numbers lent : List ℕ) (at : ℕ) (room : at + length numbers ≤ length lent) where
-  -- What is there once i numbers are.
-  abbrev pub copied : ℕ → List ℕ
-  copied i = take at lent ++ take i numbers ++ drop (at + i) lent
-
-  pub copy-none : lent ≡ copied 0
-  copy-none =
-      let e : at ≡ at + 0 = omega arith in
-      sym (take-append-drop at lent) ∙ ap₂ (λ (f : List ℕ) (k : ℕ). f ++ drop k lent) (sym (append-nil (take at lent))) e
-
-  pub copy-next : (i : ℕ) (cells : List ℕ) → i < length numbers → cells ≡ copied i → set cells (at + i) (get_or numbers i 0) ≡ copied (i + 1)
-  copy-next i cells l e =
-      let front = take at lent ++ take i numbers in
-      let x = get_or numbers i 0 in
-      let rest = drop (suc (at + i)) lent in
-      let long : length front ≡ at + i =
-      omega (arith, length-append (take at lent) (take i numbers), length-take-le at lent (omega arith), length-take-le i numbers (omega arith)) in
-      let next : suc (at + i) ≡ at + (i + 1) = omega arith in
-      ap (λ (k : List ℕ). set k (at + i) x) (e ∙ ap (λ (r : List ℕ). front ++ r) (drop-cons lent (at + i) 0 (omega arith)))
-      ∙ (set_at front (get_or lent (at + i) 0) rest x (at + i) long
-      ∙ (sym (append_assoc front (x ∷ []) rest)
-      ∙ ap₂ (λ (f : List ℕ) (k : ℕ). f ++ drop k lent)
-      (append_assoc (take at lent) (take i numbers) (x ∷ [])
-      ∙ ap (λ (f : List ℕ). take at lent ++ f) (sym (take-suc numbers i 0 l) ∙ ap (λ (k : ℕ). take k numbers) (sym (add-one i)))) next))
-
-  pub copy-all : copied (length numbers) ≡ take at lent ++ numbers ++ drop (at + length numbers) lent
-  copy-all = ap (λ (f : List ℕ). take at lent ++ f ++ drop (at + length numbers) lent) (take_all (length numbers) numbers (omega arith))
+use lib.ListN.{length, take, drop, length-append}
+use lib.Seq.{length-take-le, take_at, drop_at, drop-append-add, drop-drop}
 
 -- Two numbers in front of what was put after two cells.
 pub copy-front : (x y : ℕ) (numbers rest lent : List ℕ) → 2 ≤ length lent → x ∷ y ∷ drop 2 (take 2 lent ++ numbers ++ rest) ≡ x ∷ y ∷ numbers ++ rest

@@ -8,11 +8,7 @@ pub fn copy(cells: &[u32], to: &mut [u32])
     requires { length cells.now ≤ length to.old }
     ensures { to.new ≡ cells.now ++ drop (length cells.now) to.old }
 {
-    let mut i = 0;
-    while i < cells.len() {
-        to[i] = cells[i];
-        i += 1;
-    }
+    put(cells, 0, to)
 }
 
 // Numbers go into the cells from `at` on.
@@ -20,9 +16,5 @@ pub fn put(numbers: &[u32], at: usize, cells: &mut [u32])
     requires { at + length numbers.now ≤ length cells.old }
     ensures { cells.new ≡ take at cells.old ++ numbers.now ++ drop (at + length numbers.now) cells.old }
 {
-    let mut i = 0;
-    while i < numbers.len() {
-        cells[at + i] = numbers[i];
-        i += 1;
-    }
+    cells[at..at + numbers.len()].copy_from_slice(numbers)
 }

@@ -19,16 +19,14 @@ use Rattle.cluster.specs.declared.Cluster.{Cluster}
 use Rattle.cluster.proofs.Accepting.{accepted}
 use Rattle.masks.specs.ModelMasks.{rows_formed}
 use Rattle.masks.proofs.Laws.{holds-formed, formed-former}
-use Rattle.layouts.specs.declared.check.Checked.{Checked}
-use Rattle.layouts.specs.TermsCheck.{fault, Passes, check_of}
+use Rattle.layouts.specs.TermsCheck.{Checked, fault, Passes, check_of}
 use Rattle.layouts.proofs.CheckMeaning.{passed_valid, check-layout, check-holds}
 use Rattle.sizing.specs.ModelSizing.{cap_cells, caps_in, size_of}
 use Rattle.sizing.proofs.Reading.{caps_in_lem}
 use Rattle.sizing.proofs.Sizes.{size-largest, size_is}
 use Rattle.planner.proofs.Refusals.{former_same}
-use Rattle.certificate.specs.declared.Certified.{Certified}
 use Rattle.certificate.specs.ModelCertificate.{cycle_at, price_cells}
-use Rattle.certificate.specs.TermsCertify.{former_fault, certify_fault, former_in, new_in, unpriced, priced, certified_of, price_in, Owed}
+use Rattle.certificate.specs.TermsCertify.{Certified, former_fault, certify_fault, former_in, new_in, unpriced, priced, certified_of, price_in, Owed}
 use Rattle.certificate.specs.TermsCertificate.{costs}
 use Rattle.certificate.proofs.Larger.{short_next}
 use Rattle.certificate.proofs.Duality.{certified, certificate_same}

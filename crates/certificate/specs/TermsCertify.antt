@@ -1,13 +1,13 @@
 -- What certify answers of a cluster, its former layout, a layout in hand and a size: the refusals in their order and the prices; and what it owes.
 -- Assumes nothing.
-use Rattle.std.specs.Prelude.{ℕ, suc, ◌≤◌, ◌<◌, ◌≡◌, cond, List, ◌⊎◌, ltb, eqb, length, get_or, replicate}
+use Rattle.std.specs.Prelude.{ℕ, suc, ◌≤◌, ◌<◌, ◌≡◌, cond, List, ◌⊎◌, Result, Ok, Err, ltb, eqb, length, get_or, replicate}
 use Rattle.sums.specs.TermsSums.{every_to}
 use Rattle.cluster.specs.Terms.{most_nodes, layout_cells, Topology, topology, partitions, Layout, row, ValidAt, IsSize, IsFormer, sent, row_at, formed, rows_in}
 use Rattle.cluster.specs.declared.Cluster.{Cluster}
-use Rattle.layouts.specs.declared.check.Checked.{Checked}
-use Rattle.layouts.specs.TermsCheck.{fault, or_else, check_of}
+use Rattle.layouts.specs.TermsCheck.{Checked, fault, or_else, check_of}
 use Rattle.sizing.specs.ModelSizing.{size_of}
-use Rattle.certificate.specs.declared.Certified.{Certified}
+use Rattle.cluster.specs.TermsRefusal.{number_of}
+use Rattle.layouts.specs.declared.check.Fault.{Fault}
 use Rattle.certificate.specs.TermsCertificate.{Short, costs, Certificate}
 use Rattle.certificate.specs.ModelCertificate.{cycle_at, price_cells}
 
@@ -29,12 +29,23 @@ former_in c former = rows_in (partitions (topology c)) former
 abbrev pub new_in : Cluster → List ℕ → Layout
 new_in c assignment = rows_in (partitions (topology c)) assignment
 
+-- What certify answers: a refusal, 0 for none, its place, as check answers it, and the price of each node, 0 where it is refused.
+pub record Certified : Type 0 where
+  pub refusal : ℕ
+  pub place : ℕ
+  pub prices : List ℕ
+
 -- "Refused, all prices are 0."
 abbrev pub unpriced : ℕ → ℕ → Certified
 unpriced refusal place = record { refusal = refusal; place = place; prices = replicate most_nodes 0 }
 
 abbrev pub priced : List ℕ → Certified
 priced prices = record { refusal = 0; place = 0; prices = prices }
+
+-- An answer as these numbers.
+abbrev pub certified_as : Result (List ℕ) Fault → Certified
+certified_as (Ok prices) = priced prices
+certified_as (Err f) = unpriced (number_of f.refusal) f.place
 
 -- Without another fault: 19, a layout is valid at a larger size; 20, one valid at the size sends fewer; else the prices.
 unfoldable pub certified_of : Cluster → List ℕ → List ℕ → ℕ → Certified

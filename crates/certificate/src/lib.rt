@@ -3,67 +3,44 @@
 
 ghost use Rattle.std.specs.Prelude.{◌≡◌};
 ghost use Rattle.cluster.specs.Terms.{topology};
-ghost use Rattle.certificate.specs.TermsCertify.{certify_fault, former_in, new_in, unpriced, certified_of, Owed};
+ghost use Rattle.layouts.specs.TermsCheck.{checked_as};
+ghost use Rattle.certificate.specs.TermsCertify.{certify_fault, former_in, new_in, certified_of, certified_as, Owed};
 
-use cluster::{Cluster, refusal};
-use layouts::check;
-use layouts::check::Checked;
+use cluster::Cluster;
+use cluster::refusal::Refusal;
+use layouts::check::{self, Fault};
 
 mod pricing;
 
-// What certify answers: a refusal, 0 for none, its place, as check answers it, and the price of each node, 0 where it is refused.
-#[derive(Clone, Copy)]
-pub struct Certified {
-    pub refusal: u32,
-    pub place: u32,
-    pub prices: [u32; Cluster::NODES],
-}
-
-// An answer that refuses.
-fn refused(number: u32, place: u32) -> Certified
-    ensures { result ≡ unpriced number place }
-{
-    Certified {
-        refusal: number,
-        place,
-        prices: [0; Cluster::NODES],
-    }
-}
-
 // The first fault, in the order of the request.
-fn fault(c: Cluster, former: &[u32], assignment: &[u32], size: u32) -> Checked
-    ensures { result ≡ certify_fault c former.now assignment.now size }
+fn fault(c: Cluster, former: &[u32], assignment: &[u32], size: u32) -> Result<(), Fault>
+    ensures { checked_as result ≡ certify_fault c former.now assignment.now size }
 {
     if former.len() < Cluster::CELLS {
-        return Checked {
-            refusal: refusal::BUFFER,
-            place: 0,
-        };
+        return Err(Refusal::Buffer.into());
     }
-    let checked = check::check(c, assignment, size);
-    if checked.refusal != 0 {
-        return checked;
+    check::check(c, assignment, size)?;
+    if !masks::rows_formed(former, cluster::partitions(c.bits)) {
+        return Err(Refusal::Order.into());
     }
-    let formed = masks::rows_formed(former, cluster::partitions(c.bits));
-    Checked {
-        refusal: if formed { 0 } else { refusal::ORDER },
-        place: 0,
-    }
+    Ok(())
 }
 
 // The certificate of a layout in hand at a size, whoever planned it: a price for each node; or why there is none.
-pub fn certify(c: Cluster, former: &[u32], assignment: &[u32], size: u32) -> Certified
-    ensures { (result ≡ certified_of c former.now assignment.now size)
+pub fn certify(
+    c: Cluster,
+    former: &[u32],
+    assignment: &[u32],
+    size: u32,
+) -> Result<[u32; Cluster::NODES], Fault>
+    ensures { (certified_as result ≡ certified_of c former.now assignment.now size)
         × ((certify_fault c former.now assignment.now size).refusal ≡ 0
-        → Owed (topology c) (former_in c former.now) (new_in c assignment.now) size result) }
+        → Owed (topology c) (former_in c former.now) (new_in c assignment.now) size (certified_as result)) }
 {
-    let fault = fault(c, former, assignment, size);
-    if fault.refusal != 0 {
-        return refused(fault.refusal, fault.place);
-    }
+    fault(c, former, assignment, size)?;
     let caps = caps::caps(c, size);
     if size < sizing::size(c) {
-        return refused(refusal::LARGER, 0);
+        return Err(Refusal::Larger.into());
     }
     pricing::price(c, former, assignment, caps)
 }

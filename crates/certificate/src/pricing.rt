@@ -7,11 +7,13 @@ ghost use Rattle.masks.specs.ModelMasks.{rows_formed};
 ghost use Rattle.sizing.specs.ModelSizing.{cap_cells, size_of};
 ghost use Rattle.steps.specs.ModelSteps.{arcs_in};
 ghost use Rattle.certificate.specs.ModelCertificate.{arcs_at, cycle_at, price_cells};
-ghost use Rattle.certificate.specs.TermsCertify.{former_in, new_in, unpriced, priced};
+ghost use Rattle.certificate.specs.TermsCertify.{former_in, new_in, unpriced, priced, certified_as};
 
-use super::Certified;
-use cluster::{Cluster, refusal};
+use cluster::Cluster;
+use cluster::refusal::Refusal;
 use incidence::zones;
+use layouts::check::Fault;
+use swaps::instance::Instance;
 
 // The highest of the first n levels.
 fn highest(levels: &[u32], n: usize) -> u32
@@ -19,11 +21,8 @@ fn highest(levels: &[u32], n: usize) -> u32
     ensures { result ≡ max_to n (λ v. get_or levels.now v 0) }
 {
     let mut most = 0;
-    let mut v = 0;
-    while v < n {
-        let level = levels[v];
-        most = if most < level { level } else { most };
-        v += 1;
+    for level in &levels[..n] {
+        most = most.max(*level);
     }
     most
 }
@@ -35,10 +34,8 @@ fn lacking(levels: &[u32], n: usize) -> [u32; Cluster::NODES]
 {
     let most = highest(levels, n);
     let mut prices = [0u32; Cluster::NODES];
-    let mut b = 0;
-    while b < n {
+    for b in 0..n {
         prices[b] = most - levels[b];
-        b += 1;
     }
     prices
 }
@@ -61,19 +58,16 @@ fn rows_arcs(
     let mut held = [0u32; holders::CELLS];
     holders::fill(rows, partitions, &mut held);
     let mut kept = [0u32; graph::KEPT];
-    steps::arcs(
-        rows,
-        &tight,
-        &held,
+    // A graph is built from the rows alone: what was held of the former ones is not asked for.
+    let given = Instance {
         former,
+        had: &[],
         partitions,
         mates,
         caps,
-        nodes,
         z,
-        u64::MAX,
-        &mut kept,
-    )
+    };
+    steps::arcs(rows, &tight, &held, &given, nodes, u64::MAX, &mut kept)
 }
 
 // The masks of the exchange graph of a layout in hand; `caps` has the most copies that each node may hold at the cluster's size.
@@ -112,10 +106,10 @@ pub(crate) fn price(
     former: &[u32],
     assignment: &[u32],
     caps: [u32; Cluster::NODES],
-) -> Certified
+) -> Result<[u32; Cluster::NODES], Fault>
     requires { (fault_of c ≡ 0) × (rows_formed former.now (partitions (topology c)) ≡ true) × (rows_formed assignment.now (partitions (topology c)) ≡ true)
         × (caps ≡ cap_cells (topology c) (size_of (topology c))) × ValidAt (topology c) (new_in c assignment.now) (size_of (topology c)) }
-    ensures { result ≡ cond (eqb (cycle_at (topology c) (former_in c former.now) (new_in c assignment.now)) 0)
+    ensures { certified_as result ≡ cond (eqb (cycle_at (topology c) (former_in c former.now) (new_in c assignment.now)) 0)
         (priced (price_cells (topology c) (former_in c former.now) (new_in c assignment.now))) (unpriced 20 0) }
 {
     let n = zones::used(c);
@@ -123,13 +117,8 @@ pub(crate) fn price(
     let mut walk = [0u32; cycles::WALK];
     let length = cycles::find(&arcs, n as u32, &mut walk);
     if length != 0 {
-        return super::refused(refusal::FEWER, 0);
+        return Err(Refusal::Fewer.into());
     }
     let levels = cycles::levels(&arcs, n as u32);
-    let prices = lacking(&levels, n);
-    Certified {
-        refusal: 0,
-        place: 0,
-        prices,
-    }
+    Ok(lacking(&levels, n))
 }

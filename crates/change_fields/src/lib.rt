@@ -41,37 +41,38 @@ pub fn tags() -> u32
 }
 
 // The id that a change is about.
+#[tactic(auto, unfolding(crate::specs::RecordChange::id_of))]
 pub fn id_of(x: Change) -> u32
     ensures { result ≡ id_of x }
 {
     match x {
         Change::Add { node } => node.id,
-        Change::Remove { id } => id,
-        Change::Resize { id, capacity: _ } => id,
+        Change::Remove { id } | Change::Resize { id, .. } => id,
     }
 }
 
 // The change in a body that begins at byte `start`, by the field's tag.
+#[tactic(auto, unfolding(crate::specs::RecordChange::change_in))]
 pub fn change_in(s: &[u8], tag: u8, start: usize) -> Change
     requires { start + 4 ≤ length s.now }
     ensures { result ≡ change_in s.now tag start }
 {
-    if tag as u32 == ADD {
-        return Change::Add {
+    match tag as u32 {
+        ADD => Change::Add {
             node: node_bytes::node_at(s, start),
-        };
-    }
-    let id = numbers::word_at(s, start);
-    if tag as u32 == REMOVE {
-        return Change::Remove { id };
-    }
-    Change::Resize {
-        id,
-        capacity: numbers::word_at(s, start + 4),
+        },
+        REMOVE => Change::Remove {
+            id: numbers::word_at(s, start),
+        },
+        _ => Change::Resize {
+            id: numbers::word_at(s, start),
+            capacity: numbers::word_at(s, start + 4),
+        },
     }
 }
 
 // No reverse: what a refused change gives.
+#[tactic(auto, unfolding(crate::specs::RecordChange::reverse_bytes))]
 pub fn no_reverse() -> Reverse
     ensures { result ≡ no_reverse }
 {

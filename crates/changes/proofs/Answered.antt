@@ -7,14 +7,14 @@ use lib.Dec.{leb, eqb}
 use lib.ListN.{length}
 use Rattle.cluster.specs.Terms.{topology, fault_of}
 use Rattle.cluster.specs.declared.Cluster.{Cluster}
+use Rattle.cluster.specs.TermsRefusal.{number_of}
 use Rattle.fields.specs.RecordField.{field_at}
 use Rattle.fields.specs.declared.Field.{Field}
 use Rattle.fields.specs.declared.Field.TheVariants.{Body, Refused}
 use Rattle.change_fields.specs.RecordChange.{change_tags, change_in}
 use Rattle.change_fields.specs.declared.Change.{Change}
 use Rattle.making.specs.TermsMaking.{change_fault}
-use Rattle.changes.specs.TermsChanges.{change_refused, change_made, change_read, change_at, change_of}
-use Rattle.changes.specs.declared.Made.{Made}
+use Rattle.changes.specs.TermsChanges.{Made, change_refused, change_made, change_read, change_at, change_of}
 
 -- A property of both arms is one of the test.
 either : {A : Type 0} (P : A → Type 0) (b : Bool) {x y : A} → P x → P y → P (cond b x y)
@@ -30,7 +30,7 @@ module _ (c : Cluster) (s : List ℕ) (at : ℕ) (P : Made → Type 0) (refused 
 
   at-answered : (f : Field) → P (change_at c s at f)
   unfolding change_at
-  at-answered (Refused refusal byte) = refused refusal
+  at-answered (Refused refusal byte) = refused (number_of refusal)
   at-answered (Body tag start len) = read-answered (change_in s tag start) (start + len)
 
   pub answered : P (change_of c s at)

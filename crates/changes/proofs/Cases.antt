@@ -11,6 +11,8 @@ use borrow.Author.Tests.{eq-eqb, ne_eqb, le-leb, lt-leb}
 use Rattle.cluster.specs.Terms.{topology, fault_of}
 use Rattle.cluster.specs.declared.Cluster.{Cluster}
 use Rattle.cluster.proofs.Lists.{mem_cases}
+use Rattle.cluster.specs.declared.refusal.Refusal.{Refusal}
+use Rattle.cluster.specs.TermsRefusal.{number_of}
 use Rattle.fields.specs.RecordField.{field_at, rule_of, Whole}
 use Rattle.fields.proofs.RecordField.{one_tag}
 use Rattle.fields.specs.declared.Field.{Field}
@@ -19,6 +21,13 @@ use Rattle.change_fields.specs.RecordChange.{change_tags, change_in}
 use Rattle.change_fields.specs.declared.Change.{Change}
 use Rattle.making.specs.TermsMaking.{change_fault}
 use Rattle.changes.specs.TermsChanges.{change_refused, change_made, change_read, change_at, change_of}
+
+-- No refusal has number 0.
+some : (r : Refusal) → 1 ≤ number_of r
+some r = grind arith
+
+pub number-some : (r : Refusal) → number_of r ≡ 0 → ⊥
+number-some r e = omega (arith, some r)
 
 module _ (c : Cluster) (x : Change) (at next : ℕ) where
   pub read-refused : (change_fault (topology c).nodes x ≡ 0 → ⊥) → change_refused c (change_fault (topology c).nodes x) at ≡ change_read c x at next
@@ -43,7 +52,7 @@ module _ (c : Cluster) (s : List ℕ) (at : ℕ) where
   unfolding change_of
   of_the_field h k f e = simp (eq-eqb (fault_of c) 0 h, lt-leb (length s) at k, e)
 
-  pub at-refused : (r b : ℕ) → change_refused c r at ≡ change_at c s at (Refused r b)
+  pub at-refused : (r : Refusal) (b : ℕ) → change_refused c (number_of r) at ≡ change_at c s at (Refused r b)
   unfolding change_at
   at-refused r b = refl
 

@@ -14,6 +14,7 @@ use Rattle.cluster.specs.declared.Cluster.{Cluster}
 use Rattle.cluster.specs.declared.Node.{Node}
 use Rattle.cluster.proofs.Accepting.{accepted, no_fault}
 use Rattle.cluster.proofs.Slots.{topology-slots}
+use Rattle.cluster.specs.TermsRefusal.{number_of}
 use Rattle.fields.specs.RecordField.{Bytes, part, head_width, field_at}
 use Rattle.fields.specs.declared.Field.{Field}
 use Rattle.fields.specs.declared.Field.TheVariants.{Body, Refused}
@@ -22,10 +23,9 @@ use Rattle.splices.specs.TermsReplaced.{with_nodes}
 use Rattle.change_fields.specs.RecordChange.{change_field, change_tags, change_in, FitsChange}
 use Rattle.change_fields.specs.declared.Change.{Change}
 use Rattle.change_fields.proofs.Changes.{length-change, change_pos, reverse-given, change_here, change-back}
-use Rattle.changes.specs.declared.Made.{Made}
 use Rattle.making.specs.TermsMaking.{changed_nodes, reverse_of, change_fault}
 use Rattle.making.proofs.Changing.{changed-rising, changed_few, changed_ceilings, reverse-made, changed-fit, reverse-fit}
-use Rattle.changes.specs.TermsChanges.{change_refused, change_made, change_read, change_at, change_of}
+use Rattle.changes.specs.TermsChanges.{Made, change_refused, change_made, change_read, change_at, change_of}
 use Rattle.changes.specs.TermsUndo.{Accepts, cluster_after, byte_after, reverse_given, FitsNodes, Sound, Undone, Owed}
 
 -- ---- the call, case by case
@@ -69,7 +69,7 @@ module _ (c : Cluster) (s : List ℕ) (at : ℕ) where
     where
       field_of : fault_of c ≡ 0 → at < length s → (f : Field) → field_at s at change_tags 0 ≡ f → Taken c s at ⊎ RefusedHere c s at
       field_of sound inside (Refused refusal byte) e =
-          inr (refused_as refusal (refused-some s at change_tags 0 refusal byte e).0 (simp (eq-eqb (fault_of c) 0 sound, lt-leb (length s) at inside, e)))
+          inr (refused_as (number_of refusal) (refused-some s at change_tags 0 refusal byte e).0 (simp (eq-eqb (fault_of c) 0 sound, lt-leb (length s) at inside, e)))
       field_of sound inside (Body tag start len) e =
           let fault = change_fault (topology c).nodes (change_in s tag start) in
           ⊎_elim (λ good. inl (record { tag = tag; start = start; len = len; sound = sound; inside = inside; body = e; good = good }))

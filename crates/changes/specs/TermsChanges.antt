@@ -1,9 +1,11 @@
 -- What a change makes of a cluster in hand, and what the call answers: document 02, requests 2026-04 and 2026-05. "Box" in the papers is a node here.
 -- Assumes nothing.
-use Rattle.std.specs.Prelude.{ℕ, ◌+◌, cond, List, leb, eqb, length}
+use Rattle.std.specs.Prelude.{ℕ, ◌+◌, cond, List, leb, eqb, length, Result, Ok, Err}
 use Rattle.cluster.specs.Terms.{topology, fault_of}
 use Rattle.cluster.specs.TermsReading.{slots_of}
 use Rattle.cluster.specs.declared.Cluster.{Cluster}
+use Rattle.cluster.specs.declared.refusal.Refusal.{Refusal}
+use Rattle.cluster.specs.TermsRefusal.{number_of}
 use Rattle.fields.specs.RecordField.{field_at}
 use Rattle.fields.specs.declared.Field.{Field}
 use Rattle.fields.specs.declared.Field.TheVariants.{Body, Refused}
@@ -11,11 +13,32 @@ use Rattle.splices.specs.TermsReplaced.{with_nodes}
 use Rattle.change_fields.specs.RecordChange.{change_field, change_tags, change_in, reverse_bytes, no_reverse}
 use Rattle.change_fields.specs.declared.Change.{Change}
 use Rattle.making.specs.TermsMaking.{changed_nodes, reverse_of, change_fault}
-use Rattle.changes.specs.declared.Made.{Made}
+use Rattle.change_fields.specs.declared.Reverse.{Reverse}
+use Rattle.changes.specs.declared.Done.{Done}
+
+-- What a call answers: the refusal, 0 for none, the byte after the change or, where it is refused, the given one, and the reverse.
+pub record Outcome : Type 0 where
+  pub refusal : ℕ
+  pub byte : ℕ
+  pub reverse : Reverse
+
+-- A cluster after a call, with what is answered.
+pub record Made : Type 0 where
+  pub cluster : Cluster
+  pub answer : Outcome
 
 -- "A refused change alters nothing and gives no reverse; .. the byte answered is the given one."
 abbrev pub change_refused : Cluster → ℕ → ℕ → Made
 change_refused c refusal at = record { cluster = c; answer = record { refusal = refusal; byte = at; reverse = no_reverse } }
+
+-- What `change` answers for the given byte, and what `changed` answers for the given cluster and byte, as these records.
+abbrev pub outcome_as : ℕ → Result Done Refusal → Outcome
+outcome_as at (Ok done) = record { refusal = 0; byte = done.next; reverse = done.reverse }
+outcome_as at (Err refusal) = record { refusal = number_of refusal; byte = at; reverse = no_reverse }
+
+abbrev pub made_as : Cluster → ℕ → Result (Cluster × Done) Refusal → Made
+made_as c at (Ok made) = record { cluster = made.0; answer = outcome_as at (Ok made.1) }
+made_as c at (Err refusal) = change_refused c (number_of refusal) at
 
 -- "Each accepted change gives back, as the bytes of its field, the change that reverses it"; it "leaves unused slots zero", and the call
 -- "answers the next byte too".
@@ -35,7 +58,7 @@ change_read c x at next =
 
 -- The same, where the field at byte `at` may be at fault.
 unfoldable pub change_at : Cluster → List ℕ → ℕ → Field → Made
-change_at c s at (Refused refusal byte) = change_refused c refusal at
+change_at c s at (Refused refusal byte) = change_refused c (number_of refusal) at
 change_at c s at (Body tag start len) = change_read c (change_in s tag start) at (start + len)
 
 -- "One call makes the change at a given byte": the change of the record s at byte `at`, made on the cluster c. "The call refuses first a cluster

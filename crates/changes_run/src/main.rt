@@ -8,18 +8,13 @@ use std::io;
 
 mod print;
 
-// The cluster with node b in its slot.
-fn with_node(c: Cluster, b: usize, id: u32, zone: u16, capacity: u32, ceiling: u16) -> Cluster {
-    let mut next = c;
-    if b < Cluster::NODES {
-        next.nodes[b] = Node {
-            id,
-            zone,
-            capacity,
-            ceiling,
-        };
+fn node(id: u32, zone: u16, capacity: u32, ceiling: u16) -> Node {
+    Node {
+        id,
+        zone,
+        capacity,
+        ceiling,
     }
-    next
 }
 
 // Nodes 1/1/100/256 2/1/70/7 5/2/50/0, and junk in the first slot that is not in use and, a ceiling alone, in the last.
@@ -29,26 +24,33 @@ fn three() -> Cluster {
     c.replication = 3;
     c.redundancy = 2;
     c.count = 3;
-    let c1 = with_node(c, 0, 1, 1, 100, 256);
-    let c2 = with_node(c1, 1, 2, 1, 70, 7);
-    let c3 = with_node(c2, 2, 5, 2, 50, 0);
-    let c4 = with_node(c3, 3, 9, 9, 9, 257);
-    with_node(c4, 31, 0, 0, 0, 65535)
+    c.nodes[0] = node(1, 1, 100, 256);
+    c.nodes[1] = node(2, 1, 70, 7);
+    c.nodes[2] = node(5, 2, 50, 0);
+    c.nodes[3] = node(9, 9, 9, 257);
+    c.nodes[31] = node(0, 0, 0, 65535);
+    c
 }
 
 // The same with a ceiling above 256.
 fn high() -> Cluster {
-    with_node(three(), 2, 5, 2, 50, 257)
+    let mut c = three();
+    c.nodes[2].ceiling = 257;
+    c
 }
 
 // The first with ids that do not rise.
 fn falling() -> Cluster {
-    with_node(three(), 2, 2, 2, 50, 0)
+    let mut c = three();
+    c.nodes[2].id = 2;
+    c
 }
 
 // The same with a ceiling above 256.
 fn high_falling() -> Cluster {
-    with_node(falling(), 0, 1, 1, 100, 65535)
+    let mut c = falling();
+    c.nodes[0].ceiling = 65535;
+    c
 }
 
 // The ids that do not rise, with a redundancy above the replication.
@@ -70,12 +72,7 @@ fn full() -> Cluster {
     let mut c = Cluster::none();
     c.count = Cluster::NODES;
     for b in 0..Cluster::NODES {
-        c.nodes[b] = Node {
-            id: 2 * b as u32 + 2,
-            zone: 0,
-            capacity: 1,
-            ceiling: b as u16,
-        };
+        c.nodes[b] = node(2 * b as u32 + 2, 0, 1, b as u16);
     }
     c
 }
@@ -97,23 +94,31 @@ fn cluster_of(letter: u8, last: Cluster) -> Cluster {
 
 // A change, what is answered, and the cluster that is left; of as many nodes as there can be, not the nodes.
 fn change(rt: &impl Print, c: Cluster, bytes: &[u8], at: usize) -> io::Result<Cluster> {
-    let made = changes::in_hand(c, bytes, at);
-    print::answer(rt, made.answer.refusal, made.answer.byte)?;
-    print::reverse(rt, made.answer.reverse)?;
-    if c.count < Cluster::NODES {
-        print::nodes(rt, made.cluster)?;
+    let mut own = c;
+    match changes::change(&mut own, bytes, at) {
+        Ok(done) => {
+            print::answer(rt, 0, done.next)?;
+            print::reverse(rt, done.reverse)?;
+        }
+        Err(refusal) => {
+            print::answer(rt, refusal.into(), at)?;
+            print::reverse(rt, change_fields::no_reverse())?;
+        }
     }
-    Ok(made.cluster)
+    if c.count < Cluster::NODES {
+        print::nodes(rt, own)?;
+    }
+    Ok(own)
 }
 
 // The change of a line: a letter, a byte, a record.
-fn change_line(rt: &impl Print, text: &[u8], from: usize, last: Cluster) -> io::Result<Cluster> {
-    if text.len() <= from {
+fn change_line(rt: &impl Print, spelled: &[u8], last: Cluster) -> io::Result<Cluster> {
+    let Some((letter, digits)) = spelled.split_first() else {
         return Ok(last);
-    }
-    let c = cluster_of(text[from], last);
+    };
+    let c = cluster_of(*letter, last);
     let mut bytes = [0u8; 64];
-    let n = hex_digits::decode(text, from + 1, &mut bytes);
+    let n = hex_digits::decode(digits, 0, &mut bytes);
     if n == 0 {
         return Ok(last);
     }
@@ -128,11 +133,11 @@ fn run(rt: &impl Print, text: &[u8]) -> io::Result<()> {
     let mut last = Cluster::none();
     let mut start = 0;
     for (at, b) in text.iter().enumerate() {
-        if *b == 61 {
+        if *b == b'=' {
             rt.write_all(&text[start..at + 1])?;
-            last = change_line(rt, text, at + 1, last)?;
+            last = change_line(rt, &text[at + 1..], last)?;
         }
-        if *b == 10 {
+        if *b == b'\n' {
             start = at + 1;
         }
     }

@@ -7,11 +7,12 @@ ghost use Rattle.std.specs.Prelude.{◌≡◌, true, ◌≤◌, ◌<◌, length}
 ghost use Rattle.cluster.specs.Terms.{most_nodes, buffer_rows};
 ghost use Rattle.exchange.specs.ModelUncross.{Same};
 ghost use Rattle.swaps.specs.ModelLeaves.{ChangedIn};
-ghost use Rattle.swaps.specs.ModelSwaps.{Tight};
-ghost use Rattle.holders.specs.ModelHolders.{Held};
+ghost use Rattle.holders.specs.ModelHolders.{Follows, Held};
 ghost use Rattle.walks.specs.ModelWalks.{walk_in, renewed, stands};
 ghost use Rattle.freeing.specs.ModelFreed.{freed_of};
 ghost use Rattle.circuits.specs.ModelCircuits.{cycle_of, turned_of};
+
+use swaps::instance::Instance;
 
 // The cycle of m arcs over the nodes of `walk` (arc i goes from walk[i + 1] to walk[i]) into y and q, each arc at its witness. `arcs` holds the
 // exchange graph.
@@ -23,38 +24,19 @@ pub fn load(
     rows: &[u32],
     tight: &[u32],
     held: &[u32],
-    former: &[u32],
-    had: &[u32],
-    partitions: usize,
-    mates: &[u32],
+    given: &Instance,
     arcs: &[u32],
     all: u32,
-    z: u32,
 )
-    requires { (m < length y.old) × (m ≤ length q.old) × (m < length walk.now) × (partitions ≤ buffer_rows)
-        × Tight mates.now z rows.now partitions tight.now × Held rows.now partitions held.now × Held former.now partitions had.now }
-    ensures { (length y.new ≡ length y.old) × (length q.new ≡ length q.old)
-        × Same (cycle_of rows.now former.now partitions mates.now arcs.now all z walk.now m)
+    requires { let g = given.now in (m < length y.old) × (m ≤ length q.old) × (m < length walk.now) × (g.partitions ≤ buffer_rows)
+        × Follows g rows.now tight.now held.now × Held g.former.now g.partitions g.had.now }
+    ensures { let g = given.now in (length y.new ≡ length y.old) × (length q.new ≡ length q.old)
+        × Same (cycle_of rows.now g.former.now g.partitions g.mates.now arcs.now all g.z walk.now m)
         (walk_in m y.new q.new) }
 {
-    let mut t = 0;
-    while t < m {
+    for t in 0..m {
         y[t] = walk[t];
-        q[t] = walks::witness(
-            rows,
-            tight,
-            held,
-            former,
-            had,
-            partitions,
-            mates,
-            arcs,
-            all,
-            z,
-            walk[t + 1],
-            walk[t],
-        ) as u32;
-        t += 1;
+        q[t] = walks::witness(rows, tight, held, given, arcs, all, walk[t + 1], walk[t]) as u32;
     }
     y[m] = walk[m];
 }
@@ -68,44 +50,22 @@ pub fn renew(
     rows: &[u32],
     tight: &[u32],
     held: &[u32],
-    former: &[u32],
-    had: &[u32],
-    partitions: usize,
-    mates: &[u32],
-    caps: &[u32],
+    given: &Instance,
     all: u32,
-    z: u32,
 ) -> bool
-    requires { (m < length y.now) × (m ≤ length q.old) × (partitions ≤ buffer_rows)
-        × Tight mates.now z rows.now partitions tight.now × Held rows.now partitions held.now × Held former.now partitions had.now }
-    ensures { (length q.new ≡ length q.old)
-        × (result ≡ stands rows.now former.now partitions mates.now all z caps.now (walk_in m y.now q.old))
+    requires { let g = given.now in (m < length y.now) × (m ≤ length q.old) × (g.partitions ≤ buffer_rows)
+        × Follows g rows.now tight.now held.now × Held g.former.now g.partitions g.had.now }
+    ensures { let g = given.now in (length q.new ≡ length q.old)
+        × (result ≡ stands rows.now g.former.now g.partitions g.mates.now all g.z g.caps.now (walk_in m y.now q.old))
         × (result ≡ true
-        → Same (renewed rows.now former.now partitions mates.now all z (walk_in m y.now q.old))
+        → Same (renewed rows.now g.former.now g.partitions g.mates.now all g.z (walk_in m y.now q.old))
         (walk_in m y.now q.new)) }
 {
-    let mut t = 0;
-    while t < m {
-        let arc = walks::renewed(
-            rows,
-            tight,
-            held,
-            former,
-            had,
-            partitions,
-            mates,
-            caps,
-            all,
-            z,
-            q[t],
-            y[t + 1],
-            y[t],
-        );
-        if !arc.stands {
+    for t in 0..m {
+        let Some(p) = walks::renewed(rows, tight, held, given, all, q[t], y[t + 1], y[t]) else {
             return false;
-        }
-        q[t] = arc.partition as u32;
-        t += 1;
+        };
+        q[t] = p as u32;
     }
     0 < m
 }
@@ -125,23 +85,19 @@ pub fn turn(
     rows: &mut [u32],
     tight: &mut [u32],
     held: &mut [u32],
-    former: &[u32],
-    partitions: usize,
-    mates: &[u32],
+    given: &Instance,
     all: u32,
-    z: u32,
 ) -> Turned
-    requires { (m ≤ most_nodes) × (m < length y.old) × (m ≤ length q.old) × (partitions ≤ length rows.old) × (partitions ≤ buffer_rows)
-        × Tight mates.now z rows.old partitions tight.old × Held rows.old partitions held.old }
-    ensures { (result.len ≤ m) × (length y.new ≡ length y.old) × (length q.new ≡ length q.old)
+    requires { let g = given.now in (m ≤ most_nodes) × (m < length y.old) × (m ≤ length q.old) × (g.partitions ≤ length rows.old) × (g.partitions ≤ buffer_rows)
+        × Follows g rows.old tight.old held.old }
+    ensures { let g = given.now in (result.len ≤ m) × (length y.new ≡ length y.old) × (length q.new ≡ length q.old)
         × (rows.new
-        ≡ turned_of rows.old former.now partitions mates.now all z (walk_in m y.old q.old))
-        × Same (freed_of rows.old former.now partitions mates.now all z (walk_in m y.old q.old))
+        ≡ turned_of rows.old g.former.now g.partitions g.mates.now all g.z (walk_in m y.old q.old))
+        × Same (freed_of rows.old g.former.now g.partitions g.mates.now all g.z (walk_in m y.old q.old))
         (walk_in result.len y.new q.new)
-        × ChangedIn result.changed rows.old rows.new × Tight mates.now z rows.new partitions tight.new
-        × Held rows.new partitions held.new }
+        × ChangedIn result.changed rows.old rows.new × Follows g rows.new tight.new held.new }
 {
-    let n = freeing::free(y, q, m, rows, tight, former, partitions, mates, all, z);
-    let changed = exchanging::make(rows, tight, held, partitions, mates, z, y, q, n);
+    let n = freeing::free(y, q, m, rows, tight, given, all);
+    let changed = exchanging::make(rows, tight, held, given, y, q, n);
     Turned { len: n, changed }
 }

@@ -11,9 +11,5 @@ pub fn clear(scratch: &mut [u32])
     requires { scratch_cells ≤ length scratch.old }
     ensures { scratch.new ≡ replicate scratch_cells 0 ++ drop scratch_cells scratch.old }
 {
-    let mut i = 0;
-    while i < Cluster::SCRATCH {
-        scratch[i] = 0;
-        i += 1;
-    }
+    scratch[..Cluster::SCRATCH].fill(0);
 }

@@ -1,3 +1,4 @@
 pub mod Terms
 pub mod TermsFirst
 pub mod TermsReading
+pub mod TermsRefusal

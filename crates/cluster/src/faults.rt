@@ -9,14 +9,10 @@ fn some_out_of_range(c: Cluster) -> bool
     requires { c.count ≤ most_nodes }
     ensures { result ≡ some_out_of_range (topology c).nodes }
 {
-    let n = c.count;
-    let mut i = 0;
-    while i < n {
-        let node = c.nodes[i];
-        if node.out_of_range() {
+    for i in 0..c.count {
+        if c.nodes[i].out_of_range() {
             return true;
         }
-        i += 1;
     }
     false
 }
@@ -49,16 +45,13 @@ pub(crate) fn ids_rise(c: Cluster) -> bool
     requires { c.count ≤ most_nodes }
     ensures { result ≡ rising (ids_of (topology c).nodes) }
 {
-    let n = c.count;
     let mut last = 0;
-    let mut i = 0;
-    while i < n {
+    for i in 0..c.count {
         let id = c.nodes[i].id;
         if id <= last {
             return false;
         }
         last = id;
-        i += 1;
     }
     true
 }

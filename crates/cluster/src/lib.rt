@@ -3,7 +3,10 @@
 
 ghost use Rattle.std.specs.Prelude.{◌≡◌, ◌^◌, ◌≤◌, ◌<◌, min};
 ghost use Rattle.cluster.specs.TermsReading.{no_nodes};
+ghost use Rattle.cluster.specs.TermsRefusal.{refusal_of};
 ghost use Rattle.cluster.specs.Terms.{most_bits, buffer_rows, no_node, usable, takes, node_out_of_range, fault_of};
+
+use refusal::Refusal;
 
 mod faults;
 pub mod refusal;
@@ -123,21 +126,20 @@ impl Cluster {
         }
     }
 
-    // The first fault of a cluster in hand, as planning and check refuse it: too many nodes, a number of it or of a
-    // node out of range, ids not rising; 0 where there is none.
-    pub fn fault(self) -> u32
-        ensures { result ≡ fault_of self }
+    // Accepts a cluster in hand, or refuses it by its first fault, as planning and check do: too many nodes, a number of it or of a
+    // node out of range, ids not rising.
+    pub fn accept(self) -> Result<(), Refusal>
+        ensures { refusal_of result ≡ fault_of self }
     {
         if Cluster::NODES < self.count {
-            return refusal::NODES;
+            return Err(Refusal::Nodes);
         }
         if faults::out_of_range(self) {
-            return refusal::RANGE;
+            return Err(Refusal::Range);
         }
-        if faults::ids_rise(self) {
-            0
-        } else {
-            refusal::ORDER
+        if !faults::ids_rise(self) {
+            return Err(Refusal::Order);
         }
+        Ok(())
     }
 }

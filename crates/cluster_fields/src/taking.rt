@@ -13,21 +13,15 @@ pub fn cluster_with(bytes: &[u8], c: Cluster, tag: u8, start: usize) -> Cluster
     ensures { (t : Topology) (len : ℕ) → c ≡ slots_of t → result ≡ slots_of (with_item t (item_in bytes.now tag start len)) }
 {
     let mut next = c;
-    if tag == 1 {
-        next.bits = numbers::byte_at(bytes, start);
-        return next;
+    match tag {
+        1 => next.bits = numbers::byte_at(bytes, start),
+        2 => next.replication = numbers::byte_at(bytes, start),
+        3 => next.redundancy = numbers::byte_at(bytes, start),
+        _ => {
+            next.nodes[c.count] = node_bytes::node_at(bytes, start);
+            next.count += 1;
+        }
     }
-    if tag == 2 {
-        next.replication = numbers::byte_at(bytes, start);
-        return next;
-    }
-    if tag == 3 {
-        next.redundancy = numbers::byte_at(bytes, start);
-        return next;
-    }
-    let at = c.count;
-    next.nodes[at] = node_bytes::node_at(bytes, start);
-    next.count = at + 1;
     next
 }
 

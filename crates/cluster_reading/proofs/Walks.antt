@@ -9,6 +9,8 @@ use native.Mathlib.Omega.{arith}
 use lib.ListN.{length}
 use borrow.Author.Tests.{le-leb, lt-leb, eq-eqb, ne_eqb}
 use Rattle.sums.proofs.Sum.{lt_or_ge, eq_or_ne}
+use Rattle.cluster.specs.declared.refusal.Refusal.{Refusal}
+use Rattle.cluster.specs.TermsRefusal.{number_of}
 use Rattle.fields.specs.RecordField.{field_at}
 use Rattle.fields.specs.declared.Field.{Field}
 use Rattle.fields.specs.declared.Field.TheVariants.{Body, Refused}
@@ -39,7 +41,7 @@ module _ (s : List ℕ) (at k : ℕ) (r : Reading) where
         (lt-leb (length s) at more)
 
     -- A field that cannot be taken whole ends the walk.
-    pub walk_refused : (refusal byte : ℕ) → field_at s at (allowed_after r.last) 0 ≡ Refused refusal byte → walk k s at r ≡ cluster_refused refusal byte
+    pub walk_refused : (refusal : Refusal) (byte : ℕ) → field_at s at (allowed_after r.last) 0 ≡ Refused refusal byte → walk k s at r ≡ cluster_refused (number_of refusal) byte
     unfolding after_field
     walk_refused refusal byte e = walk_field ∙ ap (λ (f : Field). after_field (λ next q. walk (k - 1) s next q) s at r f) e
 
@@ -89,7 +91,7 @@ walk_enough s (suc j) k at r a b =
 -- What holds at every byte that the walk comes to, and of every way in which it can end, holds of its outcome.
 module _ (s : List ℕ) (Q : ℕ → Reading → Type 0) (A : ClusterRead → Type 0)
     (ends : (at : ℕ) (r : Reading) → Q at r → length s ≤ at → A (ended s r))
-    (refuses : (at : ℕ) (r : Reading) → Q at r → (refusal byte : ℕ) → field_at s at (allowed_after r.last) 0 ≡ Refused refusal byte → A (cluster_refused refusal byte))
+    (refuses : (at : ℕ) (r : Reading) → Q at r → (refusal : Refusal) (byte : ℕ) → field_at s at (allowed_after r.last) 0 ≡ Refused refusal byte → A (cluster_refused (number_of refusal) byte))
     (faults : (at : ℕ) (r : Reading) → Q at r → (tag start len : ℕ) → field_at s at (allowed_after r.last) 0 ≡ Body tag start len
     → (fault_in r.cluster (length r.former) (item_in s tag start len) ≡ 0 → ⊥)
     → A (cluster_refused (fault_in r.cluster (length r.former) (item_in s tag start len)) at))

@@ -4,6 +4,7 @@
 use Rattle.std.specs.Prelude.{ℕ, zero, suc, ◌+◌, cond, List, [], ◌∷◌, ltb, leb, eqb, length}
 use Rattle.cluster.specs.Terms.{Topology, topology, partitions, Layout}
 use Rattle.cluster.specs.TermsReading.{no_nodes}
+use Rattle.cluster.specs.TermsRefusal.{number_of}
 use Rattle.fields.specs.RecordField.{field_at}
 use Rattle.fields.specs.declared.Field.{Field}
 use Rattle.fields.specs.declared.Field.TheVariants.{Body, Refused}
@@ -51,7 +52,7 @@ ended s r =
 
 -- "field by field, the first fault decides", with the byte at which the field begins; without fault the reading goes on after the field.
 unfoldable pub after_field : (ℕ → Reading → ClusterRead) → List ℕ → ℕ → Reading → Field → ClusterRead
-after_field go s at r (Refused refusal byte) = cluster_refused refusal byte
+after_field go s at r (Refused refusal byte) = cluster_refused (number_of refusal) byte
 after_field go s at r (Body tag start len) =
     let item = item_in s tag start len in
     let fault = fault_in r.cluster (length r.former) item in

@@ -14,11 +14,10 @@ use Rattle.cell_rows.specs.ModelRows.{FitsCells}
 use Rattle.cell_rows.proofs.CellLayouts.{rows_in-written}
 use Rattle.fields.specs.RecordField.{Bytes}
 use Rattle.fields.proofs.RecordField.{whole, refused-some}
-use Rattle.cluster_record.specs.declared.ReadCluster.{ReadCluster}
 use Rattle.cluster_record.specs.RecordCluster.{IsClusterRecord}
 use Rattle.cluster_fields.specs.RecordClusterFaults.{up_to}
 use Rattle.cluster_reading.specs.RecordClusterReading.{Reading, ClusterRead, nothing_read, allowed_after, cluster_refused, ended, read_cluster}
-use Rattle.cluster_record.specs.RecordClusterAnswer.{cluster_outcome, cluster_answer, read_cluster_of, former_read}
+use Rattle.cluster_record.specs.RecordClusterAnswer.{ReadCluster, cluster_outcome, cluster_answer, read_cluster_of, former_read}
 use Rattle.cluster_record.specs.RecordClusterClaims.{ReadsCluster, AnswersCluster, Yielded}
 use Rattle.cluster.proofs.Slots.{topology-slots}
 use Rattle.cluster_reading.proofs.Walks.{walk-holds}

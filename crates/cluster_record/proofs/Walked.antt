@@ -8,16 +8,19 @@ use native.Mathlib.Omega.{arith}
 use lib.ListN.{length, replicate}
 use lib.Dec.{ltb}
 use Rattle.cluster.specs.Terms.{most_bits, most_copies, most_nodes, buffer_rows, layout_cells, Topology, topology, partitions, Layout, cells_of}
+use Rattle.std.specs.Prelude.{Result, Ok, Err, IsOk}
 use Rattle.cluster.specs.declared.Cluster.{Cluster}
+use Rattle.cluster.specs.declared.refusal.Refusal.{Refusal}
+use Rattle.cluster.specs.TermsRefusal.{number_of}
+use Rattle.fields.specs.declared.Refused.{Refused as Halt}
 use Rattle.cluster.specs.TermsReading.{no_nodes, slots_of}
 use Rattle.cell_rows.proofs.CellLayouts.{length-cells_of}
 use Rattle.fields.specs.RecordField.{number_at, row_width, field_at, Whole, node_at_byte, ids_at}
 use Rattle.fields.specs.declared.Field.TheVariants.{Body, Refused}
-use Rattle.fields.proofs.RecordField.{whole, refused-some}
+use Rattle.fields.proofs.RecordField.{whole}
 use Rattle.cluster_fields.specs.RecordClusterFaults.{Item, item_in, with_item, former_with, fault_in}
 use Rattle.cluster_reading.specs.RecordClusterReading.{Reading, ClusterRead, nothing_read, allowed_after, reading_with, cluster_refused, ended, walk, read_cluster}
-use Rattle.cluster_record.specs.declared.ReadCluster.{ReadCluster}
-use Rattle.cluster_record.specs.RecordClusterAnswer.{cluster_answer}
+use Rattle.cluster_record.specs.RecordClusterAnswer.{ReadCluster, read_as, cluster_answer}
 use Rattle.cluster_fields.proofs.Items.{item_node, item_five, former-kept, sound_node, sound_row}
 use Rattle.cluster_fields.proofs.FieldFaults.{RowFault, row-fault}
 use Rattle.cluster.proofs.Accepting.{few_partitions}
@@ -54,14 +57,18 @@ walked_start s rows c e z = record {
   cells = z ∙ sym cells-none;
 }
 
--- What the walk says in the end: the answer and, unless it is a refusal, the rows.
-abbrev pub Says : List ℕ → ReadCluster → List ℕ → Type 0
-Says s answer rows = (answer ≡ cluster_answer (read_cluster s)) × (answer.refusal ≡ 0 → rows ≡ cells_of (read_cluster s).former)
+-- An answer is no refusal.
+ok-zero : (answer : Result Cluster Halt) → IsOk answer → (read_as answer).refusal ≡ 0
+ok-zero (Ok c) h = refl
+ok-zero (Err r) h = cc
 
-pub says_refused : (s rows : List ℕ) (answer : ReadCluster) (refusal byte : ℕ) → answer ≡ cluster_answer (cluster_refused refusal byte) → (refusal ≡ 0 → ⊥)
-    → read_cluster s ≡ cluster_refused refusal byte → Says s answer rows
-unfolding cluster_answer
-says_refused s rows answer refusal byte e real r = (e ∙ ap cluster_answer (sym r), λ z. absurd (real (sym (ap (λ (k : ReadCluster). k.refusal) e) ∙ z)))
+-- What the walk says in the end: the answer and, unless it is a refusal, the rows.
+abbrev pub Says : List ℕ → Result Cluster Halt → List ℕ → Type 0
+Says s answer rows = (read_as answer ≡ cluster_answer (read_cluster s)) × (IsOk answer → rows ≡ cells_of (read_cluster s).former)
+
+pub says_refused : (s rows : List ℕ) (r : Halt) → read_cluster s ≡ cluster_refused (number_of r.refusal) r.at → Says s (Err r) rows
+unfolding cluster_answer slots_of
+says_refused s rows r e = (ap cluster_answer (sym e), λ none. cc)
 
 module _ {s rows : List ℕ} {c : Cluster} {last next at : ℕ} (w : Walked s rows c last next at) where
   -- The nodes in use are those read so far.
@@ -96,21 +103,19 @@ module _ {s rows : List ℕ} {c : Cluster} {last next at : ℕ} (w : Walked s ro
           ∙ (sym (cells-up_to (partitions w.reading.cluster) w.reading.former)
           ∙ sym (ap (λ (o : ClusterRead). cells_of o.former) (walked_end h) ∙ simp e))
 
-  pub says_ended : length s ≤ at → (answer : ReadCluster) → ((k : Reading) → last ≡ k.last → c ≡ slots_of k.cluster → answer ≡ cluster_answer (ended s k))
-      → Says s answer rows
+  pub says_ended : length s ≤ at → (answer : Result Cluster Halt)
+      → ((k : Reading) → last ≡ k.last → c ≡ slots_of k.cluster → read_as answer ≡ cluster_answer (ended s k)) → Says s answer rows
   unfolding cluster_answer
   says_ended h answer e =
-      let is : answer ≡ cluster_answer (read_cluster s) = e w.reading w.tag_read w.slots ∙ ap cluster_answer (sym (walked_end h)) in
-      (is, λ z. walked_cells h (sym (ap (λ (k : ReadCluster). k.refusal) is) ∙ z))
+      let is : read_as answer ≡ cluster_answer (read_cluster s) = e w.reading w.tag_read w.slots ∙ ap cluster_answer (sym (walked_end h)) in
+      (is, λ z. walked_cells h (sym (ap (λ (k : ReadCluster). k.refusal) is) ∙ ok-zero answer z))
 
   -- A field that cannot be taken whole.
-  pub walked_refused : at < length s → {refusal byte : ℕ} → field_at s at (allowed_after last) 0 ≡ Refused refusal byte
-      → (1 ≤ refusal) × (read_cluster s ≡ cluster_refused refusal byte)
+  pub walked_refused : at < length s → {refusal : Refusal} {byte : ℕ} → field_at s at (allowed_after last) 0 ≡ Refused refusal byte
+      → read_cluster s ≡ cluster_refused (number_of refusal) byte
   walked_refused more {refusal} {byte} d =
-      let e = ap (λ (l : ℕ). field_at s at (allowed_after l) 0) (sym w.tag_read) ∙ d in (
-        (refused-some s at (allowed_after w.reading.last) 0 refusal byte e).0,
-        w.here ∙ walk_refused s at w.fuel w.reading more w.enough refusal byte e,
-      )
+      w.here
+      ∙ walk_refused s at w.fuel w.reading more w.enough refusal byte (ap (λ (l : ℕ). field_at s at (allowed_after l) 0) (sym w.tag_read) ∙ d)
 
 -- The same where a whole field stands at the byte.
 pub record Met (s rows : List ℕ) (c : Cluster) (last next at tag start len : ℕ) : Type 0 where

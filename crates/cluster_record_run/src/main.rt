@@ -3,39 +3,43 @@
 #![tactic(auto)]
 
 use cluster::Cluster;
+use fields::Refused;
 use std::io;
 
-fn print(rt: &impl Print, refusal: u32, byte: usize, count: usize, cell: u32) -> io::Result<()> {
-    println!(rt; "{refusal} {byte} {count} {cell}")
+fn print(rt: &impl Print, read: Result<Cluster, Refused>, cell: u32) -> io::Result<()> {
+    match read {
+        Ok(c) => println!(rt; "0 0 {} {cell}", c.count),
+        Err(refused) => println!(rt; "{} {} 0 {cell}", u32::from(refused.refusal), refused.at),
+    }
 }
 
 fn show(rt: &impl Print, bytes: &[u8]) -> io::Result<()> {
     let mut former = [7u32; Cluster::CELLS];
-    let r = cluster_record::read_cluster(bytes, &mut former);
-    print(rt, r.refusal, r.byte, r.cluster.count, former[0])
+    let read = cluster_record::read_cluster(bytes, &mut former);
+    print(rt, read, former[0])
 }
 
 // The same with one cell too few.
 fn show_short(rt: &impl Print, bytes: &[u8]) -> io::Result<()> {
     let mut former = [7u32; 2047];
-    let r = cluster_record::read_cluster(bytes, &mut former);
-    print(rt, r.refusal, r.byte, r.cluster.count, former[0])
+    let read = cluster_record::read_cluster(bytes, &mut former);
+    print(rt, read, former[0])
 }
 
-fn show_line(rt: &impl Print, text: &[u8], from: usize) -> io::Result<()> {
+fn show_digits(rt: &impl Print, digits: &[u8]) -> io::Result<()> {
     let mut bytes = [0u8; 1024];
-    let n = hex_digits::decode(text, from, &mut bytes);
+    let n = hex_digits::decode(digits, 0, &mut bytes);
     show(rt, &bytes[..n])
 }
 
 fn run(rt: &impl Print, text: &[u8]) -> io::Result<()> {
     let mut start = 0;
     for (at, b) in text.iter().enumerate() {
-        if *b == 61 {
+        if *b == b'=' {
             rt.write_all(&text[start..at + 1])?;
-            show_line(rt, text, at + 1)?;
+            show_digits(rt, &text[at + 1..])?;
         }
-        if *b == 10 {
+        if *b == b'\n' {
             start = at + 1;
         }
     }

@@ -1,13 +1,15 @@
 -- What the C function of a change answers, leaves in every lent slice and owes, for all bytes, numbers and lengths.
 -- Assumes nothing.
-use Rattle.std.specs.Prelude.{ℕ, ◌+◌, ◌*◌, ◌≤◌, ◌≡◌, cond, List, ◌∷◌, ◌++◌, eqb, drop}
+use Rattle.std.specs.Prelude.{ℕ, ◌+◌, ◌*◌, ◌≤◌, ◌≡◌, cond, List, ◌∷◌, ◌++◌, eqb, drop, Result, Ok, Err}
 use Rattle.cluster.specs.Terms.{most_nodes}
-use Rattle.cluster_record.specs.declared.ReadCluster.{ReadCluster}
+use Rattle.cluster_record.specs.RecordClusterAnswer.{ReadCluster}
 use Rattle.change_fields.specs.RecordChange.{longest_change}
-use Rattle.changes.specs.TermsChanges.{change_refused, change_of}
+use Rattle.cluster.specs.declared.Cluster.{Cluster}
+use Rattle.cluster.specs.TermsRefusal.{number_of}
+use Rattle.fields.specs.declared.Refused.{Refused}
+use Rattle.changes.specs.TermsChanges.{Outcome, Made, change_refused, change_of}
+use Rattle.changes.specs.declared.Done.{Done}
 use Rattle.changes.specs.TermsUndo.{Owed}
-use Rattle.changes.specs.declared.Made.{Made}
-use Rattle.changes.specs.declared.Outcome.{Outcome}
 use Rattle.answers.specs.TermsAnswers.{halves, node_cells_width, node_cells, unless_short, after_reading, reading}
 
 -- ---- what the call comes to
@@ -15,6 +17,15 @@ use Rattle.answers.specs.TermsAnswers.{halves, node_cells_width, node_cells, unl
 -- The change of the record s at byte `at`, made on the cluster that was read; a refused reading is a refused change.
 unfoldable pub made_read : ReadCluster → List ℕ → ℕ → Made
 made_read r s at = after_reading r (change_refused r.cluster r.refusal at) (change_of r.cluster s at)
+
+-- What reading and the change answer together, with the cluster that is left, as these numbers; and the byte of the reading, 0 where it is not refused.
+abbrev pub changed_as : ℕ → Cluster → Result Done Refused → Made
+changed_as at c (Ok done) = record { cluster = c; answer = record { refusal = 0; byte = done.next; reverse = done.reverse } }
+changed_as at c (Err r) = change_refused c (number_of r.refusal) at
+
+abbrev pub byte_as : Result Done Refused → ℕ
+byte_as (Ok _) = 0
+byte_as (Err r) = r.at
 
 -- ---- lent slices
 

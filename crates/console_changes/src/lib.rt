@@ -2,17 +2,18 @@
 // `reverse`, its other numbers into the lent cells `answer`. One of them that is too short is refused before anything is touched.
 #![tactic(auto)]
 
-ghost use Rattle.std.specs.Prelude.{◌≡◌, ◌++◌, ◌≤◌, length, drop};
+ghost use Rattle.std.specs.Prelude.{◌≡◌, ◌∷◌, ◌++◌, ◌≤◌, IfOk, length, drop};
 ghost use Rattle.cluster.specs.Terms.{most_nodes};
+ghost use Rattle.cluster.specs.TermsReading.{no_nodes};
 ghost use Rattle.change_fields.specs.RecordChange.{longest_change};
 ghost use Rattle.changes.specs.TermsUndo.{Owed};
-ghost use Rattle.answers.specs.TermsAnswers.{reading};
-ghost use Rattle.console_changes.specs.TermsConsoleChanges.{made_read, change_cells, unless_either, reverse_after, change_numbers, ChangeOwed};
+ghost use Rattle.answers.specs.TermsAnswers.{halves, node_cells, reading};
+ghost use Rattle.console_changes.specs.TermsConsoleChanges.{changed_as, byte_as, made_read, change_cells, unless_either, reverse_after, change_numbers, ChangeOwed};
 
-use answers::entering;
-use changes::{Made, Outcome};
-use cluster::{Cluster, refusal};
-use cluster_record::ReadCluster;
+use changes::Done;
+use cluster::Cluster;
+use cluster::refusal::Refusal;
+use fields::Refused;
 
 // The cells of the answer before the nodes: byte of the reading (two cells), byte answered (two cells), length of the reverse, bits, replication,
 // redundancy, number of nodes.
@@ -20,41 +21,16 @@ const HEAD: usize = 9;
 // The cells of the answer.
 const ANSWER: usize = HEAD + answers::NODE * Cluster::NODES;
 
-// Copies bytes to the front of lent ones.
-fn copy(bytes: &[u8], to: &mut [u8])
-    requires { length bytes.now ≤ length to.old }
-    ensures { to.new ≡ bytes.now ++ drop (length bytes.now) to.old }
+// The numbers of the answer go to the front of the lent cells: the byte of the reading, the byte answered, the length of the reverse, and the
+// cluster that is left.
+fn put_made(byte: usize, next: usize, len: usize, c: Cluster, cells: &mut [u32])
+    requires { (change_cells ≤ length cells.old) × (c.count ≤ most_nodes) × (len ≤ longest_change) }
+    ensures { cells.new ≡ halves byte ++ (halves next ++ (len ∷ c.bits ∷ c.replication ∷ c.redundancy ∷ c.count ∷ node_cells c.nodes)) ++ drop change_cells cells.old }
 {
-    let mut i = 0;
-    while i < bytes.len() {
-        to[i] = bytes[i];
-        i += 1;
-    }
-}
-
-// The reverse goes to the front of the lent bytes; where the change is refused there is none, and they are kept. How many bytes a reverse has is
-// known here, and told with it.
-fn put_reverse(o: Outcome, reverse: &mut [u8])
-    requires { longest_change ≤ length reverse.old }
-    ensures { (reverse.new ≡ reverse_after reverse.old o) × (length o.reverse.bytes ≡ longest_change) }
-{
-    if o.refusal == 0 {
-        let bytes = o.reverse.bytes;
-        copy(&bytes, reverse);
-    }
-}
-
-// The numbers of the answer go to the front of the lent cells: the byte of the reading, and what the change has made.
-fn put_made(byte: usize, made: Made, cells: &mut [u32])
-    requires { (change_cells ≤ length cells.old) × (made.cluster.count ≤ most_nodes) × (made.answer.reverse.len ≤ longest_change) }
-    ensures { cells.new ≡ change_numbers byte made ++ drop change_cells cells.old }
-{
-    let o = made.answer;
-    let c = made.cluster;
     let numbers = [
-        answers::high(o.byte as u64),
-        answers::low(o.byte as u64),
-        o.reverse.len as u32,
+        answers::high(next as u64),
+        answers::low(next as u64),
+        len as u32,
         c.bits,
         c.replication,
         c.redundancy,
@@ -64,22 +40,22 @@ fn put_made(byte: usize, made: Made, cells: &mut [u32])
     answers::put_nodes(c, HEAD, cells);
 }
 
-// Reading's refusal, or else the change made on the cluster read.
-fn change_read(read: ReadCluster, changes: &[u8], at: usize) -> Made
-    ensures { (result ≡ made_read read changes.now at) × (read.refusal ≡ 0 → Owed read.cluster changes.now at) }
+// Reads the cluster of a record and makes the change on it. Reading's refusal has its byte, and the cluster with no nodes is left; the change's has
+// byte 0, and the cluster read is left.
+fn change_read(c: &mut Cluster, bytes: &[u8], changes: &[u8], at: usize) -> Result<Done, Refused>
+    requires { c.old ≡ no_nodes }
+    ensures { let read = reading bytes.now in
+        (changed_as at c.new result ≡ made_read read changes.now at)
+        × (byte_as result ≡ read.byte)
+        × (c.new.count ≤ most_nodes)
+        × IfOk result (λ done. done.reverse.len ≤ longest_change)
+        × (read.refusal ≡ 0 → Owed read.cluster changes.now at) }
 {
-    let c = read.cluster;
-    if read.refusal != 0 {
-        return Made {
-            cluster: c,
-            answer: Outcome {
-                refusal: read.refusal,
-                byte: at,
-                reverse: change_fields::no_reverse(),
-            },
-        };
+    *c = answers::entering::read(bytes)?;
+    match changes::change(c, changes, at) {
+        Ok(done) => Ok(done),
+        Err(refusal) => Err(Refused { refusal, at: 0 }),
     }
-    changes::in_hand(c, changes, at)
 }
 
 // Makes the change at a byte of a change record on the cluster of a record.
@@ -99,14 +75,21 @@ pub extern "C" fn dezghuri_change(
         × ChangeOwed s changes.now at (length out) (length lent) }
 {
     if answer.len() < ANSWER {
-        return refusal::BUFFER;
+        return Refusal::Buffer.into();
     }
     if reverse.len() < change_fields::LONGEST {
-        return refusal::BUFFER;
+        return Refusal::Buffer.into();
     }
-    let read = entering::read(bytes);
-    let made = change_read(read, changes, at);
-    put_reverse(made.answer, reverse);
-    put_made(read.byte, made, answer);
-    made.answer.refusal
+    let mut c = Cluster::none();
+    match change_read(&mut c, bytes, changes, at) {
+        Ok(done) => {
+            reverse[..change_fields::LONGEST].copy_from_slice(&done.reverse.bytes);
+            put_made(0, done.next, done.reverse.len, c, answer);
+            0
+        }
+        Err(refused) => {
+            put_made(refused.at, at, 0, c, answer);
+            refused.refusal.into()
+        }
+    }
 }

@@ -2,11 +2,9 @@
 -- Assumes nothing.
 use Rattle.std.specs.Prelude.{ℕ, cond, List, [], ◌∷◌, ◌++◌, eqb, drop}
 use Rattle.cluster.specs.Terms.{row_cells, row_at}
-use Rattle.cluster_record.specs.declared.ReadCluster.{ReadCluster}
-use Rattle.layouts.specs.TermsCheck.{fault, check_of}
-use Rattle.layouts.specs.declared.check.Checked.{Checked}
-use Rattle.figures.specs.TermsFigures.{figures_of, figures_in}
-use Rattle.figures.specs.declared.Figured.{Figured}
+use Rattle.cluster_record.specs.RecordClusterAnswer.{ReadCluster}
+use Rattle.layouts.specs.TermsCheck.{Checked, fault, check_of}
+use Rattle.figures.specs.TermsFigures.{Figured, figures_of, figures_in}
 use Rattle.show.specs.TermsShow.{show_code}
 use Rattle.answers.specs.TermsAnswers.{halves, unless_short, after_reading}
 

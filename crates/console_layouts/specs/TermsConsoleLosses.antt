@@ -1,10 +1,8 @@
 -- What the C functions of losses answer and what they leave in every lent slice, for all bytes, numbers and lengths.
 -- Assumes nothing.
 use Rattle.std.specs.Prelude.{ℕ, List, [], ◌∷◌, ◌++◌, get_or}
-use Rattle.cluster_record.specs.declared.ReadCluster.{ReadCluster}
-use Rattle.loss.specs.TermsLossAnswer.{loss, worst_loss, lost_with, given_loss}
-use Rattle.loss.specs.declared.given.Lost.{Lost}
-use Rattle.loss.specs.declared.worst.Loss.{Loss}
+use Rattle.cluster_record.specs.RecordClusterAnswer.{ReadCluster}
+use Rattle.loss.specs.TermsLossAnswer.{Loss, loss, worst_loss, Lost, lost_with, given_loss}
 use Rattle.answers.specs.TermsAnswers.{halves, after_reading}
 
 -- ---- of so many nodes

@@ -1,29 +1,26 @@
 // Whether a layout in hand is valid at a size, asked through C.
 ghost use Rattle.std.specs.Prelude.{◌≡◌};
+ghost use Rattle.layouts.specs.TermsCheck.{checked_as};
 ghost use Rattle.answers.specs.TermsAnswers.{unless_short, answer_after, reading};
+ghost use Rattle.answers.specs.TermsStopped.{told_of, fault_in};
 ghost use Rattle.console_layouts.specs.TermsConsoleLayouts.{check_cells, checked, check_numbers};
 
 use answers::entering;
-use cluster::refusal;
-use cluster_record::ReadCluster;
+use answers::stopped::{Stopped, Told};
+use cluster::refusal::Refusal;
 use layouts::check;
-use layouts::check::Checked;
 
 // The cells of the answer: byte (two cells), place.
 const ANSWER: usize = 3;
 
 // Reading's refusal, or else what check answers of the cluster read.
-fn check_read(read: ReadCluster, assignment: &[u32], size: u32) -> Checked
-    ensures { result ≡ checked read assignment.now size }
+fn check_record(bytes: &[u8], assignment: &[u32], size: u32) -> Result<(), Stopped>
+    ensures { let read = reading bytes.now in
+        (checked_as (fault_in result) ≡ checked read assignment.now size) × ((told_of result).byte ≡ read.byte) }
 {
-    if read.refusal != 0 {
-        return Checked {
-            refusal: read.refusal,
-            place: 0,
-        };
-    }
-    let c = read.cluster;
-    check::check(c, assignment, size)
+    let c = entering::read(bytes)?;
+    check::check(c, assignment, size)?;
+    Ok(())
 }
 
 // Checks an assignment against the cluster of a record.
@@ -39,11 +36,10 @@ pub extern "C" fn dezghuri_check(
         × (answer.new ≡ answer_after check_cells lent (check_numbers read found)) }
 {
     if answer.len() < ANSWER {
-        return refusal::BUFFER;
+        return Refusal::Buffer.into();
     }
-    let read = entering::read(bytes);
-    let found = check_read(read, assignment, size);
-    let numbers = [found.place];
-    answers::put_after(read.byte as u64, &numbers, answer);
-    found.refusal
+    let found = check_record(bytes, assignment, size);
+    let told = Told::of(&found);
+    answers::put_after(told.byte, &[told.place], answer);
+    told.refusal
 }

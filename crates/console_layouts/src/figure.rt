@@ -1,30 +1,32 @@
 // The figures of a layout in hand, asked through C.
 ghost use Rattle.std.specs.Prelude.{◌≡◌};
+ghost use Rattle.figures.specs.TermsFigures.{figured_as};
 ghost use Rattle.answers.specs.TermsAnswers.{unless_short, answer_after, reading};
+ghost use Rattle.answers.specs.TermsStopped.{told_of, fault_in};
 ghost use Rattle.console_layouts.specs.TermsConsoleLayouts.{figured_cells, figured, figures_left, figured_numbers};
 
 use answers::entering;
-use cluster::refusal;
-use cluster_record::ReadCluster;
-use figures::Figured;
+use answers::stopped::{Stopped, Told};
+use cluster::refusal::Refusal;
 
 // The cells of the answer: byte (two cells), place, the size to hope for (two cells).
 const ANSWER: usize = 5;
 
 // Reading's refusal, or else the figures of the cluster read.
-fn figures_read(read: ReadCluster, assignment: &[u32], size: u32, figures: &mut [u32]) -> Figured
-    ensures { (result ≡ figured read assignment.now size figures.old)
+fn figures_of_record(
+    bytes: &[u8],
+    assignment: &[u32],
+    size: u32,
+    figures: &mut [u32],
+) -> Result<u64, Stopped>
+    ensures { let read = reading bytes.now in
+        (figured_as (fault_in result) ≡ figured read assignment.now size figures.old)
+        × ((told_of result).byte ≡ read.byte)
         × (figures.new ≡ figures_left read assignment.now size figures.old) }
 {
-    if read.refusal != 0 {
-        return Figured {
-            refusal: read.refusal,
-            place: 0,
-            hope: 0,
-        };
-    }
-    let c = read.cluster;
-    figures::figures(c, assignment, size, figures)
+    let c = entering::read(bytes)?;
+    let hope = figures::figures(c, assignment, size, figures)?;
+    Ok(hope)
 }
 
 // The figures of an assignment that check passes for the cluster of a record.
@@ -42,15 +44,12 @@ pub extern "C" fn dezghuri_figures(
         × (answer.new ≡ answer_after figured_cells lent (figured_numbers read found)) }
 {
     if answer.len() < ANSWER {
-        return refusal::BUFFER;
+        return Refusal::Buffer.into();
     }
-    let read = entering::read(bytes);
-    let found = figures_read(read, assignment, size, figures);
-    let numbers = [
-        found.place,
-        answers::high(found.hope),
-        answers::low(found.hope),
-    ];
-    answers::put_after(read.byte as u64, &numbers, answer);
-    found.refusal
+    let found = figures_of_record(bytes, assignment, size, figures);
+    let told = Told::of(&found);
+    let hope = found.unwrap_or(0);
+    let numbers = [told.place, answers::high(hope), answers::low(hope)];
+    answers::put_after(told.byte, &numbers, answer);
+    told.refusal
 }

@@ -1,30 +1,26 @@
 // The loss of given nodes, asked through C.
 ghost use Rattle.std.specs.Prelude.{◌≡◌};
+ghost use Rattle.loss.specs.TermsLossAnswer.{lost_as};
 ghost use Rattle.answers.specs.TermsAnswers.{unless_short, answer_after, reading};
+ghost use Rattle.answers.specs.TermsStopped.{told_of, fault_in};
 ghost use Rattle.console_layouts.specs.TermsConsoleLosses.{given_cells, given_found, given_numbers};
 
 use answers::entering;
-use cluster::refusal;
-use cluster_record::ReadCluster;
+use answers::stopped::{Stopped, Told};
+use cluster::refusal::Refusal;
 use loss::given;
-use loss::given::Lost;
 
 // The cells of the answer: byte (two cells), place, lost.
 const ANSWER: usize = 4;
 
 // Reading's refusal, or else the loss for the cluster read.
-fn given_read(read: ReadCluster, assignment: &[u32], nodes: &[u32]) -> Lost
-    ensures { result ≡ given_found read assignment.now nodes.now }
+fn loss_of_record(bytes: &[u8], assignment: &[u32], nodes: &[u32]) -> Result<u32, Stopped>
+    ensures { let read = reading bytes.now in
+        (lost_as (fault_in result) ≡ given_found read assignment.now nodes.now) × ((told_of result).byte ≡ read.byte) }
 {
-    if read.refusal != 0 {
-        return Lost {
-            refusal: read.refusal,
-            place: 0,
-            lost: 0,
-        };
-    }
-    let c = read.cluster;
-    given::loss_of(c, assignment, nodes)
+    let c = entering::read(bytes)?;
+    let lost = given::loss_of(c, assignment, nodes)?;
+    Ok(lost)
 }
 
 // How many partitions are lost with the nodes whose ids are given.
@@ -40,11 +36,11 @@ pub extern "C" fn dezghuri_loss(
         × (answer.new ≡ answer_after given_cells lent (given_numbers read found)) }
 {
     if answer.len() < ANSWER {
-        return refusal::BUFFER;
+        return Refusal::Buffer.into();
     }
-    let read = entering::read(bytes);
-    let found = given_read(read, assignment, nodes);
-    let numbers = [found.place, found.lost];
-    answers::put_after(read.byte as u64, &numbers, answer);
-    found.refusal
+    let found = loss_of_record(bytes, assignment, nodes);
+    let told = Told::of(&found);
+    let lost = found.unwrap_or(0);
+    answers::put_after(told.byte, &[told.place, lost], answer);
+    told.refusal
 }

@@ -2,7 +2,8 @@
 ghost use Rattle.std.specs.Prelude.{◌≡◌};
 ghost use Rattle.console_layouts.specs.TermsConsoleLayouts.{row_refusal, row_after};
 
-use cluster::{Cluster, refusal};
+use cluster::Cluster;
+use cluster::refusal::Refusal;
 
 // Copies the eight cells of row `partition`.
 #[unsafe(no_mangle)]
@@ -11,7 +12,7 @@ pub extern "C" fn dezghuri_show_row(assignment: &[u32], partition: u32, row: &mu
         × (row.new ≡ row_after assignment.now partition row.old) }
 {
     if row.len() < Cluster::ROW {
-        return refusal::BUFFER;
+        return Refusal::Buffer.into();
     }
     let mut refusal = 0;
     let shown = show::show_row(assignment, partition, &mut refusal);

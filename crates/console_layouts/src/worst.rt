@@ -1,33 +1,29 @@
 // The worst loss of a layout in hand, asked through C.
 ghost use Rattle.std.specs.Prelude.{◌≡◌};
+ghost use Rattle.loss.specs.TermsLossAnswer.{worst_as, LossOwed};
 ghost use Rattle.answers.specs.TermsAnswers.{unless_short, answer_after, reading};
-ghost use Rattle.loss.specs.TermsLossAnswer.{LossOwed};
+ghost use Rattle.answers.specs.TermsStopped.{told_of, fault_in};
 ghost use Rattle.console_layouts.specs.TermsConsoleLosses.{worst_cells, worst_found, worst_numbers};
 
 use answers::entering;
-use cluster::refusal;
-use cluster_record::ReadCluster;
+use answers::stopped::{Stopped, Told};
+use cluster::refusal::Refusal;
 use loss::worst;
-use loss::worst::Loss;
+use loss::worst::Worst;
 
 // The cells of the answer: byte (two cells), place, lost, the ids of the nodes (four cells).
 const ANSWER: usize = 8;
 
 // Reading's refusal, or else the worst loss for the cluster read.
-fn worst_read(read: ReadCluster, assignment: &[u32], number: u32) -> Loss
-    ensures { (result ≡ worst_found read assignment.now number)
-        × (result.refusal ≡ 0 → LossOwed read.cluster assignment.now number result) }
+fn worst_of_record(bytes: &[u8], assignment: &[u32], number: u32) -> Result<Worst, Stopped>
+    ensures { let read = reading bytes.now in let found = worst_as (fault_in result) in
+        (found ≡ worst_found read assignment.now number)
+        × ((told_of result).byte ≡ read.byte)
+        × (found.refusal ≡ 0 → LossOwed read.cluster assignment.now number found) }
 {
-    if read.refusal != 0 {
-        return Loss {
-            refusal: read.refusal,
-            place: 0,
-            lost: 0,
-            nodes: [0; worst::MOST],
-        };
-    }
-    let c = read.cluster;
-    worst::worst_loss(c, assignment, number)
+    let c = entering::read(bytes)?;
+    let worst = worst::worst_loss(c, assignment, number)?;
+    Ok(worst)
 }
 
 // The most partitions that the loss of so many nodes can cost, and the first nodes that cost so many.
@@ -44,19 +40,15 @@ pub extern "C" fn dezghuri_worst_loss(
         × (result ≡ 0 → LossOwed read.cluster assignment.now number found) }
 {
     if answer.len() < ANSWER {
-        return refusal::BUFFER;
+        return Refusal::Buffer.into();
     }
-    let read = entering::read(bytes);
-    let found = worst_read(read, assignment, number);
-    let nodes = found.nodes;
-    let numbers = [
-        found.place,
-        found.lost,
-        nodes[0],
-        nodes[1],
-        nodes[2],
-        nodes[3],
-    ];
-    answers::put_after(read.byte as u64, &numbers, answer);
-    found.refusal
+    let found = worst_of_record(bytes, assignment, number);
+    let told = Told::of(&found);
+    let Worst { lost, nodes } = found.unwrap_or(Worst {
+        lost: 0,
+        nodes: [0; worst::MOST],
+    });
+    let numbers = [told.place, lost, nodes[0], nodes[1], nodes[2], nodes[3]];
+    answers::put_after(told.byte, &numbers, answer);
+    told.refusal
 }

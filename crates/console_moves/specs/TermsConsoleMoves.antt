@@ -1,9 +1,8 @@
 -- What the C functions of the list of moves answer and what they leave in every lent slice, for all bytes, numbers and lengths.
 -- Assumes nothing.
 use Rattle.std.specs.Prelude.{ℕ, List, [], ◌∷◌, ◌++◌, length}
-use Rattle.cluster_record.specs.declared.ReadCluster.{ReadCluster}
-use Rattle.move_list.specs.TermsMoveList.{listed, count_moves, list_moves, cells_listed}
-use Rattle.move_list.specs.declared.Listed.{Listed}
+use Rattle.cluster_record.specs.RecordClusterAnswer.{ReadCluster}
+use Rattle.move_list.specs.TermsMoveList.{Listed, listed, count_moves, list_moves, cells_listed}
 use Rattle.answers.specs.TermsAnswers.{halves, after_reading}
 
 abbrev pub moves_cells : ℕ

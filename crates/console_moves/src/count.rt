@@ -1,31 +1,27 @@
 // The number of steps of the list of moves, asked through C.
-ghost use Rattle.std.specs.Prelude.{◌≡◌};
+ghost use Rattle.std.specs.Prelude.{◌≡◌, OnOk};
 ghost use Rattle.answers.specs.TermsAnswers.{unless_short, answer_after, reading};
-ghost use Rattle.move_list.specs.TermsMoveList.{MovesOwed};
+ghost use Rattle.answers.specs.TermsStopped.{told_of, fault_in};
+ghost use Rattle.move_list.specs.TermsMoveList.{listed_as, MovesOwed};
 ghost use Rattle.console_moves.specs.TermsConsoleMoves.{moves_cells, counted_of, moves_numbers};
 
 use answers::entering;
-use cluster::refusal;
-use cluster_record::ReadCluster;
-use move_list::Listed;
+use answers::stopped::{Stopped, Told};
+use cluster::refusal::Refusal;
 
 // The cells of the answer: byte (two cells), place, steps.
 pub(crate) const ANSWER: usize = 4;
 
 // Reading's refusal, or else the count for the cluster read.
-fn count_read(read: ReadCluster, former: &[u32], assignment: &[u32]) -> Listed
-    ensures { (result ≡ counted_of read former.now assignment.now)
-        × (result.refusal ≡ 0 → MovesOwed read.cluster former.now assignment.now) }
+fn count_of_record(bytes: &[u8], former: &[u32], assignment: &[u32]) -> Result<u32, Stopped>
+    ensures { let read = reading bytes.now in
+        (listed_as (fault_in result) ≡ counted_of read former.now assignment.now)
+        × ((told_of result).byte ≡ read.byte)
+        × OnOk result (MovesOwed read.cluster former.now assignment.now) }
 {
-    if read.refusal != 0 {
-        return Listed {
-            refusal: read.refusal,
-            place: 0,
-            steps: 0,
-        };
-    }
-    let c = read.cluster;
-    move_list::count(c, former, assignment)
+    let c = entering::read(bytes)?;
+    let steps = move_list::count(c, former, assignment)?;
+    Ok(steps)
 }
 
 // Counts the steps from the former layout, in rows of sixteen cells, to the assignment; the former rows of the record are not used.
@@ -42,11 +38,11 @@ pub extern "C" fn dezghuri_count_moves(
         × (result ≡ 0 → MovesOwed read.cluster former.now assignment.now) }
 {
     if answer.len() < ANSWER {
-        return refusal::BUFFER;
+        return Refusal::Buffer.into();
     }
-    let read = entering::read(bytes);
-    let found = count_read(read, former, assignment);
-    let numbers = [found.place, found.steps];
-    answers::put_after(read.byte as u64, &numbers, answer);
-    found.refusal
+    let found = count_of_record(bytes, former, assignment);
+    let told = Told::of(&found);
+    let steps = found.unwrap_or(0);
+    answers::put_after(told.byte, &[told.place, steps], answer);
+    told.refusal
 }

@@ -1,30 +1,31 @@
 // The list of moves, asked through C.
-ghost use Rattle.std.specs.Prelude.{◌≡◌};
+ghost use Rattle.std.specs.Prelude.{◌≡◌, OnOk};
 ghost use Rattle.answers.specs.TermsAnswers.{unless_short, answer_after, reading};
-ghost use Rattle.move_list.specs.TermsMoveList.{MovesOwed};
+ghost use Rattle.answers.specs.TermsStopped.{told_of, fault_in};
+ghost use Rattle.move_list.specs.TermsMoveList.{listed_as, MovesOwed};
 ghost use Rattle.console_moves.specs.TermsConsoleMoves.{moves_cells, listed_of, moves_left, moves_numbers};
 
 use super::count::ANSWER;
 use answers::entering;
-use cluster::refusal;
-use cluster_record::ReadCluster;
-use move_list::Listed;
+use answers::stopped::{Stopped, Told};
+use cluster::refusal::Refusal;
 
 // Reading's refusal, or else the list for the cluster read.
-fn list_read(read: ReadCluster, former: &[u32], assignment: &[u32], moves: &mut [u32]) -> Listed
-    ensures { (result ≡ listed_of read former.now assignment.now moves.old)
+fn list_of_record(
+    bytes: &[u8],
+    former: &[u32],
+    assignment: &[u32],
+    moves: &mut [u32],
+) -> Result<u32, Stopped>
+    ensures { let read = reading bytes.now in
+        (listed_as (fault_in result) ≡ listed_of read former.now assignment.now moves.old)
+        × ((told_of result).byte ≡ read.byte)
         × (moves.new ≡ moves_left read former.now assignment.now moves.old)
-        × (result.refusal ≡ 0 → MovesOwed read.cluster former.now assignment.now) }
+        × OnOk result (MovesOwed read.cluster former.now assignment.now) }
 {
-    if read.refusal != 0 {
-        return Listed {
-            refusal: read.refusal,
-            place: 0,
-            steps: 0,
-        };
-    }
-    let c = read.cluster;
-    move_list::list(c, former, assignment, moves)
+    let c = entering::read(bytes)?;
+    let steps = move_list::list(c, former, assignment, moves)?;
+    Ok(steps)
 }
 
 // Lists the steps from the former layout, in rows of sixteen cells, to the assignment; the former rows of the record are not used.
@@ -43,11 +44,11 @@ pub extern "C" fn dezghuri_moves(
         × (result ≡ 0 → MovesOwed read.cluster former.now assignment.now) }
 {
     if answer.len() < ANSWER {
-        return refusal::BUFFER;
+        return Refusal::Buffer.into();
     }
-    let read = entering::read(bytes);
-    let found = list_read(read, former, assignment, moves);
-    let numbers = [found.place, found.steps];
-    answers::put_after(read.byte as u64, &numbers, answer);
-    found.refusal
+    let found = list_of_record(bytes, former, assignment, moves);
+    let told = Told::of(&found);
+    let steps = found.unwrap_or(0);
+    answers::put_after(told.byte, &[told.place, steps], answer);
+    told.refusal
 }

@@ -7,10 +7,8 @@ use native.Mathlib.Omega.{arith}
 use lib.ListN.{length, take, drop}
 use lib.Seq.{drop-drop}
 use Rattle.cluster.specs.Terms.{most_nodes, layout_cells, scratch_cells, topology}
-use Rattle.cluster_record.specs.declared.ReadCluster.{ReadCluster}
 use Rattle.planner.proofs.Refusals.{usable-has}
-use Rattle.certificate.specs.TermsCertify.{certify_fault, former_in as former_rows_of, new_in, Owed}
-use Rattle.certificate.specs.declared.Certified.{Certified}
+use Rattle.certificate.specs.TermsCertify.{certify_fault, former_in as former_rows_of, new_in, Certified, Owed}
 use Rattle.certificate.proofs.Owing.{pass_all}
 use Rattle.answers.specs.TermsAnswers.{halves, reading}
 use Rattle.console_plan.specs.TermsConsolePlan.{former_in}
@@ -18,18 +16,17 @@ use Rattle.console_plan.specs.TermsConsoleCertify.{certify_cells, certified_read
 use Rattle.console_plan.proofs.PlanAnswers.{record_usable}
 
 module _ (s assignment : List ℕ) (size : ℕ) where
-  -- What certify owes of a reading and the cells of its former layout.
-  abbrev Owes : ReadCluster → List ℕ → Certified → Type 0
-  Owes r f made =
-      r.refusal ≡ 0 → (certify_fault r.cluster f assignment size).refusal ≡ 0
-      → Owed (topology r.cluster) (former_rows_of r.cluster f) (new_in r.cluster assignment) size made
+  -- What certify owes of the reading and the cells of its former layout.
+  abbrev Owes : Certified → Type 0
+  Owes made =
+      let r = reading s in
+      r.refusal ≡ 0 → (certify_fault r.cluster (former_in s) assignment size).refusal ≡ 0
+      → Owed (topology r.cluster) (former_rows_of r.cluster (former_in s)) (new_in r.cluster assignment) size made
 
-  pub certify_owed : (r : ReadCluster) (f : List ℕ) (made : Certified) → r ≡ reading s → f ≡ former_in s → made ≡ certified_read r f assignment size
-      → Owes r f made → (n : ℕ) → CertifyOwed s assignment size n
-  certify_owed r f made er ef em owes n e passed enough =
+  pub certify_owed : (made : Certified) → made ≡ certified_read (reading s) (former_in s) assignment size → Owes made → (n : ℕ) → CertifyOwed s assignment size n
+  certify_owed made m owes n e passed enough =
       let u = usable-has (reading s).cluster (former_in s) layout_cells scratch_cells (record_usable s layout_cells scratch_cells e (omega arith) (omega arith)) in
-      let m : made ≡ certified_read (reading s) (former_in s) assignment size = em ∙ (λ i. certified_read (er i) (ef i) assignment size) in
-      subst (λ (X : Type 0). X) (λ i. Owes (er i) (ef i) (m i)) owes e (pass_all (reading s).cluster (former_in s) assignment size u.former_long passed u.rows-formed)
+      subst (λ (x : Certified). Owes x) m owes e (pass_all (reading s).cluster (former_in s) assignment size u.former_long passed u.rows-formed)
 
 -- The cells of the answer, once the prices stand after the other numbers.
 pub numbers-written : (lent : List ℕ) (byte : ℕ) (p : Certified) (cells : List ℕ) → length p.prices ≡ most_nodes

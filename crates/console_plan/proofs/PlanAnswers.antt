@@ -8,8 +8,7 @@ use lib.ListN.{length, drop, replicate, length-replicate}
 use Rattle.cluster.specs.Terms.{layout_cells, scratch_cells, Topology, topology, partitions, Layout, IsFormer, rows_in}
 use Rattle.cluster.proofs.Slots.{topology-slots}
 use Rattle.cluster_reading.specs.RecordClusterReading.{read_cluster}
-use Rattle.cluster_record.specs.RecordClusterAnswer.{cluster_answer, read_cluster_of}
-use Rattle.cluster_record.specs.declared.ReadCluster.{ReadCluster}
+use Rattle.cluster_record.specs.RecordClusterAnswer.{ReadCluster, cluster_answer, read_cluster_of}
 use Rattle.cluster_record.proofs.Answers.{long_answer, accepted_former}
 use Rattle.cluster_record.proofs.Exactly.{reads_yield, answer_yields}
 use Rattle.planner.specs.TermsPlan.{unusable, Owed}
@@ -34,10 +33,11 @@ module _ (s : List ℕ) (a z : ℕ) where
       ∙ cells-usable c F (drop layout_cells zeros) a z (answer_yields s zeros).sound
       (subst (λ (x : Topology). IsFormer x F) (sym (ap (λ (r : ReadCluster). topology r.cluster) q ∙ topology-slots t)) ((reads_yield s).1 none)) long ample
 
-  -- What planning owes of a reading and the cells of its former layout.
-  abbrev Owes : ℕ → ReadCluster → List ℕ → Type 0
-  Owes refusal r f = r.refusal ≡ 0 → unusable r.cluster f a z ≡ 0 → let t = topology r.cluster in Owed t (rows_in (partitions t) f) refusal
+  -- What planning owes of the reading and the cells of its former layout.
+  abbrev pub Owes : ℕ → Type 0
+  Owes refusal =
+      let r = reading s in let t = topology r.cluster in
+      r.refusal ≡ 0 → unusable r.cluster (former_in s) a z ≡ 0 → Owed t (rows_in (partitions t) (former_in s)) refusal
 
-  pub record_owed : (n refusal : ℕ) (r : ReadCluster) (f : List ℕ) → r ≡ reading s → f ≡ former_in s → Owes refusal r f → PlanOwed s a z n refusal
-  record_owed n refusal r f e-r e-f owed e long ample enough =
-      subst (λ (x : ReadCluster). Owes refusal x (former_in s)) e-r (subst (Owes refusal r) e-f owed) e (record_usable e long ample)
+  pub record_owed : (n refusal : ℕ) → Owes refusal → PlanOwed s a z n refusal
+  record_owed n refusal owed e long ample enough = owed e (record_usable e long ample)

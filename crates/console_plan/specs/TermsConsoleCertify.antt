@@ -2,10 +2,9 @@
 -- Assumes nothing.
 use Rattle.std.specs.Prelude.{ℕ, ◌+◌, ◌≤◌, ◌≡◌, List, [], ◌∷◌, ◌++◌}
 use Rattle.cluster.specs.Terms.{most_nodes, topology}
-use Rattle.cluster_record.specs.declared.ReadCluster.{ReadCluster}
+use Rattle.cluster_record.specs.RecordClusterAnswer.{ReadCluster}
 use Rattle.layouts.specs.TermsCheck.{check_of}
-use Rattle.certificate.specs.TermsCertify.{former_in as former_rows_of, new_in, unpriced, certified_of, Owed}
-use Rattle.certificate.specs.declared.Certified.{Certified}
+use Rattle.certificate.specs.TermsCertify.{former_in as former_rows_of, new_in, Certified, unpriced, certified_of, Owed}
 use Rattle.answers.specs.TermsAnswers.{halves, after_reading, reading}
 use Rattle.console_plan.specs.TermsConsolePlan.{former_in}
 

@@ -1,17 +1,22 @@
 -- What the C function of planning answers, leaves in every lent slice and owes, for all bytes, numbers and lengths.
 -- Assumes nothing.
-use Rattle.std.specs.Prelude.{ℕ, ◌≤◌, ◌≡◌, List, [], ◌∷◌, ◌++◌, replicate}
+use Rattle.std.specs.Prelude.{ℕ, ◌≤◌, ◌≡◌, List, [], ◌∷◌, ◌++◌, replicate, Result, Ok, Err}
 use Rattle.sums.specs.TermsSums.{one_if}
 use Rattle.cluster.specs.Terms.{layout_cells, scratch_cells, topology, partitions, rows_in}
-use Rattle.cluster_record.specs.RecordClusterAnswer.{former_read}
-use Rattle.cluster_record.specs.declared.ReadCluster.{ReadCluster}
-use Rattle.planner.specs.TermsPlan.{refused_with, planned_of, assignment_after, scratch_after, Owed}
-use Rattle.planner.specs.declared.Planned.{Planned}
+use Rattle.cluster.specs.declared.refusal.Refusal.{Refusal}
+use Rattle.cluster_record.specs.RecordClusterAnswer.{ReadCluster, former_read}
+use Rattle.planner.specs.TermsPlan.{Planned, refused_with, planned_of, assignment_after, scratch_after, Owed}
+use Rattle.answers.specs.declared.stopped.Stopped.{Stopped}
 use Rattle.answers.specs.TermsAnswers.{halves, after_reading, reading}
 
 -- The cells of the former layout that the reading leaves.
 unfoldable pub former_in : List ℕ → List ℕ
 former_in s = former_read s (replicate layout_cells 0)
+
+-- The answer of planning, without the byte of a reading; no refusal of planning has a place.
+abbrev pub refusal_in : {A : Type 0} → Result A Stopped → Result A Refusal
+refusal_in (Ok v) = Ok v
+refusal_in (Err s) = Err s.refusal
 
 abbrev pub plan_cells : ℕ
 plan_cells = 6

@@ -1,14 +1,15 @@
 // The certificate of a layout in hand, asked through C: a price for each node, by which anybody can check the plan.
 ghost use Rattle.std.specs.Prelude.{◌≡◌, length};
 ghost use Rattle.cluster.specs.Terms.{topology};
-ghost use Rattle.certificate.specs.TermsCertify.{certify_fault, former_in as former_rows_of, new_in, Owed};
+ghost use Rattle.certificate.specs.TermsCertify.{certify_fault, former_in as former_rows_of, new_in, certified_as, Owed};
 ghost use Rattle.answers.specs.TermsAnswers.{unless_short, answer_after, reading};
+ghost use Rattle.answers.specs.TermsStopped.{told_of, fault_in};
 ghost use Rattle.console_plan.specs.TermsConsolePlan.{former_in};
 ghost use Rattle.console_plan.specs.TermsConsoleCertify.{certify_cells, certified_read, certify_numbers, CertifyOwed};
 
-use certificate::Certified;
-use cluster::{Cluster, refusal};
-use cluster_record::ReadCluster;
+use answers::stopped::{Stopped, Told};
+use cluster::Cluster;
+use cluster::refusal::Refusal;
 
 // The cells of the answer before the prices: byte (two cells), place.
 const BEFORE: usize = 3;
@@ -16,20 +17,22 @@ const BEFORE: usize = 3;
 const ANSWER: usize = BEFORE + Cluster::NODES;
 
 // Reading's refusal, or else the certificate of the cluster read.
-fn certify_read(read: ReadCluster, former: &[u32], assignment: &[u32], size: u32) -> Certified
-    ensures { (result ≡ certified_read read former.now assignment.now size)
-        × (read.refusal ≡ 0 → (certify_fault read.cluster former.now assignment.now size).refusal ≡ 0
-        → Owed (topology read.cluster) (former_rows_of read.cluster former.now) (new_in read.cluster assignment.now) size result) }
+fn certify_record(
+    bytes: &[u8],
+    assignment: &[u32],
+    size: u32,
+) -> Result<[u32; Cluster::NODES], Stopped>
+    ensures { let s = bytes.now in let cells = assignment.now in
+        let read = reading s in let made = certified_as (fault_in result) in
+        (made ≡ certified_read read (former_in s) cells size)
+        × ((told_of result).byte ≡ read.byte)
+        × (read.refusal ≡ 0 → (certify_fault read.cluster (former_in s) cells size).refusal ≡ 0
+        → Owed (topology read.cluster) (former_rows_of read.cluster (former_in s)) (new_in read.cluster cells) size made) }
 {
-    if read.refusal != 0 {
-        return Certified {
-            refusal: read.refusal,
-            place: 0,
-            prices: [0; Cluster::NODES],
-        };
-    }
-    let c = read.cluster;
-    certificate::certify(c, former, assignment, size)
+    let mut former = [0u32; Cluster::CELLS];
+    let c = cluster_record::read_cluster(bytes, &mut former)?;
+    let prices = certificate::certify(c, &former, assignment, size)?;
+    Ok(prices)
 }
 
 // The certificate of an assignment for the cluster of a record, whose former layout the record carries.
@@ -47,14 +50,12 @@ pub extern "C" fn dezghuri_certify(
         × CertifyOwed s cells size (length lent) }
 {
     if answer.len() < ANSWER {
-        return refusal::BUFFER;
+        return Refusal::Buffer.into();
     }
-    let mut former = [0u32; Cluster::CELLS];
-    let read = cluster_record::read_cluster(bytes, &mut former);
-    let made = certify_read(read, &former, assignment, size);
-    let numbers = [made.place];
-    answers::put_after(read.byte as u64, &numbers, answer);
-    let prices = made.prices;
+    let found = certify_record(bytes, assignment, size);
+    let told = Told::of(&found);
+    let prices = found.unwrap_or([0; Cluster::NODES]);
+    answers::put_after(told.byte, &[told.place], answer);
     cells::put(&prices, BEFORE, answer);
-    made.refusal
+    told.refusal
 }

@@ -3,53 +3,49 @@
 #![tactic(auto)]
 
 ghost use Rattle.std.specs.Prelude.{◌≡◌, length};
-ghost use Rattle.sums.specs.TermsSums.{one_if};
 ghost use Rattle.cluster.specs.Terms.{topology, partitions, rows_in};
-ghost use Rattle.planner.specs.TermsPlan.{unusable, Owed};
+ghost use Rattle.planner.specs.TermsPlan.{planned_as, unusable, Owed};
 ghost use Rattle.answers.specs.TermsAnswers.{unless_short, answer_after, reading};
-ghost use Rattle.console_plan.specs.TermsConsolePlan.{former_in, plan_cells, planned, planned_assignment, planned_scratch, planned_numbers, PlanOwed};
+ghost use Rattle.answers.specs.TermsStopped.{told_of};
+ghost use Rattle.console_plan.specs.TermsConsolePlan.{former_in, refusal_in, plan_cells, planned, planned_assignment, planned_scratch, planned_numbers, PlanOwed};
 
-use cluster::{Cluster, refusal};
-use cluster_record::ReadCluster;
-use planner::Planned;
+use answers::stopped::{Stopped, Told};
+use cluster::Cluster;
+use cluster::refusal::Refusal;
+use planner::settle::Plan;
 
 pub mod certify;
 
 // The cells of the answer: byte (two cells), size, sent, verdict, improvements.
 const ANSWER: usize = 6;
 
-// The number of a verdict.
-fn verdict(finished: bool) -> u32
-    ensures { result ≡ one_if finished }
-{
-    if finished { 1 } else { 0 }
-}
-
 // Reading's refusal, or else the plan of the cluster read.
-fn plan_read(
-    read: ReadCluster,
-    former: &[u32],
+fn plan_of_record(
+    bytes: &[u8],
     allowance: u16,
     assignment: &mut [u32],
     scratch: &mut [u32],
-) -> Planned
-    ensures { (result ≡ planned read former.now allowance (length assignment.old) (length scratch.old))
-        × (assignment.new ≡ planned_assignment read former.now allowance assignment.old (length scratch.old))
-        × (scratch.new ≡ planned_scratch read former.now (length assignment.old) scratch.old)
-        × (read.refusal ≡ 0 → unusable read.cluster former.now (length assignment.old) (length scratch.old) ≡ 0
-        → Owed (topology read.cluster) (rows_in (partitions (topology read.cluster)) former.now) result.refusal) }
+) -> Result<Plan, Stopped>
+    ensures { let s = bytes.now in let cells = assignment.old in let rest = scratch.old in
+        let read = reading s in let made = planned_as (refusal_in result) in
+        (made ≡ planned read (former_in s) allowance (length cells) (length rest))
+        × ((told_of result).byte ≡ read.byte)
+        × (assignment.new ≡ planned_assignment read (former_in s) allowance cells (length rest))
+        × (scratch.new ≡ planned_scratch read (former_in s) (length cells) rest)
+        × (read.refusal ≡ 0 → unusable read.cluster (former_in s) (length cells) (length rest) ≡ 0
+        → Owed (topology read.cluster) (rows_in (partitions (topology read.cluster)) (former_in s)) made.refusal) }
 {
-    if read.refusal != 0 {
-        return Planned {
-            refusal: read.refusal,
-            size: 0,
-            sent: 0,
-            finished: false,
-            improvements: 0,
-        };
+    let mut former = [0u32; Cluster::CELLS];
+    let c = cluster_record::read_cluster(bytes, &mut former)?;
+    // No refusal of planning has a place.
+    match planner::plan(c, &former, allowance, assignment, scratch) {
+        Ok(plan) => Ok(plan),
+        Err(refusal) => Err(Stopped {
+            refusal,
+            byte: 0,
+            place: 0,
+        }),
     }
-    let c = read.cluster;
-    planner::plan(c, former, allowance, assignment, scratch)
 }
 
 // Plans the cluster of a record, whose former layout the record carries.
@@ -70,17 +66,22 @@ pub extern "C" fn dezghuri_plan(
         × PlanOwed s (length cells) (length rest) (length lent) result }
 {
     if answer.len() < ANSWER {
-        return refusal::BUFFER;
+        return Refusal::Buffer.into();
     }
-    let mut former = [0u32; Cluster::CELLS];
-    let read = cluster_record::read_cluster(bytes, &mut former);
-    let made = plan_read(read, &former, allowance, assignment, scratch);
+    let found = plan_of_record(bytes, allowance, assignment, scratch);
+    let told = Told::of(&found);
+    let plan = found.unwrap_or(Plan {
+        size: 0,
+        sent: 0,
+        finished: false,
+        improvements: 0,
+    });
     let numbers = [
-        made.size,
-        made.sent,
-        verdict(made.finished),
-        made.improvements,
+        plan.size,
+        plan.sent,
+        plan.finished as u32,
+        plan.improvements,
     ];
-    answers::put_after(read.byte as u64, &numbers, answer);
-    made.refusal
+    answers::put_after(told.byte, &numbers, answer);
+    told.refusal
 }

@@ -2,8 +2,8 @@
 -- Assumes nothing.
 use Rattle.std.specs.Prelude.{ℕ, ◌+◌, ◌*◌, List, [], ◌∷◌, ◌++◌}
 use Rattle.cluster.specs.Terms.{most_nodes}
-use Rattle.cluster_record.specs.declared.ReadCluster.{ReadCluster}
-use Rattle.layout_record.specs.declared.ReadLayout.{ReadLayout}
+use Rattle.cluster_record.specs.RecordClusterAnswer.{ReadCluster}
+use Rattle.layout_record.specs.RecordLayoutAnswer.{ReadLayout}
 use Rattle.answers.specs.TermsAnswers.{halves, node_cells_width, node_cells}
 
 -- ---- reading a cluster

@@ -4,7 +4,8 @@ ghost use Rattle.cluster_record.specs.RecordClusterAnswer.{read_cluster_of, form
 ghost use Rattle.answers.specs.TermsAnswers.{unless_short, answer_after};
 ghost use Rattle.console_records.specs.TermsConsoleRecords.{read_cluster_cells, cluster_numbers};
 
-use cluster::{Cluster, refusal};
+use cluster::Cluster;
+use cluster::refusal::Refusal;
 
 // The cells of the answer before the nodes: byte (two cells), bits, replication, redundancy, number of nodes.
 const HEAD: usize = 6;
@@ -20,12 +21,14 @@ pub extern "C" fn dezghuri_read_cluster(bytes: &[u8], former: &mut [u32], answer
         × (answer.new ≡ answer_after read_cluster_cells lent (cluster_numbers read)) }
 {
     if answer.len() < ANSWER {
-        return refusal::BUFFER;
+        return Refusal::Buffer.into();
     }
-    let read = cluster_record::read_cluster(bytes, former);
-    let c = read.cluster;
+    let (refusal, byte, c) = match cluster_record::read_cluster(bytes, former) {
+        Ok(c) => (0, 0, c),
+        Err(refused) => (refused.refusal.into(), refused.at, Cluster::none()),
+    };
     let numbers = [c.bits, c.replication, c.redundancy, c.count as u32];
-    answers::put_after(read.byte as u64, &numbers, answer);
+    answers::put_after(byte as u64, &numbers, answer);
     answers::put_nodes(c, HEAD, answer);
-    read.refusal
+    refusal
 }

@@ -4,7 +4,8 @@ ghost use Rattle.layout_record.specs.RecordLayoutAnswer.{read_layout_of, assignm
 ghost use Rattle.answers.specs.TermsAnswers.{unless_short, answer_after};
 ghost use Rattle.console_records.specs.TermsConsoleRecords.{read_layout_cells, layout_numbers};
 
-use cluster::refusal;
+use cluster::refusal::Refusal;
+use layout_head::Numbers;
 
 // The cells of the answer: byte (two cells), bits, replication, size, sent, verdict, improvements.
 const ANSWER: usize = 8;
@@ -22,10 +23,12 @@ pub extern "C" fn dezghuri_read_layout(
         × (answer.new ≡ answer_after read_layout_cells lent (layout_numbers read)) }
 {
     if answer.len() < ANSWER {
-        return refusal::BUFFER;
+        return Refusal::Buffer.into();
     }
-    let read = layout_record::read_layout(bytes, assignment);
-    let n = read.numbers;
+    let (refusal, byte, n) = match layout_record::read_layout(bytes, assignment) {
+        Ok(n) => (0, 0, n),
+        Err(refused) => (refused.refusal.into(), refused.at, Numbers::none()),
+    };
     let numbers = [
         n.bits,
         n.replication,
@@ -34,6 +37,6 @@ pub extern "C" fn dezghuri_read_layout(
         n.verdict,
         n.improvements,
     ];
-    answers::put_after(read.byte as u64, &numbers, answer);
-    read.refusal
+    answers::put_after(byte as u64, &numbers, answer);
+    refusal
 }

@@ -5,7 +5,7 @@ ghost use Rattle.layout_record.specs.RecordLayoutAnswer.{write_answer, out_after
 ghost use Rattle.answers.specs.TermsAnswers.{halves, unless_short, answer_after};
 ghost use Rattle.console_records.specs.TermsConsoleRecords.{write_cells};
 
-use cluster::refusal;
+use cluster::refusal::Refusal;
 use layout_head::Numbers;
 
 // The cells of the answer: the record's length (two cells).
@@ -30,7 +30,7 @@ pub extern "C" fn dezghuri_write_layout(
         × (answer.new ≡ answer_after write_cells lent (halves written.length)) }
 {
     if answer.len() < ANSWER {
-        return refusal::BUFFER;
+        return Refusal::Buffer.into();
     }
     let n = Numbers {
         bits,
@@ -40,9 +40,11 @@ pub extern "C" fn dezghuri_write_layout(
         verdict,
         improvements,
     };
-    let written = layout_record::write_layout(n, assignment, out);
-    let length = written.length as u64;
+    let (refusal, length) = match layout_record::write_layout(n, assignment, out) {
+        Ok(length) => (0, length as u64),
+        Err(refusal) => (refusal.into(), 0),
+    };
     let numbers = [answers::high(length), answers::low(length)];
     cells::put(&numbers, 0, answer);
-    written.refusal
+    refusal
 }

@@ -14,11 +14,8 @@ fn count_row(c: Cluster, cells: &[u32], p: usize, counts: &mut [u32])
     ensures { counts.new ≡ counts_after (topology c) cells.now (p + 1) }
 {
     let nodes = masks::row_mask(c, cells, p);
-    let mut left = nodes;
-    while left != 0 {
-        let b = sets::least(left) as usize;
-        counts[b] += 1;
-        left = sets::rest(left);
+    for b in sets::iter(nodes) {
+        counts[b as usize] += 1;
     }
 }
 
@@ -30,10 +27,8 @@ pub fn copies(c: Cluster, cells: &[u32]) -> [u32; Cluster::NODES]
 {
     let partitions = cluster::partitions(c.bits);
     let mut counts = [0u32; Cluster::NODES];
-    let mut p = 0;
-    while p < partitions {
+    for p in 0..partitions {
         count_row(c, cells, p, &mut counts);
-        p += 1;
     }
     counts
 }

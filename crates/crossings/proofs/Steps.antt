@@ -9,6 +9,7 @@ use native.Mathlib.Numerals.{add-one}
 use native.Mathlib.Omega.{arith}
 use lib.ListN.{get_or}
 use borrow.Author.Tests.{lt-ltb, le-ltb, eq-eqb, ne_eqb}
+use Rattle.std.specs.Prelude.{Option, None, Some, ltb, is_some, unwrap_or, IfSome}
 use Rattle.sums.specs.TermsSums.{sum_to}
 use Rattle.sums.proofs.Sum.{sum_cong}
 use Rattle.exchange.specs.ModelCircuit.{cost}
@@ -46,6 +47,11 @@ module _ (P : ℕ) (ok : ℕ → ℕ → ℕ → Bool) (ys qs : List ℕ) (i j e
     unfolding crosses
     cross_both r o t c d v w u p =
         rw (sym h, sym k, after j ∙ sym x, sym y, after i ∙ sym v, sym w, lt-ltb e P l, eq-eqb e f s, sym o ∙ t) p
+
+-- Whether an arc below m was found, where the number for none is no such arc.
+pub found_below : (o : Option ℕ) (n m : ℕ) → m ≤ n → IfSome o (λ j. j < m) → is_some o ≡ ltb (unwrap_or o n) m
+found_below None n m l h = sym (le-ltb n m l)
+found_below (Some j) n m l h = sym (lt-ltb j m h)
 
 -- ---- what a part costs
 

@@ -25,7 +25,7 @@ use Rattle.exchange.specs.ModelLevels.{Graph, Outcome, potential_found, cycle_fo
 use Rattle.exchange.proofs.Levels.{from-node, dist_le}
 use Rattle.sums.proofs.Tests.{true_or_false}
 use Rattle.exchange.proofs.Search.{open_next, Closing, closing, way_next, way_stays, back-next, back-fell, back-node, outcome_potential}
-use Rattle.sums.proofs.First.{first_lt, first_cong, first-is-none, first_some, first-none, first_cases}
+use Rattle.sums.proofs.First.{first_lt, first_cong, first-is-none, first_some, first-none}
 use Rattle.cycles.specs.ModelFound.{end_length, end_walk, Levelled}
 use Rattle.levels.specs.ModelTurns.{Settled}
 use Rattle.cycles.specs.ModelTrails.{behind, returned, closer, trail, trail_length}
@@ -260,9 +260,3 @@ search_spent G k l = let e : G.N - k ≡ 0 = omega arith in ap (λ (i : ℕ). se
 pub search-start : (G : Graph) → outcome G ≡ search_from G (G.N - 0) 0
 unfolding outcome
 search-start G = ap (λ (i : ℕ). search_from G i 0) (sym (sub-zero G.N))
-
--- What closes a cycle is a node, or n.
-pub closer_le : (n fell : ℕ) (row way : List ℕ) → closer n fell row way ≤ n
-unfolding closer
-closer_le n fell row way =
-    ⊎_elim (λ h. omega (arith, h.1)) (λ h. omega (arith, h.0)) (first_cases (returned fell row way) n 0)

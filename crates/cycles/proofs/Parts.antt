@@ -16,10 +16,12 @@ use Rattle.cells.proofs.Cells.{put_next}
 use Rattle.sums.proofs.Sum.{eq_or_ne, is_ne}
 use Rattle.sets.specs.ModelBits.{bit, member_of, with_of}
 use Rattle.sets.proofs.Laws.{bit_zero, bit-true, bit-false}
+use Rattle.sets.specs.ModelMembers.{Comes}
+use Rattle.sets.proofs.Scan.{Left}
 use Rattle.sums.specs.ModelSums.{first_from}
 use Rattle.levels.specs.ModelTurns.{Nodes}
 use Rattle.cycles.specs.ModelTrails.{behind, returned, closer, trail, trail_length}
-use Rattle.levels.proofs.Visits.{Visit, visit_node, visit_member, visit_below, visit_before, visit_after}
+use Rattle.levels.proofs.Visits.{visit_member, visit_below, visit_before, visit_after}
 use Rattle.sums.proofs.First.{first-is, first-is-none, first_hit, first_miss, first_end}
 
 -- ---- ways
@@ -39,22 +41,22 @@ module _ (fell : ℕ) (row way : List ℕ) where
   unfolding returned
   open_start v l e = ap (λ (b : Bool). b && member_of (behind row way v) v) (bit-false fell v e)
 
-  module _ {left v rest : ℕ} (o : Visit fell left v rest) (w : ℕ) (at-way : w ≡ behind row way v) (h : Open fell row way left) where
+  module _ {left v rest : ℕ} (L : Left fell left) (m : Comes left v rest) (w : ℕ) (at-way : w ≡ behind row way v) (h : Open fell row way left) where
     returned-if : member_of w v ≡ returned fell row way v
     unfolding returned
-    returned-if = ap (λ (i : ℕ). member_of i v) at-way ∙ ap (λ (b : Bool). b && member_of (behind row way v) v) (sym (bit-true fell v (visit_member o)))
+    returned-if = ap (λ (i : ℕ). member_of i v) at-way ∙ ap (λ (b : Bool). b && member_of (behind row way v) v) (sym (bit-true fell v (visit_member L m)))
 
     -- The next one closes none.
     pub open_more : member_of w v ≡ false → Open fell row way rest
     open_more e j l z =
         ⊎_elim (λ q. subst (λ (i : ℕ). returned fell row way i ≡ false) q (sym returned-if ∙ e))
-        (λ n. h j l (omega (arith, visit_after o j l, is_ne n))) (eq_or_ne v j)
+        (λ n. h j l (omega (arith, visit_after L m j l, is_ne n))) (eq_or_ne v j)
 
     -- The next one closes one.
     pub closer_hit : (n : ℕ) → Nodes n fell → member_of w v ≡ true → v ≡ closer n fell row way
     unfolding closer
     closer_hit n k e =
-        sym (first-is (returned fell row way) n 0 v (omega arith) (omega (arith, visit_below o n k)) (sym returned-if ∙ e) (λ j b l. h j (omega (arith, visit_node o)) (visit_before o j l)))
+        sym (first-is (returned fell row way) n 0 v (omega arith) (omega (arith, visit_below L m n k)) (sym returned-if ∙ e) (λ j b l. h j (omega (arith, m.below)) (visit_before L m j l)))
 
   -- None does.
   pub closer-none : (n left : ℕ) → n ≤ most_nodes → left ≡ 0 → Open fell row way left → n ≡ closer n fell row way

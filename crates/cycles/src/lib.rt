@@ -1,7 +1,7 @@
 // A search for a simple negative cycle in a graph of at most levels::NODES nodes with weights −1, 0 and +1, level by level.
 #![tactic(auto)]
 
-ghost use Rattle.std.specs.Prelude.{◌≡◌, true, ℕ, ◌+◌, ◌≤◌, ◌<◌, length, get_or};
+ghost use Rattle.std.specs.Prelude.{◌≡◌, true, ℕ, ◌+◌, ◌≤◌, ◌<◌, length, get_or, unwrap_or, IfSome, IsNone};
 ghost use Rattle.cells.specs.ModelCells.{put};
 ghost use Rattle.cluster.specs.Terms.{most_nodes};
 ghost use Rattle.sets.specs.ModelBits.{bit, member_of};
@@ -18,25 +18,22 @@ pub const WALK: usize = Cluster::NODES + 1;
 // The cells of a search's table: a row of nodes for each level, from 0 on.
 const TABLE: usize = (Cluster::NODES + 1) * Cluster::NODES;
 
-// The first node, of those that fell, that is behind itself on its way; n where there is none, and then grown has the nodes behind each that fell.
-fn close(n: u32, fell: u32, row: &[u8], way: &[u32], grown: &mut [u32]) -> u32
+// The first node, of those that fell, that is behind itself on its way; where there is none, grown has the nodes behind each that fell.
+fn close(n: u32, fell: u32, row: &[u8], way: &[u32], grown: &mut [u32]) -> Option<u32>
     requires { (n ≤ most_nodes) × (most_nodes ≤ length row.now) × (most_nodes ≤ length way.now) × (most_nodes ≤ length grown.old) × Nodes n fell × ((v : ℕ) → v < n → member_of fell v ≡ true → get_or row.now v 0 < most_nodes) }
-    ensures first { result ≡ closer n fell row.now way.now }
-    ensures grows { result ≡ n → Settled (bit fell) (behind row.now way.now) grown.old grown.new }
+    ensures first { (unwrap_or result n ≡ closer n fell row.now way.now) × IfSome result (λ v. v < n) }
+    ensures grows { IsNone result → Settled (bit fell) (behind row.now way.now) grown.old grown.new }
 {
-    let mut left = fell;
-    while left != 0 {
-        let v = sets::least(left);
+    for v in sets::iter(fell) {
         let i = v as usize;
-        left = sets::rest(left);
         let from = row[i] as u32;
         let w = sets::with(way[from as usize], from);
         if sets::member(w, v) {
-            return v;
+            return Some(v);
         }
         grown[i] = w;
     }
-    n
+    None
 }
 
 // Writes the walk back from v at level k, through the rows of the table, until it is at v again. Its length is returned.
@@ -45,17 +42,15 @@ fn trace(table: &[u8], k: u32, v: u32, walk: &mut [u32]) -> u32
     ensures { (result ≡ trail_length table.now k v) × (walk.new ≡ put 0 (trail table.now k v) (trail_length table.now k v + 1) walk.old) }
 {
     let mut x = v;
-    let mut t = 0;
-    while t < k {
+    for t in 0..k {
         walk[t as usize] = x;
         x = table[((k - t) * levels::NODES + x) as usize] as u32;
-        t += 1;
         if x == v {
-            walk[t as usize] = x;
-            return t;
+            walk[t as usize + 1] = x;
+            return t + 1;
         }
     }
-    t
+    k
 }
 
 // How a search ended: the length of the cycle, 0 where there is none, and the distances of the last level that was reached with no cycle.
@@ -79,8 +74,7 @@ fn search(arcs: &[u32], n: u32, walk: &mut [u32]) -> Searched
     let mut grown = [0u32; Cluster::NODES];
     let mut table = [0u8; TABLE];
     let mut mask = sets::below(n);
-    let mut k = 0;
-    while k < n {
+    for k in 0..n {
         let fell = levels::descend(arcs, n, k, mask, &dist, &mut next, &mut table, &mut atmost);
         if fell == 0 {
             return Searched {
@@ -89,8 +83,7 @@ fn search(arcs: &[u32], n: u32, walk: &mut [u32]) -> Searched
             };
         }
         let a = ((k + 1) * levels::NODES) as usize;
-        let v = close(n, fell, &table[a..a + Cluster::NODES], &way, &mut grown);
-        if v < n {
+        if let Some(v) = close(n, fell, &table[a..a + Cluster::NODES], &way, &mut grown) {
             let length = trace(&table, k + 1, v, walk);
             return Searched {
                 length,
@@ -100,7 +93,6 @@ fn search(arcs: &[u32], n: u32, walk: &mut [u32]) -> Searched
         dist = next;
         way = grown;
         mask = fell;
-        k += 1;
     }
     Searched {
         length: 0,
@@ -113,20 +105,10 @@ fn search(arcs: &[u32], n: u32, walk: &mut [u32]) -> Searched
 pub fn find(arcs: &[u32], n: u32, walk: &mut [u32]) -> u32
     ensures { (result ≡ found_length arcs.now n walk.old) × (walk.new ≡ found_walk arcs.now n walk.old) }
 {
-    if n == 0 {
+    if n == 0 || levels::NODES < n || arcs.len() < levels::ARCS || walk.len() < WALK {
         return 0;
     }
-    if levels::NODES < n {
-        return 0;
-    }
-    if arcs.len() < levels::ARCS {
-        return 0;
-    }
-    if walk.len() < WALK {
-        return 0;
-    }
-    let searched = search(arcs, n, walk);
-    searched.length
+    search(arcs, n, walk).length
 }
 
 // The distances of the last level of a search of the graph of arcs on n nodes: a potential, where there is no negative cycle.
@@ -136,7 +118,5 @@ pub fn levels(arcs: &[u32], n: u32) -> [u32; Cluster::NODES]
         × ((k : ℕ) → outcome (graph_of arcs.now n) ≡ potential_found k → (v : ℕ) → v < n → get_or result v 0 ≡ dist (graph_of arcs.now n) k v) }
 {
     let mut walk = [0u32; WALK];
-    let searched = search(arcs, n, &mut walk);
-    let levels = searched.levels;
-    levels
+    search(arcs, n, &mut walk).levels
 }

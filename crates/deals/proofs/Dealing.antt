@@ -1,20 +1,22 @@
 -- The turns of the loops that deal: a node joins the rows that its copies go to.
 -- Assumes nothing.
-use Prim.Native.Nat.{ℕ, ◌+◌, ◌-◌, ◌%◌, ◌≤◌, ◌<◌, min}
-use mathlib.Core.Path.{◌≡◌, sym, ap, ap₂, ◌∙◌}
-use mathlib.Core.List.{List}
+use Prim.Native.Nat.{ℕ, zero, suc, ◌+◌, ◌-◌, ◌%◌, ◌≤◌, ◌<◌, min}
+use mathlib.Core.Path.{◌≡◌, refl, sym, ap, ap₂, ◌∙◌}
+use mathlib.Core.List.{List, ◌++◌}
 use mathlib.Core.Logic.{⊎_elim}
 use native.Mathlib.Nat.{zero-add, add-mod_right, mod-eq_of_lt}
 use native.Mathlib.Omega.{arith}
-use lib.ListN.{length, get_or, set}
-use lib.Seq.{ext_get_or}
+use native.Mathlib.Numerals.{add-one}
+use lib.ListN.{length, get_or, set, take, drop, replicate}
+use Rattle.std.proofs.lemmas.List.Edits.{fill_none, fill_more}
+use lib.Seq.{ext_get_or, length-take-le}
 use borrow.Author.Tests.{lt-ltb, le-ltb}
 use Rattle.sums.specs.TermsSums.{one_if}
 use Rattle.sums.proofs.Sum.{lt_or_ge}
 use Rattle.sets.specs.ModelBits.{mask_bits, mask_of, with_of, union_of}
 use Rattle.sets.proofs.Laws.{bit_zero, bit_ext, with_lt, bit-with, union_lt, bit-union}
 use Rattle.cells.specs.ModelCells.{put}
-use Rattle.cells.proofs.Cells.{length-put, put-none, put-more, put-over, get_or_put_in, get_or_put-out}
+use Rattle.cells.proofs.Cells.{length-put, put-none, put_next, put-more, put-over, get_or_put_in, get_or_put-out}
 use Rattle.cluster.specs.Terms.{most_nodes}
 use Rattle.dealing.specs.ModelDeal.{among}
 use Rattle.sets.proofs.Masks.{mask_here, mask_not_here}
@@ -45,6 +47,19 @@ among_none P s k p d e l = ap one_if (le-ltb ((p + P - s % P) % P) k (omega arit
 -- All of the first n cells, written again.
 put_again : (f g : ℕ → ℕ) (n : ℕ) (l : List ℕ) → n ≤ length l → put 0 f n (put 0 g n l) ≡ put 0 f n l
 put_again f g n l h = put-over 0 0 f g n n l (omega arith) (omega arith) (λ i a b. absurd (omega arith))
+
+-- The first n cells, filled with zeros.
+zeros : (n : ℕ) (l : List ℕ) → n ≤ length l → replicate n 0 ++ drop n l ≡ put 0 (λ p. 0) n l
+unfolding put
+zeros zero l h = sym (fill_none l 0)
+zeros (suc n) l h =
+    ap (λ (k : ℕ). replicate k 0 ++ drop k l) (sym (add-one n))
+    ∙ (sym (fill_more n 0 l (omega arith)) ∙ (put_next (λ p. 0) n 0 l (replicate n 0 ++ drop n l) (zeros n l (omega arith)) refl ∙ ap (λ (k : ℕ). put 0 (λ p. 0) k l) (add-one n)))
+
+-- What is there once they are.
+pub emptied : (n : ℕ) (l front : List ℕ) → n ≤ length l → front ≡ replicate (length (take n l)) 0 → front ++ drop n l ≡ put 0 (λ p. 0) n l
+emptied n l front h e =
+    ap (λ (r : List ℕ). r ++ drop n l) (e ∙ ap (λ (k : ℕ). replicate k 0) (length-take-le n l h)) ∙ zeros n l h
 
 module _ (P : ℕ) (starts copies : ℕ → ℕ) (l₀ l : List ℕ) (long : P ≤ length l₀) (empty : l ≡ put 0 (λ p. 0) P l₀) where
   -- In empty rows the copies of no node are dealt.
@@ -124,7 +139,7 @@ module _ (P b : ℕ) (starts copies : ℕ → ℕ) (l₀ l : List ℕ) (low : b 
       ap₂ (λ (r : List ℕ) (i : ℕ). get_or r i 0) inv (sym (zero-add q)) ∙ get_or_put_in 0 (λ p. mask_of (dealt-to P starts copies p) b) P l₀ q 0 h (omega arith)
 
   -- A node's copies go to the rows from its start on and, past the last, to the first ones.
-  pub node-dealt : (k to₁ to₂ : ℕ) (l₁ l₂ : List ℕ) → k ≡ min (copies b) P → to₁ ≡ min (starts b + k) P → to₂ ≡ starts b + k - P
+  pub node-dealt : (k to₁ to₂ : ℕ) (l₁ l₂ : List ℕ) → k ≡ min P (copies b) → to₁ ≡ min (starts b + k) P → to₂ ≡ starts b + k - P
       → l₁ ≡ joined l b (starts b) to₁ → l₂ ≡ joined l₁ b 0 to₂
       → l₂ ≡ put 0 (λ p. mask_of (λ c. among P (starts c) (copies c) p) (b + 1)) P l₀
   node-dealt k to₁ to₂ l₁ l₂ e f₁ f₂ e₁ e₂ =

@@ -9,20 +9,7 @@ ghost use Rattle.dealing.specs.ModelDeal.{among};
 ghost use Rattle.incidence.specs.ModelIncidence.{cell};
 ghost use Rattle.tallies.specs.ModelTallies.{Below};
 
-use shares::less;
-use tallies::totals::least;
-
-// Empties the first n rows.
-fn clear(rows: &mut [u32], n: usize)
-    requires { n ≤ length rows.old }
-    ensures { rows.new ≡ put 0 (λ _. 0) n rows.old }
-{
-    let mut p = 0;
-    while p < n {
-        rows[p] = 0;
-        p += 1;
-    }
-}
+use cluster::Cluster;
 
 // Node b joins the rows `from` .. `to` - 1.
 fn join(rows: &mut [u32], b: u32, from: usize, to: usize)
@@ -30,34 +17,31 @@ fn join(rows: &mut [u32], b: u32, from: usize, to: usize)
     ensures { rows.new ≡ put from (λ j. with_of (get_or rows.old (from + j) 0) b) (to - from) rows.old }
 {
     let own = sets::with(0, b);
-    let mut p = from;
-    while p < to {
+    for p in from..to {
         rows[p] = sets::union(rows[p], own);
-        p += 1;
     }
 }
 
 // Deals the copies: each of the first P cells becomes the row of its partition. A node's copies go to the partitions from its start on, and,
 // where these end before the copies do, to the first ones.
-pub fn deal(rows: &mut [u32], starts: &[u32], copies: &[u32], n: usize, partitions: u32)
-    requires { (n ≤ most_nodes) × (length starts.now ≡ most_nodes) × (length copies.now ≡ most_nodes) × (partitions ≤ buffer_rows) × (partitions ≤ length rows.old)
+pub fn deal(
+    rows: &mut [u32],
+    starts: &[u32; Cluster::NODES],
+    copies: &[u32; Cluster::NODES],
+    n: usize,
+    partitions: u32,
+)
+    requires { (n ≤ most_nodes) × (partitions ≤ buffer_rows) × (partitions ≤ length rows.old)
         × Below partitions n starts.now }
     ensures { rows.new
         ≡ put 0 (λ p. mask_of (λ b. among partitions (cell starts.now b) (cell copies.now b) p) n) partitions
         rows.old }
 {
-    clear(rows, partitions as usize);
-    let mut b = 0;
-    while b < n {
+    rows[..partitions as usize].fill(0);
+    for b in 0..n {
         let start = starts[b];
-        let end = start + least(copies[b], partitions);
-        join(
-            rows,
-            b as u32,
-            start as usize,
-            least(end, partitions) as usize,
-        );
-        join(rows, b as u32, 0, less(end, partitions) as usize);
-        b += 1;
+        let end = start + partitions.min(copies[b]);
+        join(rows, b as u32, start as usize, end.min(partitions) as usize);
+        join(rows, b as u32, 0, end.saturating_sub(partitions) as usize);
     }
 }

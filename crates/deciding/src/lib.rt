@@ -5,10 +5,11 @@
 ghost use Rattle.std.specs.Prelude.{◌≡◌, suc, ◌≤◌, ◌<◌, length, get_or};
 ghost use Rattle.cluster.specs.Terms.{most_nodes, buffer_rows};
 ghost use Rattle.levels.specs.ModelGraph.{arc_cells};
-ghost use Rattle.swaps.specs.ModelSwaps.{Tight};
-ghost use Rattle.holders.specs.ModelHolders.{Held};
+ghost use Rattle.holders.specs.ModelHolders.{Follows, Held};
 ghost use Rattle.evens.specs.ModelEvens.{wanted_of};
 ghost use Rattle.attempts.specs.ModelDeciding.{Keeps, Reaches};
+
+use swaps::instance::Instance;
 
 // Decides the pair (p, b).
 fn decide(
@@ -16,23 +17,18 @@ fn decide(
     tight: &mut [u32],
     held: &mut [u32],
     leads: &mut [u32],
-    former: &[u32],
-    had: &[u32],
-    partitions: usize,
-    mates: &[u32],
-    caps: &[u32],
+    given: &Instance,
     all: u32,
-    z: u32,
     even: &[u32],
     p: usize,
     b: u32,
 )
-    requires { (b < most_nodes) × (p < partitions) × (partitions ≤ buffer_rows) × (partitions ≤ length rows.old) × (length leads.old ≡ most_nodes)
+    requires { let g = given.now in (b < most_nodes) × (p < g.partitions) × (g.partitions ≤ buffer_rows) × (g.partitions ≤ length rows.old) × (length leads.old ≡ most_nodes)
         × (length even.now ≡ arc_cells)
-        × Tight mates.now z rows.old partitions tight.old × Held rows.old partitions held.old × Held former.now partitions had.now }
-    ensures { (length rows.new ≡ length rows.old) × (length leads.new ≡ most_nodes)
-        × Tight mates.now z rows.new partitions tight.new × Held rows.new partitions held.new
-        × Keeps partitions former.now mates.now caps.now all z even.now p b
+        × Follows g rows.old tight.old held.old × Held g.former.now g.partitions g.had.now }
+    ensures { let g = given.now in (length rows.new ≡ length rows.old) × (length leads.new ≡ most_nodes)
+        × Follows g rows.new tight.new held.new
+        × Keeps g.partitions g.former.now g.mates.now g.caps.now all g.z even.now p b
         rows.old leads.old (suc b) rows.new leads.new }
 {
     let row = rows[p];
@@ -42,19 +38,17 @@ fn decide(
     let goal = evens::givers(
         row,
         tight[p],
-        swaps::cell(former, p),
-        mates,
+        swaps::cell(given.former, p),
+        given.mates,
         all,
-        z,
+        given.z,
         even,
         b,
     );
     let mut again = goal != 0;
+    // A `while`: an attempt tells whether there is another one.
     while again {
-        again = attempts::attempt(
-            rows, tight, held, leads, former, had, partitions, mates, caps, all, z, even, p, b,
-            goal,
-        );
+        again = attempts::attempt(rows, tight, held, leads, given, all, even, p, b, goal);
     }
 }
 
@@ -64,39 +58,32 @@ fn consider(
     tight: &mut [u32],
     held: &mut [u32],
     leads: &mut [u32],
-    former: &[u32],
-    had: &[u32],
-    partitions: usize,
-    mates: &[u32],
-    caps: &[u32],
+    given: &Instance,
     all: u32,
-    z: u32,
     even: &[u32],
     p: usize,
     b: u32,
     wanted: u32,
 ) -> u32
-    requires { (b < most_nodes) × (p < partitions) × (partitions ≤ buffer_rows) × (partitions ≤ length rows.old) × (length leads.old ≡ most_nodes)
-        × (length even.now ≡ arc_cells) × (wanted ≡ wanted_of even.now (get_or rows.old p 0) (get_or former.now p 0))
-        × Tight mates.now z rows.old partitions tight.old × Held rows.old partitions held.old × Held former.now partitions had.now }
-    ensures { (length rows.new ≡ length rows.old) × (length leads.new ≡ most_nodes)
-        × Tight mates.now z rows.new partitions tight.new × Held rows.new partitions held.new
-        × Keeps partitions former.now mates.now caps.now all z even.now p b
+    requires { let g = given.now in (b < most_nodes) × (p < g.partitions) × (g.partitions ≤ buffer_rows) × (g.partitions ≤ length rows.old) × (length leads.old ≡ most_nodes)
+        × (length even.now ≡ arc_cells) × (wanted ≡ wanted_of even.now (get_or rows.old p 0) (get_or g.former.now p 0))
+        × Follows g rows.old tight.old held.old × Held g.former.now g.partitions g.had.now }
+    ensures { let g = given.now in (length rows.new ≡ length rows.old) × (length leads.new ≡ most_nodes)
+        × Follows g rows.new tight.new held.new
+        × Keeps g.partitions g.former.now g.mates.now g.caps.now all g.z even.now p b
         rows.old leads.old (suc b) rows.new leads.new
-        × (result ≡ wanted_of even.now (get_or rows.new p 0) (get_or former.now p 0)) }
+        × (result ≡ wanted_of even.now (get_or rows.new p 0) (get_or g.former.now p 0)) }
 {
     if !sets::member(wanted, b) {
         return wanted;
     }
     let row = rows[p];
-    decide(
-        rows, tight, held, leads, former, had, partitions, mates, caps, all, z, even, p, b,
-    );
+    decide(rows, tight, held, leads, given, all, even, p, b);
     let new = rows[p];
     if new == row {
         return wanted;
     }
-    evens::wanted(new, swaps::cell(former, p), even)
+    evens::wanted(new, swaps::cell(given.former, p), even)
 }
 
 // Decides the pairs of a row, by rising node.
@@ -105,33 +92,23 @@ fn decide_row(
     tight: &mut [u32],
     held: &mut [u32],
     leads: &mut [u32],
-    former: &[u32],
-    had: &[u32],
-    partitions: usize,
-    mates: &[u32],
-    caps: &[u32],
+    given: &Instance,
     nodes: u32,
-    z: u32,
     even: &[u32],
     p: usize,
 )
-    requires { (nodes ≤ most_nodes) × (p < partitions) × (partitions ≤ buffer_rows) × (partitions ≤ length rows.old) × (length leads.old ≡ most_nodes)
+    requires { let g = given.now in (nodes ≤ most_nodes) × (p < g.partitions) × (g.partitions ≤ buffer_rows) × (g.partitions ≤ length rows.old) × (length leads.old ≡ most_nodes)
         × (length even.now ≡ arc_cells)
-        × Tight mates.now z rows.old partitions tight.old × Held rows.old partitions held.old × Held former.now partitions had.now }
-    ensures { (length rows.new ≡ length rows.old) × (length leads.new ≡ most_nodes)
-        × Tight mates.now z rows.new partitions tight.new × Held rows.new partitions held.new
-        × Reaches partitions former.now mates.now caps.now nodes z even.now p 0
+        × Follows g rows.old tight.old held.old × Held g.former.now g.partitions g.had.now }
+    ensures { let g = given.now in (length rows.new ≡ length rows.old) × (length leads.new ≡ most_nodes)
+        × Follows g rows.new tight.new held.new
+        × Reaches g.partitions g.former.now g.mates.now g.caps.now nodes g.z even.now p 0
         rows.old leads.old (suc p) 0 rows.new leads.new }
 {
     let all = sets::below(nodes);
-    let mut wanted = evens::wanted(rows[p], swaps::cell(former, p), even);
-    let mut b = 0;
-    while b < nodes {
-        wanted = consider(
-            rows, tight, held, leads, former, had, partitions, mates, caps, all, z, even, p, b,
-            wanted,
-        );
-        b += 1;
+    let mut wanted = evens::wanted(rows[p], swaps::cell(given.former, p), even);
+    for b in 0..nodes {
+        wanted = consider(rows, tight, held, leads, given, all, even, p, b, wanted);
     }
 }
 
@@ -141,26 +118,17 @@ pub fn decide_rows(
     tight: &mut [u32],
     held: &mut [u32],
     leads: &mut [u32],
-    former: &[u32],
-    had: &[u32],
-    partitions: usize,
-    mates: &[u32],
-    caps: &[u32],
+    given: &Instance,
     nodes: u32,
-    z: u32,
     even: &[u32],
 )
-    requires { (nodes ≤ most_nodes) × (partitions ≤ buffer_rows) × (partitions ≤ length rows.old) × (length leads.old ≡ most_nodes) × (length even.now ≡ arc_cells)
-        × Tight mates.now z rows.old partitions tight.old × Held rows.old partitions held.old × Held former.now partitions had.now }
-    ensures { (length rows.new ≡ length rows.old)
-        × Reaches partitions former.now mates.now caps.now nodes z even.now 0 0
-        rows.old leads.old partitions 0 rows.new leads.new }
+    requires { let g = given.now in (nodes ≤ most_nodes) × (g.partitions ≤ buffer_rows) × (g.partitions ≤ length rows.old) × (length leads.old ≡ most_nodes) × (length even.now ≡ arc_cells)
+        × Follows g rows.old tight.old held.old × Held g.former.now g.partitions g.had.now }
+    ensures { let g = given.now in (length rows.new ≡ length rows.old)
+        × Reaches g.partitions g.former.now g.mates.now g.caps.now nodes g.z even.now 0 0
+        rows.old leads.old g.partitions 0 rows.new leads.new }
 {
-    let mut p = 0;
-    while p < partitions {
-        decide_row(
-            rows, tight, held, leads, former, had, partitions, mates, caps, nodes, z, even, p,
-        );
-        p += 1;
+    for p in 0..given.partitions {
+        decide_row(rows, tight, held, leads, given, nodes, even, p);
     }
 }

@@ -13,9 +13,10 @@ use Rattle.cluster.specs.Terms.{most_nodes}
 use Rattle.sums.specs.TermsSums.{one_if}
 use Rattle.sums.specs.ModelSums.{is}
 use Rattle.sums.proofs.Sum.{lt_or_ge, is_cases, is_le}
-use Rattle.sets.specs.ModelBits.{mask_bits, bit, with_of, without_of, union_of, meet_of, difference_of, below_of, least_of}
+use Rattle.sets.specs.ModelBits.{mask_bits, bit, with_of, union_of, meet_of, difference_of, below_of}
+use Rattle.sets.specs.ModelMembers.{Comes}
 use Rattle.sets.proofs.Laws.{bit_le, bit_zero, bit-union, bit-meet, bit-difference, bit_below, bit-below_not, bit-with, with_lt, mask_unique}
-use Rattle.sets.proofs.Scan.{Left, least-word, done_all}
+use Rattle.sets.proofs.Scan.{Left, done_all}
 use Rattle.swaps.specs.ModelSwaps.{targets_of}
 use Rattle.arcs.specs.ModelMoves.{joined}
 use Rattle.arcs.proofs.Growing.{done_grows}
@@ -81,24 +82,23 @@ module _ (mates : List ℕ) (all z : ℕ) (even : List ℕ) (row former : ℕ) (
   widen_none = record { long = refl; bits = λ u v p q. omega arith }
 
   -- A turn.
-  pub widen-turn : (left a next to : ℕ) (l m : List ℕ) → Left row left → (left ≡ 0 → ⊥) → most_nodes ≤ length l₀ → a ≡ least_of left
-      → next ≡ without_of left (least_of left) → to ≡ even_to mates all z even row former a → m ≡ joined l a to
+  pub widen-turn : (left a next to : ℕ) (l m : List ℕ) → Left row left → Comes left a next → most_nodes ≤ length l₀
+      → to ≡ even_to mates all z even row former a → m ≡ joined l a to
       → Widening mates all z even row former left l₀ l → Widening mates all z even row former next l₀ m
   unfolding joined
-  widen-turn left a next to l m L some g ea en et em W =
-      let k = least-word row left L some in
+  widen-turn left a next to l m L C g et em W =
       record {
         long = ap length em ∙ (length-set l a (union_of (get_or l a 0) to) ∙ W.long);
         bits = λ u v p q.
             let E = bit (even_to mates all z even row former u) v in
             let grows =
-            done_grows row left L some u (is a u) (bit to v) E p (ap (λ (i : ℕ). is i u) ea)
-            (λ e. ap (λ (x : ℕ). bit x v) (et ∙ ap (even_to mates all z even row former) (ea ∙ e))) in
+            done_grows row left L C.some u (is a u) (bit to v) E p (ap (λ (i : ℕ). is i u) C.least)
+            (λ e. ap (λ (x : ℕ). bit x v) (et ∙ ap (even_to mates all z even row former) (C.least ∙ e))) in
             ap (λ (x : List ℕ). bit (get_or x u 0) v) em
-            ∙ (bit-joined l a to u v (omega (arith, W.long, ea, k)) q
+            ∙ (bit-joined l a to u v (omega (arith, W.long, C.below)) q
             ∙ (ap (λ (x : ℕ). max x (min (is a u) (bit to v))) (W.bits u v p q)
             ∙ (again (bit (get_or l₀ u 0) v) (min (bit row u - bit left u) E) (min (is a u) (bit to v))
-            ∙ ap (max (bit (get_or l₀ u 0) v)) (grows ∙ ap (λ (x : ℕ). min (bit row u - bit x u) E) (sym en)))));
+            ∙ ap (max (bit (get_or l₀ u 0) v)) (grows ∙ ap (λ (x : ℕ). min (bit row u - bit x u) E) (sym C.rest)))));
       }
     where
       again : (x y z : ℕ) → max (max x y) z ≡ max x (max y z)
@@ -127,19 +127,19 @@ module _ (mates : List ℕ) (all z row b s : ℕ) where
   found_none = record { word = omega arith; bits = λ v p. omega (arith, bit_zero v) }
 
   -- A turn at a node that may give way, or may not.
-  pub found_turn : (left a next to found new : ℕ) → Left s left → (left ≡ 0 → ⊥) → a ≡ least_of left → next ≡ without_of left (least_of left)
+  pub found_turn : (left a next to found new : ℕ) → Left s left → Comes left a next
       → to ≡ targets_of mates all z row a → ((bit to b ≡ 1) × (new ≡ with_of found a)) ⊎ ((bit to b ≡ 0) × (new ≡ found))
       → Found mates all z row b s left found → Found mates all z row b s next new
-  found_turn left a next to found new L some ea en et o F =
+  found_turn left a next to found new L C et o F =
       record {
         word = ⊎_elim (λ q. omega (arith, q.1, with_lt found a)) (λ q. omega (arith, q.1, F.word)) o;
         bits = λ v p.
             let T = bit (targets_of mates all z row v) b in
             step v p
             ∙ (ap (λ (x : ℕ). max x (min (is a v) (bit to b))) (F.bits v p)
-            ∙ (done_grows s left L some v (is a v) (bit to b) T p (ap (λ (i : ℕ). is i v) ea)
-            (λ e. ap (λ (x : ℕ). bit x b) (et ∙ ap (targets_of mates all z row) (ea ∙ e)))
-            ∙ ap (λ (x : ℕ). min (bit s v - bit x v) T) (sym en)));
+            ∙ (done_grows s left L C.some v (is a v) (bit to b) T p (ap (λ (i : ℕ). is i v) C.least)
+            (λ e. ap (λ (x : ℕ). bit x b) (et ∙ ap (targets_of mates all z row) (C.least ∙ e)))
+            ∙ ap (λ (x : ℕ). min (bit s v - bit x v) T) (sym C.rest)));
       }
     where
       step : (v : ℕ) → v < most_nodes → bit new v ≡ max (bit found v) (min (is a v) (bit to b))

@@ -39,16 +39,13 @@ pub fn widen(
     requires { (most_nodes ≤ length leads.old) × (arc_cells ≤ length even.now) × (tight ≡ tight_of mates.now z row) }
     ensures { Widened mates.now all z even.now row former leads.old leads.new }
 {
-    let mut left = row;
-    while left != 0 {
-        let a = sets::least(left);
+    for a in sets::iter(row) {
         let mate = swaps::cell(mates, a as usize);
         let to = sets::meet(
             swaps::targets_in(all, row, mate, tight),
             even_of(even, former, a),
         );
         arcs::join(leads, a as usize, to);
-        left = sets::rest(left);
     }
 }
 
@@ -58,12 +55,9 @@ pub fn wanted(row: u32, former: u32, even: &[u32]) -> u32
     ensures { result ≡ wanted_of even.now row former }
 {
     let mut found = 0;
-    let mut left = row;
-    while left != 0 {
-        let a = sets::least(left);
+    for a in sets::iter(row) {
         let earlier = sets::meet(even_of(even, former, a), sets::below(a));
         found = sets::union(found, earlier);
-        left = sets::rest(left);
     }
     found
 }
@@ -84,15 +78,12 @@ pub fn givers(
 {
     let later = sets::difference(row, sets::below(b + 1));
     let evenly = even_of(even, former, b);
-    let mut left = sets::meet(later, evenly);
     let mut found = 0;
-    while left != 0 {
-        let a = sets::least(left);
+    for a in sets::iter(sets::meet(later, evenly)) {
         let mate = swaps::cell(mates, a as usize);
         if sets::member(swaps::targets_in(all, row, mate, tight), b) {
             found = sets::with(found, a);
         }
-        left = sets::rest(left);
     }
     found
 }

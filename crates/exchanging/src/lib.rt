@@ -7,30 +7,29 @@ ghost use Rattle.cluster.specs.Terms.{buffer_rows};
 ghost use Rattle.sums.specs.ModelSums.{is};
 ghost use Rattle.sets.specs.ModelBits.{bit, with_of, without_of};
 ghost use Rattle.swaps.specs.ModelLeaves.{leaf_rows, ChangedIn};
-ghost use Rattle.swaps.specs.ModelSwaps.{Tight};
-ghost use Rattle.holders.specs.ModelHolders.{Held};
+ghost use Rattle.holders.specs.ModelHolders.{Follows};
 ghost use Rattle.walks.specs.ModelWalks.{walk_in};
 ghost use Rattle.exchanging.specs.ModelExchanged.{walked_of};
+
+use swaps::instance::Instance;
 
 // Node u of the row of partition p gives way to node v; what the row may not lose, and the sets of partitions, follow.
 fn swap(
     rows: &mut [u32],
     tight: &mut [u32],
     held: &mut [u32],
-    partitions: usize,
-    mates: &[u32],
-    z: u32,
+    given: &Instance,
     p: usize,
     u: u32,
     v: u32,
 )
-    requires { (p < partitions) × (partitions ≤ length rows.old) × (partitions ≤ buffer_rows) × Tight mates.now z rows.old partitions tight.old × Held rows.old partitions held.old }
-    ensures { (rows.new ≡ set rows.old p (with_of (without_of (get_or rows.old p 0) u) v))
-        × Tight mates.now z rows.new partitions tight.new × Held rows.new partitions held.new }
+    requires { let g = given.now in (p < g.partitions) × (g.partitions ≤ length rows.old) × (g.partitions ≤ buffer_rows) × Follows g rows.old tight.old held.old }
+    ensures { let g = given.now in (rows.new ≡ set rows.old p (with_of (without_of (get_or rows.old p 0) u) v))
+        × Follows g rows.new tight.new held.new }
 {
     let row = sets::with(sets::without(rows[p], u), v);
     rows[p] = row;
-    tight[p] = swaps::tight(mates, z, row);
+    tight[p] = swaps::tight(given.mates, given.z, row);
     holders::exchange(held, p, u, v);
 }
 
@@ -47,28 +46,23 @@ pub fn make(
     rows: &mut [u32],
     tight: &mut [u32],
     held: &mut [u32],
-    partitions: usize,
-    mates: &[u32],
-    z: u32,
+    given: &Instance,
     y: &[u32],
     q: &[u32],
     m: usize,
 ) -> u64
-    requires { (m < length y.now) × (m ≤ length q.now) × (partitions ≤ length rows.old) × (partitions ≤ buffer_rows)
-        × Tight mates.now z rows.old partitions tight.old × Held rows.old partitions held.old }
-    ensures { (rows.new ≡ walked_of partitions (walk_in m y.now q.now) rows.old)
-        × ChangedIn result rows.old rows.new × Tight mates.now z rows.new partitions tight.new
-        × Held rows.new partitions held.new }
+    requires { let g = given.now in (m < length y.now) × (m ≤ length q.now) × (g.partitions ≤ length rows.old) × (g.partitions ≤ buffer_rows)
+        × Follows g rows.old tight.old held.old }
+    ensures { let g = given.now in (rows.new ≡ walked_of g.partitions (walk_in m y.now q.now) rows.old)
+        × ChangedIn result rows.old rows.new × Follows g rows.new tight.new held.new }
 {
     let mut changed = 0;
-    let mut i = 0;
-    while i < m {
+    for i in 0..m {
         let p = q[i] as usize;
-        if p < partitions {
-            swap(rows, tight, held, partitions, mates, z, p, y[i + 1], y[i]);
+        if p < given.partitions {
+            swap(rows, tight, held, given, p, y[i + 1], y[i]);
             changed = mark(changed, p);
         }
-        i += 1;
     }
     changed
 }

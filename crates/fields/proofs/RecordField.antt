@@ -18,6 +18,9 @@ use Rattle.sums.proofs.Tests.{true_or_false}
 pub use Rattle.lengths.proofs.Lengths.{legal-true, legal-any, legal_only}
 use Rattle.lengths.proofs.Lengths.{greatest_lt, legal-least, legal-greatest, legal-step, lawful, only}
 use Rattle.fields.specs.RecordField.{bytes_of, Bytes, part, number_at, head_width, field, legal_as, judged, field_at, Whole, Within}
+use Rattle.cluster.specs.declared.refusal.Refusal.{Refusal}
+use Rattle.cluster.specs.declared.refusal.Refusal.TheVariants.{Cut, Tag, Length}
+use Rattle.cluster.specs.TermsRefusal.{number_of as number_of_refusal}
 use Rattle.fields.specs.declared.Field.{Field}
 use Rattle.fields.specs.declared.Field.TheVariants.{Body, Refused}
 use Rattle.numbers.proofs.Numbers.{length-bytes, has-true, has-false, number_byte, number_here, bytes_there, length_part}
@@ -28,31 +31,37 @@ use Rattle.numbers.proofs.Numbers.{length-bytes, has-true, has-false, number_byt
 pub one_tag : (a t : ℕ) → mem t (a ∷ []) ≡ true → t ≡ a
 one_tag a t h = ⊎_elim (λ e. e) (λ z. absurd (mem-none t z)) (mem_cases t a [] h)
 
+-- ---- refusals
+
+-- The number of a refusal is not 0.
+pub refusal-some : (r : Refusal) → 1 ≤ number_of_refusal r
+refusal-some r = grind arith
+
 -- ---- the field at a byte
 
 -- What is known of a field's answer: its tag and length are read from the first bytes; a refusal is not 0, and its byte is where the field begins.
 abbrev Read : List ℕ → ℕ → Field → Type 0
 Read s at (Body tag start len) = (tag ≡ number_at s at 1) × (len ≡ number_at s (at + 1) 2)
-Read s at (Refused refusal byte) = (1 ≤ refusal) × (byte ≡ at)
+Read s at (Refused refusal byte) = (1 ≤ number_of_refusal refusal) × (byte ≡ at)
 
 module _ (s : List ℕ) (at : ℕ) (allowed : List ℕ) (exact : ℕ) where
   -- The first fault decides, in the order of the paper; with none the field is whole.
-  pub field_cut : length s < at + 3 → field_at s at allowed exact ≡ Refused 1 at
+  pub field_cut : length s < at + 3 → field_at s at allowed exact ≡ Refused Cut at
   unfolding field_at
   field_cut h = simp (has-false (length s) at 3 h)
 
   module _ (head : at + 3 ≤ length s) where
-    pub field_tag : mem (number_at s at 1) allowed ≡ false → field_at s at allowed exact ≡ Refused 2 at
+    pub field_tag : mem (number_at s at 1) allowed ≡ false → field_at s at allowed exact ≡ Refused Tag at
     unfolding field_at judged
     field_tag h = simp (has-true (length s) at 3 head, h)
 
     module _ (tagged : mem (number_at s at 1) allowed ≡ true) where
-      pub field-length : legal_as exact (number_at s at 1) (number_at s (at + 1) 2) ≡ false → field_at s at allowed exact ≡ Refused 3 at
+      pub field-length : legal_as exact (number_at s at 1) (number_at s (at + 1) 2) ≡ false → field_at s at allowed exact ≡ Refused Length at
       unfolding field_at judged
       field-length h = simp (has-true (length s) at 3 head, tagged, h)
 
       module _ (long : legal_as exact (number_at s at 1) (number_at s (at + 1) 2) ≡ true) where
-        pub field_body : length s < at + 3 + number_at s (at + 1) 2 → field_at s at allowed exact ≡ Refused 1 at
+        pub field_body : length s < at + 3 + number_at s (at + 1) 2 → field_at s at allowed exact ≡ Refused Cut at
         unfolding field_at judged
         field_body h = simp (has-true (length s) at 3 head, tagged, long, has-false (length s) (at + 3) (number_at s (at + 1) 2) h)
 
@@ -88,8 +97,8 @@ pub within : (s : List ℕ) (at : ℕ) (allowed : List ℕ) (exact : ℕ) → Wi
 within s at allowed exact = (known s at allowed exact).0
 
 -- What is known of a refused one.
-pub refused-some : (s : List ℕ) (at : ℕ) (allowed : List ℕ) (exact refusal byte : ℕ) → field_at s at allowed exact ≡ Refused refusal byte
-    → (1 ≤ refusal) × (byte ≡ at)
+pub refused-some : (s : List ℕ) (at : ℕ) (allowed : List ℕ) (exact : ℕ) (refusal : Refusal) (byte : ℕ) → field_at s at allowed exact ≡ Refused refusal byte
+    → (1 ≤ number_of_refusal refusal) × (byte ≡ at)
 refused-some s at allowed exact refusal byte e = subst (Read s at) e (known s at allowed exact).1
 
 module _ (s : List ℕ) (at : ℕ) (allowed : List ℕ) (exact tag start len : ℕ) (e : field_at s at allowed exact ≡ Body tag start len) where

@@ -9,6 +9,8 @@ unfoldable pub use Rattle.lengths.specs.RecordLengths.{rule_of, legal, legal_as}
 pub use Rattle.numbers.specs.RecordNumber.{Bytes, part}
 unfoldable pub use Rattle.numbers.specs.RecordNumber.{number_of, bytes_of, has, number_at, written, over}
 unfoldable pub use Rattle.id_bytes.specs.RecordIds.{ids_at, id_bytes}
+use Rattle.cluster.specs.declared.refusal.Refusal.TheVariants.{Cut, Tag, Length}
+use Rattle.cluster.specs.TermsRefusal.{number_of as number_of_refusal}
 use Rattle.fields.specs.declared.Field.{Field}
 use Rattle.fields.specs.declared.Field.TheVariants.{Body, Refused}
 
@@ -49,15 +51,15 @@ longest_field = head_width + row_width most_copies
 -- 1, body cut short"; else it is whole, and its body begins after the three bytes.
 unfoldable pub judged : ℕ → ℕ → List ℕ → ℕ → ℕ → ℕ → Field
 judged end at allowed exact tag len =
-    cond (not (mem tag allowed)) (Refused 2 at)
-    (cond (not (legal_as exact tag len)) (Refused 3 at)
-    (cond (not (has end (at + head_width) len)) (Refused 1 at) (Body tag (at + head_width) len)))
+    cond (not (mem tag allowed)) (Refused Tag at)
+    (cond (not (legal_as exact tag len)) (Refused Length at)
+    (cond (not (has end (at + head_width) len)) (Refused Cut at) (Body tag (at + head_width) len)))
 
 -- The field of s at byte `at`, where the tags `allowed` are allowed next: "1, one or two bytes left", then as above.
 -- "A field that cannot be taken whole ends the reading there, with the refusal and the byte at which the field begins."
 unfoldable pub field_at : List ℕ → ℕ → List ℕ → ℕ → Field
 field_at s at allowed exact =
-    cond (not (has (length s) at head_width)) (Refused 1 at) (judged (length s) at allowed exact (number_at s at 1) (number_at s (at + 1) 2))
+    cond (not (has (length s) at head_width)) (Refused Cut at) (judged (length s) at allowed exact (number_at s at 1) (number_at s (at + 1) 2))
 
 -- What is known of a whole field in a record of n bytes.
 pub record Whole (n at : ℕ) (allowed : List ℕ) (exact tag start len : ℕ) : Type 0 where
@@ -77,9 +79,14 @@ Within n at allowed exact (Refused refusal byte) = Unit
 -- The refusal of a field that cannot be taken whole; 0 for a whole field.
 abbrev pub refusal_of : Field → ℕ
 refusal_of (Body tag start len) = 0
-refusal_of (Refused refusal byte) = refusal
+refusal_of (Refused refusal byte) = number_of_refusal refusal
 
 -- The byte given with a refusal; 0 for a whole field.
 abbrev pub place_of : Field → ℕ
 place_of (Body tag start len) = 0
 place_of (Refused refusal byte) = byte
+
+-- The field cannot be taken whole.
+abbrev pub IsRefused : Field → Type 0
+IsRefused (Body tag start len) = ⊥
+IsRefused (Refused refusal byte) = Unit

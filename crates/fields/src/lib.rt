@@ -3,15 +3,43 @@
 
 ghost use Rattle.std.specs.Prelude.{◌≡◌, ◌++◌, ◌+◌, ◌≤◌, ◌<◌, length};
 ghost use Rattle.fields.specs.ModelTags.{tags_of};
-ghost use Rattle.fields.specs.RecordField.{bytes_of, written, head_width, field_at, Within, refusal_of, place_of};
+ghost use Rattle.cluster.specs.TermsRefusal.{number_of};
+ghost use Rattle.fields.specs.RecordField.{bytes_of, written, head_width, field_at, Within, IsRefused, refusal_of, place_of};
+
+use cluster::refusal::Refusal;
 
 pub mod reader;
 
+// A refusal with the byte at which it is given: what ends a reading.
+#[derive(Clone, Copy, PartialEq, Eq)]
+pub struct Refused {
+    pub refusal: Refusal,
+    pub at: usize,
+}
+
 // What stands at a byte of a record: a whole field, or a refusal with the byte at which the field begins.
+// An enum and no `Result`: the paper has each field's answer taken apart by `let .. else`.
 #[derive(Clone, Copy)]
 pub enum Field {
     Body { tag: u8, start: usize, len: usize },
-    Refused { refusal: u32, at: usize },
+    Refused { refusal: Refusal, at: usize },
+}
+
+impl Field {
+    // What the else of that `let` answers: why the field cannot be taken whole, and where it begins.
+    pub fn refused(self) -> Refused
+        requires { IsRefused self }
+        ensures { (number_of result.refusal ≡ refusal_of self) × (result.at ≡ place_of self) }
+    {
+        match self {
+            Field::Refused { refusal, at } => Refused { refusal, at },
+            Field::Body {
+                tag: _,
+                start: _,
+                len: _,
+            } => unreachable!(),
+        }
+    }
 }
 
 // Puts the tag and the length of a field.
@@ -30,28 +58,28 @@ pub fn field_in(s: &[u8], at: usize, allowed: u32, exact: usize) -> Field
 {
     if !numbers::reaches(s.len(), at, 3) {
         return Field::Refused {
-            refusal: cluster::refusal::CUT,
+            refusal: Refusal::Cut,
             at,
         };
     }
     let tag = numbers::byte_at(s, at);
     if !sets::member(allowed, tag) {
         return Field::Refused {
-            refusal: cluster::refusal::TAG,
+            refusal: Refusal::Tag,
             at,
         };
     }
     let len = numbers::pair_at(s, at + 1) as usize;
     if !lengths::is_legal(exact, tag as usize, len) {
         return Field::Refused {
-            refusal: cluster::refusal::LENGTH,
+            refusal: Refusal::Length,
             at,
         };
     }
     let start = at + 3;
     if !numbers::reaches(s.len(), start, len) {
         return Field::Refused {
-            refusal: cluster::refusal::CUT,
+            refusal: Refusal::Cut,
             at,
         };
     }
@@ -59,33 +87,5 @@ pub fn field_in(s: &[u8], at: usize, allowed: u32, exact: usize) -> Field
         tag: tag as u8,
         start,
         len,
-    }
-}
-
-// The refusal of a field that cannot be taken whole; 0 for a whole field.
-pub fn refusal_of(f: Field) -> u32
-    ensures { result ≡ refusal_of f }
-{
-    match f {
-        Field::Body {
-            tag: _,
-            start: _,
-            len: _,
-        } => 0,
-        Field::Refused { refusal, at: _ } => refusal,
-    }
-}
-
-// The byte given with a refusal; 0 for a whole field.
-pub fn place_of(f: Field) -> usize
-    ensures { result ≡ place_of f }
-{
-    match f {
-        Field::Body {
-            tag: _,
-            start: _,
-            len: _,
-        } => 0,
-        Field::Refused { refusal: _, at } => at,
     }
 }

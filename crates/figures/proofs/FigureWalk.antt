@@ -4,6 +4,7 @@ use Prim.Native.Nat.{ℕ, zero, suc, ◌+◌, ◌*◌, ◌≤◌, ◌<◌}
 use mathlib.Core.Path.{◌≡◌, sym, ap, ap₂, ◌∙◌}
 use mathlib.Core.Bool.{Bool, cond}
 use mathlib.Core.List.{List, [], ◌∷◌, ◌++◌, append_assoc, append-nil}
+use native.Mathlib.Nat.{zero-add}
 use native.Mathlib.Omega.{arith}
 use lib.Dec.{ltb, eqb}
 use lib.ListN.{length, take, drop, get_or, set, length-append, length-drop, take-append-drop}
@@ -13,7 +14,7 @@ use Rattle.sums.specs.TermsSums.{sum_to, tab}
 use Rattle.sums.specs.ModelSums.{is}
 use Rattle.sums.proofs.Sum.{is_times, not_times, sum_cong}
 use Rattle.cells.specs.ModelCells.{put}
-use Rattle.cells.proofs.Cells.{length-tab, put_cong}
+use Rattle.cells.proofs.Cells.{length-tab, tab_get_or, put_cong}
 use Rattle.cluster.specs.Terms.{most_nodes, Topology, topology, partitions, no_node, node_at, copies_in, rows_in}
 use Rattle.cluster.specs.TermsReading.{figure_cells}
 use Rattle.cluster.specs.declared.Cluster.{Cluster}
@@ -21,10 +22,8 @@ use Rattle.cluster.specs.declared.Node.{Node}
 use Rattle.cluster.proofs.Slots.{node-slot}
 use Rattle.copies.specs.TermsCounts.{node_copies, counts_after}
 use Rattle.copies.proofs.Counted.{counted, counted-used}
-use Rattle.layouts.specs.declared.check.Checked.{Checked}
-use Rattle.layouts.specs.TermsCheck.{fault, check_of}
-use Rattle.figures.specs.declared.Figured.{Figured}
-use Rattle.figures.specs.TermsFigures.{zone_copies, figures_made, hope_of, figures_fault, figures_of, figures_in}
+use Rattle.layouts.specs.TermsCheck.{Checked, fault, check_of}
+use Rattle.figures.specs.TermsFigures.{Figured, zone_copies, figures_made, hope_of, figures_fault, figures_of, figures_in}
 use Rattle.figures.specs.ModelZones.{zone_sum}
 
 -- Numbers put from a place on stand between what was before and what comes after.
@@ -42,6 +41,11 @@ put-parts b f (suc n) l h =
     ∙ (set_at front (get_or l (b + n) 0) rest (f n) (b + n) long
     ∙ (sym (append_assoc front (f n ∷ []) rest)
     ∙ ap₂ (λ (x : List ℕ) (k : ℕ). x ++ drop k l) (append_assoc (take b l) (tab f n) (f n ∷ [])) next))
+
+-- Cells copied to the front are put there one by one.
+pub put-copied : (counts l : List ℕ) → length counts ≤ length l → counts ++ drop (length counts) l ≡ put 0 (λ b. get_or counts b 0) (length counts) l
+put-copied counts l h =
+    sym (put-parts 0 (λ b. get_or counts b 0) (length counts) l (omega arith) ∙ ap₂ (λ (x : List ℕ) (n : ℕ). x ++ drop n l) (tab_get_or counts 0) (zero-add (length counts)))
 
 -- A number for each node, and another for each in the cells after them.
 put_both : (f g : ℕ → ℕ) (l : List ℕ) → figure_cells ≤ length l → put most_nodes g most_nodes (put 0 f most_nodes l) ≡ tab f most_nodes ++ tab g most_nodes ++ drop figure_cells l

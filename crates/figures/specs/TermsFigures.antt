@@ -1,14 +1,25 @@
 -- What figures answer of a layout in hand, and what they leave in the lent cells.
 -- Assumes nothing.
-use Rattle.std.specs.Prelude.{ℕ, ◌*◌, ◌/◌, List, ◌++◌, ltb, eqb, length, drop, cond}
+use Rattle.std.specs.Prelude.{ℕ, ◌*◌, ◌/◌, List, Result, Ok, Err, ◌++◌, ltb, eqb, length, drop, cond}
 use Rattle.sums.specs.TermsSums.{sum_to, one_if, tab}
 use Rattle.cluster.specs.Terms.{most_nodes, Topology, topology, partitions, node_at, Layout, copies_in, usable, rows_in}
 use Rattle.cluster.specs.TermsReading.{figure_cells}
 use Rattle.cluster.specs.declared.Cluster.{Cluster}
 use Rattle.copies.specs.TermsCounts.{node_copies}
-use Rattle.layouts.specs.declared.check.Checked.{Checked}
-use Rattle.layouts.specs.TermsCheck.{fault, check_of}
-use Rattle.figures.specs.declared.Figured.{Figured}
+use Rattle.layouts.specs.TermsCheck.{Checked, fault, check_of}
+use Rattle.layouts.specs.declared.check.Fault.{Fault}
+use Rattle.cluster.specs.TermsRefusal.{number_of}
+
+-- What figures answer: check's refusal and place, and the size to hope for.
+pub record Figured : Type 0 where
+  pub refusal : ℕ
+  pub place : ℕ
+  pub hope : ℕ
+
+-- An answer as these numbers.
+abbrev pub figured_as : Result ℕ Fault → Figured
+figured_as (Ok hope) = record { refusal = 0; place = 0; hope = hope }
+figured_as (Err f) = record { refusal = number_of f.refusal; place = f.place; hope = 0 }
 
 -- "copies in that box's zone": the copies of all nodes of the same zone; "unused cells 0"
 unfoldable pub zone_copies : Topology → Layout → ℕ → ℕ

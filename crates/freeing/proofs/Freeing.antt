@@ -1,6 +1,6 @@
 -- The steps of the loops, over plain lists and numbers: cells that are shifted, parts of a walk, and a walk freed of crossed pairs.
 -- Assumes nothing.
-use Prim.Native.Nat.{ℕ, zero, suc, ◌+◌, ◌-◌, ◌*◌, ◌≤◌, ◌<◌}
+use Prim.Native.Nat.{ℕ, zero, suc, ◌+◌, ◌-◌, ◌*◌, ◌≤◌, ◌<◌, max}
 use mathlib.Core.Path.{◌≡◌, refl, sym, ap, ◌∙◌, subst}
 use mathlib.Core.Bool.{Bool, true, false, cond}
 use mathlib.Core.List.{List}
@@ -9,11 +9,13 @@ use native.Mathlib.Nat.{mul-one}
 use native.Mathlib.Omega.{arith}
 use lib.Dec.{ltb}
 use lib.ListN.{length, get_or, set}
-use lib.Seq.{get_or-set_same, get_or-set_other}
+use lib.Seq.{get_or-set_same, get_or-set_other, ext_get_or}
+use Rattle.std.specs.Prelude.{Option, None, Some, unwrap_or, IsSome}
+use Rattle.std.specs.List.{CopiedTo, SameBelow, SameFrom}
 use Rattle.sums.proofs.Sum.{lt_or_ge}
 use Rattle.sets.specs.ModelBits.{bits_at}
 use Rattle.cells.specs.ModelCells.{put}
-use Rattle.cells.proofs.Cells.{put-more, length-put, get_or_put_in, get_or_put-out}
+use Rattle.cells.proofs.Cells.{length-put, get_or_put_in, get_or_put-out}
 use Rattle.exchange.specs.ModelUncross.{Walk, Same, partner, first_crossed, inner, outer, walk_costs, split, uncross}
 use Rattle.exchange.proofs.Uncross.{skip-low, skip-high, wrap-low, wrap_end, first-pair}
 use Rattle.exchange.proofs.Walk.{uncross_stop, uncross-go, uncross_same, same_trans}
@@ -21,15 +23,6 @@ use Rattle.walks.specs.ModelWalks.{ok_of, walk_in, inner_gains}
 use Rattle.freeing.specs.ModelFreed.{freed_of}
 
 -- ---- cells
-
--- One cell more that gives way to the one k further on.
-pub shift-more : (l : List ℕ) (b k t : ℕ)
-    → set (put b (λ s. get_or l (b + s + k) 0) t l) (b + t) (get_or (put b (λ s. get_or l (b + s + k) 0) t l) (b + t + k) 0)
-    ≡ put b (λ s. get_or l (b + s + k) 0) (t + 1) l
-shift-more l b k t =
-    ap (λ (v : ℕ). set (put b (λ s. get_or l (b + s + k) 0) t l) (b + t) v)
-    (get_or_put-out b (λ s. get_or l (b + s + k) 0) t l (b + t + k) 0 (λ j m e. omega arith))
-    ∙ put-more b (λ s. get_or l (b + s + k) 0) t l
 
 -- The n cells of l from b on, by those that stand k further on.
 abbrev pub shifted : List ℕ → ℕ → ℕ → ℕ → List ℕ
@@ -43,6 +36,19 @@ shifted_in l b k n i a c d =
 
 shifted_low : (l : List ℕ) (b k n i : ℕ) → i < b → get_or (shifted l b k n) i 0 ≡ get_or l i 0
 shifted_low l b k n i a = get_or_put-out b (λ s. get_or l (b + s + k) 0) n l i 0 (λ j m e. omega arith)
+
+-- A list in which they were copied is that.
+pub shift-copied : (l r : List ℕ) (b k n m : ℕ) → m ≡ n → b + k + n ≤ length l → length r ≡ length l
+    → CopiedTo l r (b + k) b m → SameBelow l r b → SameFrom l r (b + m) → r ≡ shifted l b k n
+shift-copied l r b k n m e h s copied below from =
+    ext_get_or 0 r (shifted l b k n) (s ∙ sym (length-put b (λ t. get_or l (b + t + k) 0) n l))
+    (λ i g. ⊎_elim (λ a. below i 0 a ∙ sym (shifted_low l b k n i a))
+    (λ a. ⊎_elim
+    (λ c. let d : b + k + (i - b) ≡ i + k = omega arith in
+    copied i 0 a (omega arith) ∙ (ap (λ (j : ℕ). get_or l j 0) d ∙ sym (shifted_in l b k n i a c (omega arith))))
+    (λ c. from i 0 (omega arith) ∙ sym (get_or_put-out b (λ t. get_or l (b + t + k) 0) n l i 0 (λ j f q. omega arith)))
+    (lt_or_ge i (b + n)))
+    (lt_or_ge i b))
 
 -- ---- the parts of a walk in cells
 
@@ -114,15 +120,19 @@ module _ (P : ℕ) (g : ℕ → ℕ → ℕ) (ok : ℕ → ℕ → ℕ → Bool)
       let d : partner P ok w i ≡ partner P ok w (first_crossed P ok w) = ap (partner P ok w) e in
       omega arith
 
+  -- So the second of them is found.
+  pub pair_some : (w : Walk) (i : ℕ) (o : Option ℕ) → i ≡ first_crossed P ok w → unwrap_or o (max (i + 1) w.len) ≡ partner P ok w i → i < w.len → IsSome o
+  pair_some w i None e f l = absurd (omega (arith, pair_in w i (max (i + 1) w.len) e f l))
+  pair_some w i (Some j) e f l = refl
+
   -- A pair is crossed.
-  pub free-go : (n : ℕ) (w u : Walk) (i j : ℕ) → 0 < n → Same v (uncross n P 1 g ok w) → i ≡ first_crossed P ok w → j ≡ partner P ok w i → i < w.len
-      → Same (split P 1 g w i j) u → Same v (uncross (n - 1) P 1 g ok u)
-  free-go n w u i j p s e f l t =
-      let d : n ≡ suc (n - 1) = omega arith in
+  pub free-go : (n k : ℕ) (w u : Walk) (i j : ℕ) → n ≡ suc k → Same v (uncross n P 1 g ok w) → i ≡ first_crossed P ok w → j ≡ partner P ok w i → i < w.len
+      → Same (split P 1 g w i j) u → Same v (uncross k P 1 g ok u)
+  free-go n k w u i j p s e f l t =
       same_trans
-      (subst (λ (x : Walk). Same v x) (ap (λ (k : ℕ). uncross k P 1 g ok w) d ∙ uncross-go P 1 g ok (n - 1) w (omega arith)) s)
-      (uncross_same P 1 g ok (n - 1)
-      (subst (λ (k : ℕ). Same (split P 1 g w k (partner P ok w k)) u) e (subst (λ (k : ℕ). Same (split P 1 g w i k) u) f t)))
+      (subst (λ (x : Walk). Same v x) (ap (λ (r : ℕ). uncross r P 1 g ok w) p ∙ uncross-go P 1 g ok k w (omega arith)) s)
+      (uncross_same P 1 g ok k
+      (subst (λ (r : ℕ). Same (split P 1 g w r (partner P ok w r)) u) e (subst (λ (r : ℕ). Same (split P 1 g w i r) u) f t)))
 
   -- There is no split left.
   pub free_end : (n : ℕ) (w : Walk) → n ≤ 0 → Same v (uncross n P 1 g ok w) → Same v w

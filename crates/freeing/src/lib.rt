@@ -11,34 +11,24 @@ ghost use Rattle.swaps.specs.ModelSwaps.{Tight};
 ghost use Rattle.walks.specs.ModelWalks.{walk_in};
 ghost use Rattle.freeing.specs.ModelFreed.{freed_of};
 
+use swaps::instance::Instance;
+
 // The n cells from `start` on give way to those that stand k further on.
 fn shift(cells: &mut [u32], start: usize, k: usize, n: usize)
     requires { start + k + n ≤ length cells.old }
     ensures { cells.new ≡ put start (λ t. get_or cells.old (start + t + k) 0) n cells.old }
 {
-    let mut t = 0;
-    while t < n {
-        cells[start + t] = cells[start + t + k];
-        t += 1;
-    }
+    cells.copy_within(start + k..start + k + n, start);
 }
 
 // The walk goes on with the inner part at the arcs i and j if it gains, else with the outer part. Its new length is answered.
-fn divide(
-    y: &mut [u32],
-    q: &mut [u32],
-    m: usize,
-    i: usize,
-    j: usize,
-    former: &[u32],
-    partitions: usize,
-) -> usize
+fn divide(y: &mut [u32], q: &mut [u32], m: usize, i: usize, j: usize, given: &Instance) -> usize
     requires { (i < j) × (j < m) × (m ≤ most_nodes) × (m < length y.old) × (m ≤ length q.old) }
-    ensures { (result ≤ m) × (length y.new ≡ length y.old) × (length q.new ≡ length q.old)
-        × Same (split partitions 1 (bits_at former.now) (walk_in m y.old q.old) i j) (walk_in result y.new q.new) }
+    ensures { let g = given.now in (result ≤ m) × (length y.new ≡ length y.old) × (length q.new ≡ length q.old)
+        × Same (split g.partitions 1 (bits_at g.former.now) (walk_in m y.old q.old) i j) (walk_in result y.new q.new) }
 {
     let k = j - i;
-    if crossings::gains(y, q, i as u32, j as u32, former, partitions) {
+    if crossings::gains(y, q, i as u32, j as u32, given) {
         shift(y, 0, i + 1, k);
         shift(q, 0, i + 1, k);
         y[k] = y[0];
@@ -56,28 +46,22 @@ pub fn free(
     m: usize,
     rows: &[u32],
     tight: &[u32],
-    former: &[u32],
-    partitions: usize,
-    mates: &[u32],
+    given: &Instance,
     all: u32,
-    z: u32,
 ) -> usize
-    requires { (m ≤ most_nodes) × (m < length y.old) × (m ≤ length q.old) × Tight mates.now z rows.now partitions tight.now }
-    ensures { (result ≤ m) × (length y.new ≡ length y.old) × (length q.new ≡ length q.old)
-        × Same (freed_of rows.now former.now partitions mates.now all z (walk_in m y.old q.old))
+    requires { let g = given.now in (m ≤ most_nodes) × (m < length y.old) × (m ≤ length q.old) × Tight g.mates.now g.z rows.now g.partitions tight.now }
+    ensures { let g = given.now in (result ≤ m) × (length y.new ≡ length y.old) × (length q.new ≡ length q.old)
+        × Same (freed_of rows.now g.former.now g.partitions g.mates.now all g.z (walk_in m y.old q.old))
         (walk_in result y.new q.new) }
 {
     let mut len = m;
-    let mut left = m;
-    while 0 < left {
+    for _split in 0..m {
         let n = len as u32;
-        let i = crossings::earlier(y, q, n, rows, tight, partitions, mates, all, z);
-        if n <= i {
+        let Some(i) = crossings::earlier(y, q, n, rows, tight, given, all) else {
             return len;
-        }
-        let j = crossings::later(y, q, n, i, rows, tight, partitions, mates, all, z);
-        len = divide(y, q, len, i as usize, j, former, partitions);
-        left -= 1;
+        };
+        let j = crossings::later(y, q, n, i, rows, tight, given, all).unwrap();
+        len = divide(y, q, len, i as usize, j, given);
     }
     len
 }

@@ -18,9 +18,10 @@ use Rattle.levels.specs.ModelGraph.{arc_cells}
 use Rattle.sums.specs.TermsSums.{one_if, tab}
 use Rattle.sums.specs.ModelSums.{is}
 use Rattle.sums.proofs.Sum.{lt_or_ge, eq_or_ne, is_ne}
-use Rattle.sets.specs.ModelBits.{mask_bits, bit}
+use Rattle.sets.specs.ModelBits.{mask_bits, bit, without_of}
+use Rattle.sets.specs.ModelMembers.{Comes}
 use Rattle.sets.proofs.Bits.{bit_or_lem, bit_not}
-use Rattle.sets.proofs.Laws.{bit_le, bit_zero, bit_shr, mask_unique}
+use Rattle.sets.proofs.Laws.{bit_le, bit_zero, bit_shr, bit-without, mask_unique}
 use Rattle.cells.proofs.Cells.{length-tab, get_or_tab}
 use Rattle.cells.proofs.Parts.{part-before, part_in, part-after, part_length}
 use Rattle.swaps.specs.ModelLeaves.{leaf_rows, ChangedIn}
@@ -170,9 +171,9 @@ module _ (former : List ℕ) (P : ℕ) (mates : List ℕ) (all z : ℕ) where
     pub others : (c : ℕ) → (c / arc_cells / parts ≡ i → ⊥) → get_or new c 0 ≡ get_or old c 0
 
   -- A leaf more.
-  pub filling_more : (rows : List ℕ) (i left b next : ℕ) (old kept new : List ℕ) → b < parts → (next_of : (x : ℕ) → x < mask_bits → bit next x ≡ bit left x - is b x)
+  pub filling_more : (rows : List ℕ) (i left b next : ℕ) (old kept new : List ℕ) → b < parts → Comes left b next
       → Filled rows former P mates all z (parts * i + b) kept new → Filling rows i left old kept → Filling rows i next old new
-  filling_more rows i left b next old kept new l en F D =
+  filling_more rows i left b next old kept new l C F D =
       record {
         long = F.long ∙ D.long;
         done = λ x h e.
@@ -182,6 +183,9 @@ module _ (former : List ℕ) (P : ℕ) (mates : List ℕ) (all z : ℕ) where
             (D.done x h (omega (arith, en x (omega arith), e, is_ne {a = b} {b = x} (λ w. n (sym w)))))) (eq_or_ne x b);
         others = λ c n. F.others c (λ w. n (omega (arith, w))) ∙ D.others c n;
       }
+    where
+      en : (x : ℕ) → x < mask_bits → bit next x ≡ bit left x - is b x
+      en x h = ap (λ (y : ℕ). bit y x) (C.rest ∙ ap (without_of left) (sym C.least)) ∙ bit-without left b x h
 
   -- The branch after its leaves.
   pub renewed : (rows : List ℕ) (i left : ℕ) (old kept new : List ℕ) → i < parts → left ≡ 0 → Filling rows i left old kept → Merged (parts * i) (most_leaves + i) kept new

@@ -16,6 +16,7 @@ ghost use Rattle.unions.specs.ModelUnions.{most_leaves, parts, kept_cells};
 ghost use Rattle.graph.specs.ModelKept.{Leaf, Branch, Kept, Filled, Renewed};
 
 use cluster::Cluster;
+use swaps::instance::Instance;
 
 // The sets of leaves of a branch.
 const BRANCH: u64 = 1 << unions::PARTS;
@@ -23,43 +24,21 @@ const BRANCH: u64 = 1 << unions::PARTS;
 pub const KEPT: usize = (unions::LEAVES + unions::PARTS) * levels::ARCS;
 
 // Writes what the rows of a leaf allow into its cells.
-fn fill(
-    rows: &[u32],
-    tight: &[u32],
-    former: &[u32],
-    partitions: usize,
-    mates: &[u32],
-    all: u32,
-    z: u32,
-    leaf: usize,
-    kept: &mut [u32],
-)
-    requires { (partitions ≤ buffer_rows) × (leaf < most_leaves) × (length kept.old ≡ kept_cells) × Tight mates.now z rows.now partitions tight.now }
-    ensures { Filled rows.now former.now partitions mates.now all z leaf kept.old kept.new }
+fn fill(rows: &[u32], tight: &[u32], given: &Instance, all: u32, leaf: usize, kept: &mut [u32])
+    requires { let g = given.now in (g.partitions ≤ buffer_rows) × (leaf < most_leaves) × (length kept.old ≡ kept_cells) × Tight g.mates.now g.z rows.now g.partitions tight.now }
+    ensures { let g = given.now in Filled rows.now g.former.now g.partitions g.mates.now all g.z leaf kept.old kept.new }
 {
     let first = leaf * swaps::LEAF;
-    let rest = if first < partitions {
-        partitions - first
-    } else {
-        0
-    };
-    let n = if rest < swaps::LEAF {
-        rest
-    } else {
-        swaps::LEAF
-    };
+    let n = given.partitions.saturating_sub(first).min(swaps::LEAF);
     let at = leaf * levels::ARCS;
     arcs::write_rows(
         &mut kept[at..at + levels::ARCS],
         rows,
         tight,
-        former,
-        partitions,
+        given,
         first,
         n,
-        mates,
         all,
-        z,
     );
 }
 
@@ -67,28 +46,23 @@ fn fill(
 fn renew(
     rows: &[u32],
     tight: &[u32],
-    former: &[u32],
-    partitions: usize,
-    mates: &[u32],
+    given: &Instance,
     all: u32,
-    z: u32,
     i: usize,
     stale: u32,
     kept: &mut [u32],
 )
-    requires { (partitions ≤ buffer_rows) × (i < parts) × (stale < 2 ^ parts) × (length kept.old ≡ kept_cells) × Tight mates.now z rows.now partitions tight.now
-        × ((b : ℕ) → b < parts → bit stale b ≡ 0 → Leaf rows.now former.now partitions mates.now all z (parts * i + b) kept.old)
-        × (stale ≡ 0 → Branch rows.now former.now partitions mates.now all z i kept.old) }
-    ensures { Renewed rows.now former.now partitions mates.now all z i kept.old kept.new }
+    requires { let g = given.now in (g.partitions ≤ buffer_rows) × (i < parts) × (stale < 2 ^ parts) × (length kept.old ≡ kept_cells) × Tight g.mates.now g.z rows.now g.partitions tight.now
+        × ((b : ℕ) → b < parts → bit stale b ≡ 0 → Leaf rows.now g.former.now g.partitions g.mates.now all g.z (parts * i + b) kept.old)
+        × (stale ≡ 0 → Branch rows.now g.former.now g.partitions g.mates.now all g.z i kept.old) }
+    ensures { let g = given.now in Renewed rows.now g.former.now g.partitions g.mates.now all g.z i kept.old kept.new }
 {
     if stale == 0 {
         return;
     }
-    let mut left = stale;
-    while left != 0 {
-        let leaf = unions::PARTS * i + sets::least(left) as usize;
-        fill(rows, tight, former, partitions, mates, all, z, leaf, kept);
-        left = sets::rest(left);
+    for b in sets::iter(stale) {
+        let leaf = unions::PARTS * i + b as usize;
+        fill(rows, tight, given, all, leaf, kept);
     }
     unions::merge(kept, i);
 }
@@ -98,11 +72,8 @@ fn add_room(arcs: &mut [u32], room: u32, all: u32)
     requires { arc_cells ≤ length arcs.old }
     ensures { Grown (λ j b. min (bit room (j % most_nodes)) (min (is 1 (j / most_nodes)) (bit all b))) arcs.old arcs.new }
 {
-    let mut left = room;
-    while left != 0 {
-        let a = sets::least(left) as usize;
-        arcs::join(arcs, a + Cluster::NODES, all);
-        left = sets::rest(left);
+    for a in sets::iter(room) {
+        arcs::join(arcs, a as usize + Cluster::NODES, all);
     }
 }
 
@@ -111,31 +82,23 @@ fn add_room(arcs: &mut [u32], room: u32, all: u32)
 pub fn build(
     rows: &[u32],
     tight: &[u32],
-    former: &[u32],
-    partitions: usize,
-    mates: &[u32],
-    caps: &[u32],
+    given: &Instance,
     room: u32,
     all: u32,
-    z: u32,
     stale: u64,
     kept: &mut [u32],
     arcs: &mut [u32],
 )
-    requires { (partitions ≤ buffer_rows) × Tight mates.now z rows.now partitions tight.now
-        × ((u : ℕ) → u < most_nodes → bit room u ≡ one_if (ltb (copies_to rows.now partitions u) (get_or caps.now u 0)))
-        × Kept rows.now former.now partitions mates.now all z (bit stale) kept.old }
-    ensures { (arcs.new
-        ≡ arcs_of rows.now former.now partitions mates.now caps.now all z arcs.old)
-        × Kept rows.now former.now partitions mates.now all z (bit 0) kept.new }
+    requires { let g = given.now in (g.partitions ≤ buffer_rows) × Tight g.mates.now g.z rows.now g.partitions tight.now
+        × ((u : ℕ) → u < most_nodes → bit room u ≡ one_if (ltb (copies_to rows.now g.partitions u) (get_or g.caps.now u 0)))
+        × Kept rows.now g.former.now g.partitions g.mates.now all g.z (bit stale) kept.old }
+    ensures { let g = given.now in (arcs.new
+        ≡ arcs_of rows.now g.former.now g.partitions g.mates.now g.caps.now all g.z arcs.old)
+        × Kept rows.now g.former.now g.partitions g.mates.now all g.z (bit 0) kept.new }
 {
-    let mut i = 0;
-    while i < unions::PARTS {
+    for i in 0..unions::PARTS {
         let part = ((stale >> (unions::PARTS * i)) % BRANCH) as u32;
-        renew(
-            rows, tight, former, partitions, mates, all, z, i, part, kept,
-        );
-        i += 1;
+        renew(rows, tight, given, all, i, part, kept);
     }
     if arcs.len() < levels::ARCS {
         return;

@@ -32,11 +32,9 @@ pub fn put_numbers(out: &mut [u8], n: Numbers)
 {
     let values = table::numbers_in(n);
     let mut at = 0;
-    let mut i = 0;
-    while i < table::HEAD.len() {
+    for i in 0..table::HEAD.len() {
         let entry = Entry::at(i);
         put_number(out, at, entry.tag, entry.width, values[i]);
         at += 3 + entry.width;
-        i += 1;
     }
 }

@@ -15,6 +15,7 @@ use Rattle.sums.specs.ModelSums.{is}
 use Rattle.sums.proofs.Sum.{eq_or_ne, is_eq, is_ne, is_le, is_cases, sum_cong, sum_le, sum_const, sum_zero, sum-cut, sum_term, sum_but_one}
 use Rattle.cluster.specs.Terms.{most_nodes, buffer_rows}
 use Rattle.sets.specs.ModelBits.{mask_bits, bit, bits_at, member_of, with_of, without_of, least_of}
+use Rattle.sets.specs.ModelMembers.{Comes}
 use Rattle.sets.proofs.Laws.{bit_le, bit_zero, bit_high, member-true, member-false, bit-with, bit-without, least_at}
 use Rattle.sets.proofs.Scan.{Left, least-word, done_more, done_all}
 use Rattle.exchange.specs.ModelRow.{copies}
@@ -228,18 +229,20 @@ module _ (row p : ℕ) (before : List ℕ) where
   pub partly_none : Partly row row p before before
   partly_none b q lb lq = omega arith
 
-  pub partly_more : (left : ℕ) (held after : List ℕ) → Left row left → (left ≡ 0 → ⊥) → Partly row left p before held → Taken (is (least_of left)) p held after
-      → Partly row (without_of left (least_of left)) p before after
-  partly_more left held after L some h t b q lb lq =
-      widen (holds before b q) (min (bit row b - bit left b) (is p q)) (min (is (least_of left) b) (is p q)) (h b q lb lq) (t b q lb lq)
-      (join (bit row b - bit left b) (is (least_of left) b) (is p q) (done_more row left L some b lb) (omega (arith, bit_le row b)))
+  pub partly_more : (left u next : ℕ) (held after : List ℕ) → Left row left → Comes left u next → Partly row left p before held → Taken (is u) p held after
+      → Partly row next p before after
+  partly_more left u next held after L C h taken b q lb lq =
+      let t = subst (λ (i : ℕ). Taken (is i) p held after) C.least taken in
+      rw C.rest
+      (widen (holds before b q) (min (bit row b - bit left b) (is p q)) (min (is (least_of left) b) (is p q)) (h b q lb lq) (t b q lb lq)
+      (join (bit row b - bit left b) (is (least_of left) b) (is p q) (done_more row left L C.some b lb) (omega (arith, bit_le row b))))
 
   -- The least node that is left lacks partition p, which no set had.
-  pub least-lacks : (left : ℕ) (held : List ℕ) → p < buffer_rows → Left row left → (left ≡ 0 → ⊥) → Absent p before → Partly row left p before held
-      → holds held (least_of left) p ≡ 0
-  least-lacks left held lp L some n h =
-      let l = least-word row left L some in
-      omega (arith, h (least_of left) p l lp, n (least_of left) l, bit_le row (least_of left), least_at left l)
+  pub least-lacks : (left u next : ℕ) (held : List ℕ) → p < buffer_rows → Left row left → Comes left u next → Absent p before → Partly row left p before held
+      → holds held u p ≡ 0
+  least-lacks left u next held lp L C n h =
+      let here : bit left u ≡ 1 = ap (bit left) C.least ∙ least_at left (least-word row left L C.some) in
+      omega (arith, h u p C.below lp, n u C.below, bit_le row u, here)
 
   pub partly_all : (left : ℕ) (held : List ℕ) → left ≡ 0 → Partly row left p before held → Taken (bit row) p before held
   partly_all left held e h b q lb lq = omega (arith, h b q lb lq, done_all row left b e)

@@ -6,6 +6,8 @@ use Rattle.sums.specs.TermsSums.{sum_to}
 use Rattle.sums.specs.ModelSums.{is}
 use Rattle.cluster.specs.Terms.{most_nodes, buffer_rows}
 use Rattle.sets.specs.ModelBits.{mask_bits, bit, with_of, without_of}
+use Rattle.swaps.specs.declared.instance.Instance.{Instance}
+use Rattle.swaps.specs.ModelSwaps.{Tight}
 
 -- The words of a node's set: the code's are `WORDS`.
 abbrev pub set_words : ℕ
@@ -62,3 +64,8 @@ abbrev pub Exchanged : ℕ → ℕ → ℕ → List ℕ → List ℕ → Type 0
 Exchanged p u v before after =
     (rows : List ℕ) (P : ℕ) → P ≤ buffer_rows → p < P → p < length rows → Held rows P before
     → Held (set rows p (with_of (without_of (get_or rows p 0) u) v)) P after
+
+-- What is kept of rows goes with them: the nodes of the zones that each may not lose, and the partitions that each node holds.
+pub record Follows (given : Instance) (rows zones sets : List ℕ) : Type 0 where
+  pub tight : Tight given.mates.now given.z rows given.partitions zones
+  pub held : Held rows given.partitions sets

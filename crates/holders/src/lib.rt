@@ -74,11 +74,8 @@ fn hold(held: &mut [u32], p: usize, row: u32)
     requires { Counted held.old × (p < buffer_rows) × Absent p held.old }
     ensures { Counted held.new × Taken (bit row) p held.old held.new }
 {
-    let mut left = row;
-    while left != 0 {
-        let u = sets::least(left);
+    for u in sets::iter(row) {
         add(held, p, u);
-        left = sets::rest(left);
     }
 }
 
@@ -87,10 +84,8 @@ pub fn fill(rows: &[u32], partitions: usize, held: &mut [u32])
     requires { (partitions ≤ buffer_rows) × Held rows.now 0 held.old }
     ensures { Held rows.now partitions held.new }
 {
-    let mut p = 0;
-    while p < partitions {
+    for p in 0..partitions {
         hold(held, p, swaps::cell(rows, p));
-        p += 1;
     }
 }
 
@@ -108,10 +103,7 @@ pub fn room(rows: &[u32], partitions: usize, held: &[u32], caps: &[u32], nodes: 
     ensures { result ≡ mask_of (λ u. one_if (ltb (copies partitions (bits_at rows.now) u) (get_or caps.now u 0))) nodes }
 {
     let mut free = 0;
-    let mut left = sets::below(nodes);
-    while left != 0 {
-        let u = sets::least(left);
-        left = sets::rest(left);
+    for u in 0..nodes {
         if count(rows, partitions, held, u) < swaps::cell(caps, u as usize) {
             free = sets::with(free, u);
         }

@@ -40,28 +40,32 @@ get_or_ids s at (suc m) (suc j) h =
     let e : at + 4 + 4 * j ≡ at + 4 * suc j = omega arith in
     get_or_ids s (at + 4) m j (omega arith) ∙ ap (λ (k : ℕ). number_at s k 4) e
 
-module _ (s : List ℕ) (at m : ℕ) (some : 0 < m) where
+-- The ids from id j on: that one and the others.
+module _ (s : List ℕ) (from m j : ℕ) (some : j < m) where
+  ids_from : ids_at s (from + 4 * j) (m - j) ≡ number_at s (from + 4 * j) 4 ∷ ids_at s (from + 4 * (j + 1)) (m - (j + 1))
+  ids_from =
+      let e : from + 4 * j + 4 ≡ from + 4 * (j + 1) = omega arith in
+      let f : m - j - 1 ≡ m - (j + 1) = omega arith in
+      ids_more s (from + 4 * j) (m - j) (omega arith) ∙ ap₂ (λ (a n : ℕ). number_at s (from + 4 * j) 4 ∷ ids_at s a n) e f
+
   -- A scan for a 0 that meets one has found it,
-  pub zero_found : number_at s at 4 ≡ 0 → mem 0 (ids_at s at m) ≡ true
-  zero_found e = ap (mem 0) (ids_more s at m some) ∙ mem_head 0 (number_at s at 4) (ids_at s (at + 4) (m - 1)) (sym e)
+  pub zero_found : number_at s (from + 4 * j) 4 ≡ 0 → mem 0 (ids_at s (from + 4 * j) (m - j)) ≡ true
+  zero_found e = ap (mem 0) ids_from ∙ mem_head 0 (number_at s (from + 4 * j) 4) (ids_at s (from + 4 * (j + 1)) (m - (j + 1))) (sym e)
 
   -- and else goes on.
-  pub zero_passed : (number_at s at 4 ≡ 0 → ⊥) → mem 0 (ids_at s at m) ≡ mem 0 (ids_at s (at + 4) (m - 1))
-  zero_passed h = ap (mem 0) (ids_more s at m some) ∙ mem-skip 0 (number_at s at 4) (ids_at s (at + 4) (m - 1)) (λ e. h (sym e))
+  pub zero_passed : (number_at s (from + 4 * j) 4 ≡ 0 → ⊥) → mem 0 (ids_at s (from + 4 * j) (m - j)) ≡ mem 0 (ids_at s (from + 4 * (j + 1)) (m - (j + 1)))
+  zero_passed h = ap (mem 0) ids_from ∙ mem-skip 0 (number_at s (from + 4 * j) 4) (ids_at s (from + 4 * (j + 1)) (m - (j + 1))) (λ e. h (sym e))
 
   -- A scan that meets an id not above the last has found the fault,
-  pub fall-found : (last : ℕ) → number_at s at 4 ≤ last → rising_from last (ids_at s at m) ≡ false
+  pub fall-found : (last : ℕ) → number_at s (from + 4 * j) 4 ≤ last → rising_from last (ids_at s (from + 4 * j) (m - j)) ≡ false
   unfolding rising_from
-  fall-found last h =
-      ap (rising_from last) (ids_more s at m some)
-      ∙ ap (λ (t : Bool). t && rising_from (number_at s at 4) (ids_at s (at + 4) (m - 1))) (le-ltb last (number_at s at 4) h)
+  fall-found last h = ap (rising_from last) ids_from ∙ ap (λ (t : Bool). t && rising_from (number_at s (from + 4 * j) 4) (ids_at s (from + 4 * (j + 1)) (m - (j + 1)))) (le-ltb last _ h)
 
   -- and else goes on from it.
-  pub rise_passed : (last : ℕ) → last < number_at s at 4 → rising_from last (ids_at s at m) ≡ rising_from (number_at s at 4) (ids_at s (at + 4) (m - 1))
+  pub rise_passed : (last : ℕ) → last < number_at s (from + 4 * j) 4
+      → rising_from last (ids_at s (from + 4 * j) (m - j)) ≡ rising_from (number_at s (from + 4 * j) 4) (ids_at s (from + 4 * (j + 1)) (m - (j + 1)))
   unfolding rising_from
-  rise_passed last h =
-      ap (rising_from last) (ids_more s at m some)
-      ∙ ap (λ (t : Bool). t && rising_from (number_at s at 4) (ids_at s (at + 4) (m - 1))) (lt-ltb last (number_at s at 4) h)
+  rise_passed last h = ap (rising_from last) ids_from ∙ ap (λ (t : Bool). t && rising_from (number_at s (from + 4 * j) 4) (ids_at s (from + 4 * (j + 1)) (m - (j + 1)))) (lt-ltb last _ h)
 
 -- Where not all ids are there the last one counts as 0: one of them is 0,
 pub zero_missing : (s : List ℕ) (at m : ℕ) → (length s - at) / 4 < m → mem 0 (ids_at s at m) ≡ true

@@ -14,7 +14,7 @@ use numbers::word_in;
 fn ids_in(n: usize, from: usize) -> usize
     ensures { result ≡ (n - from) / 4 }
 {
-    if n < from { 0 } else { (n - from) / 4 }
+    n.saturating_sub(from) / 4
 }
 
 // Whether one of the ids from byte `from` on is 0.
@@ -24,14 +24,10 @@ pub fn has_zero(bytes: &[u8], from: usize, count: usize) -> bool
     if ids_in(bytes.len(), from) < count {
         return true;
     }
-    let mut at = from;
-    let mut left = count;
-    while 0 < left {
-        if word_in(bytes, at) == 0 {
+    for j in 0..count {
+        if word_in(bytes, from + 4 * j) == 0 {
             return true;
         }
-        at += 4;
-        left -= 1;
     }
     false
 }
@@ -44,16 +40,12 @@ pub fn ids_rise(bytes: &[u8], from: usize, count: usize) -> bool
         return false;
     }
     let mut last = 0;
-    let mut at = from;
-    let mut left = count;
-    while 0 < left {
-        let id = word_in(bytes, at);
+    for j in 0..count {
+        let id = word_in(bytes, from + 4 * j);
         if id <= last {
             return false;
         }
         last = id;
-        at += 4;
-        left -= 1;
     }
     true
 }
@@ -63,9 +55,7 @@ pub fn put_ids(cells: &mut [u32], bytes: &[u8], row: usize, from: usize, count: 
     requires { (row * row_cells + count ≤ length cells.old) × (from + 4 * count ≤ length bytes.now) }
     ensures { cells.new ≡ put (row * row_cells) (λ j. number_at bytes.now (from + 4 * j) 4) count cells.old }
 {
-    let mut j = 0;
-    while j < count {
+    for j in 0..count {
         cells[row * Cluster::ROW + j] = word_in(bytes, from + 4 * j);
-        j += 1;
     }
 }

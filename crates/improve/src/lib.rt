@@ -5,13 +5,13 @@ ghost use Rattle.std.specs.Prelude.{◌≡◌, ◌≤◌, length, replicate};
 ghost use Rattle.cluster.specs.Terms.{buffer_rows};
 ghost use Rattle.cycles.specs.ModelFound.{walk_cells};
 ghost use Rattle.sets.specs.ModelBits.{bit, below_of};
-ghost use Rattle.swaps.specs.ModelSwaps.{Tight};
-ghost use Rattle.holders.specs.ModelHolders.{Held};
+ghost use Rattle.holders.specs.ModelHolders.{Follows, Held};
 ghost use Rattle.unions.specs.ModelUnions.{kept_cells};
 ghost use Rattle.graph.specs.ModelKept.{Kept};
 ghost use Rattle.improve.specs.ModelImprove.{ran_in};
 
 use steps::Left;
+use swaps::instance::Instance;
 
 // How a run ended: whether nothing is left to improve, how many improvements were made, and the leaves of rows of which nothing is kept.
 #[derive(Clone, Copy)]
@@ -19,17 +19,6 @@ pub struct Ended {
     pub finished: bool,
     pub improvements: u32,
     pub stale: u64,
-}
-
-// How a run ended.
-fn verdict(finished: bool, improvements: u32, stale: u64) -> Ended
-    ensures { (result.finished ≡ finished) × (result.improvements ≡ improvements) × (result.stale ≡ stale) }
-{
-    Ended {
-        finished,
-        improvements,
-        stale,
-    }
 }
 
 // The run from the rows in hand, with an allowance of improvements; y and q hold no walk, and `kept` nothing of the rows. A run that has spent its
@@ -40,36 +29,28 @@ pub fn go(
     rows: &mut [u32],
     tight: &mut [u32],
     held: &mut [u32],
-    former: &[u32],
-    had: &[u32],
-    partitions: usize,
-    mates: &[u32],
-    caps: &[u32],
+    given: &Instance,
     nodes: u32,
-    z: u32,
     allowance: u32,
     kept: &mut [u32],
 ) -> Ended
-    requires { (partitions ≤ buffer_rows) × (partitions ≤ length rows.old) × (y.old ≡ replicate walk_cells 0) × (q.old ≡ replicate walk_cells 0)
-        × (length kept.old ≡ kept_cells) × Tight mates.now z rows.old partitions tight.old
-        × Held rows.old partitions held.old × Held former.now partitions had.now }
-    ensures { (rows.new
-        ≡ (ran_in former.now partitions mates.now caps.now nodes z allowance rows.old).state.rows)
+    requires { let g = given.now in (g.partitions ≤ buffer_rows) × (g.partitions ≤ length rows.old) × (y.old ≡ replicate walk_cells 0) × (q.old ≡ replicate walk_cells 0)
+        × (length kept.old ≡ kept_cells) × Follows g rows.old tight.old held.old × Held g.former.now g.partitions g.had.now }
+    ensures { let g = given.now in (rows.new
+        ≡ (ran_in g.former.now g.partitions g.mates.now g.caps.now nodes g.z allowance rows.old).state.rows)
         × (result.finished
-        ≡ (ran_in former.now partitions mates.now caps.now nodes z allowance rows.old).finished)
+        ≡ (ran_in g.former.now g.partitions g.mates.now g.caps.now nodes g.z allowance rows.old).finished)
         × (result.improvements
-        ≡ (ran_in former.now partitions mates.now caps.now nodes z allowance rows.old).steps)
+        ≡ (ran_in g.former.now g.partitions g.mates.now g.caps.now nodes g.z allowance rows.old).steps)
         × (length rows.new ≡ length rows.old)
-        × Tight mates.now z rows.new partitions tight.new × Held rows.new partitions held.new
-        × Kept rows.new former.now partitions mates.now (below_of nodes) z (bit result.stale) kept.new }
+        × Follows g rows.new tight.new held.new
+        × Kept rows.new g.former.now g.partitions g.mates.now (below_of nodes) g.z (bit result.stale) kept.new }
 {
     let mut last = Left {
         len: 0,
         stale: u64::MAX,
     };
-    let most = allowance as u64;
-    let mut done = 0;
-    while done <= most {
+    for done in 0..=allowance {
         last = steps::step(
             y,
             q,
@@ -77,20 +58,22 @@ pub fn go(
             rows,
             tight,
             held,
-            former,
-            had,
-            partitions,
-            mates,
-            caps,
+            given,
             nodes,
-            z,
-            done < most,
+            done < allowance,
             kept,
         );
         if last.len == 0 {
-            return verdict(true, done as u32, last.stale);
+            return Ended {
+                finished: true,
+                improvements: done,
+                stale: last.stale,
+            };
         }
-        done += 1;
     }
-    verdict(false, allowance, last.stale)
+    Ended {
+        finished: false,
+        improvements: allowance,
+        stale: last.stale,
+    }
 }

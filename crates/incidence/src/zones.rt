@@ -9,11 +9,7 @@ use cluster::Cluster;
 pub fn used(c: Cluster) -> usize
     ensures { (result ≡ length (topology c).nodes) × (result ≤ most_nodes) × (result ≤ c.count) }
 {
-    if c.count < Cluster::NODES {
-        c.count
-    } else {
-        Cluster::NODES
-    }
+    c.count.min(Cluster::NODES)
 }
 
 // The first node of the zone of node b.
@@ -22,12 +18,10 @@ fn zone_index(c: Cluster, b: usize) -> u32
     ensures { result ≡ zone_index (topology c) b }
 {
     let zone = c.nodes[b].zone;
-    let mut i = 0;
-    while i < b {
+    for i in 0..b {
         if c.nodes[i].zone == zone {
             return i as u32;
         }
-        i += 1;
     }
     b as u32
 }
@@ -38,10 +32,8 @@ pub fn zones(c: Cluster) -> [u32; Cluster::NODES]
 {
     let n = used(c);
     let mut zones = [0u32; Cluster::NODES];
-    let mut b = 0;
-    while b < n {
+    for b in 0..n {
         zones[b] = zone_index(c, b);
-        b += 1;
     }
     zones
 }

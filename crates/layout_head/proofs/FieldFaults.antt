@@ -10,22 +10,15 @@ use lib.ListN.{length, drop, length-append, length-drop}
 use Rattle.sums.proofs.Sum.{lt_or_ge}
 use Rattle.cluster.specs.Terms.{mem}
 use Rattle.cluster.proofs.Lists.{mem_head, mem-none}
+use Rattle.cluster.specs.declared.refusal.Refusal.TheVariants.{Missing}
 use Rattle.fields.specs.RecordField.{field, field_at, refusal_of}
 use Rattle.fields.specs.declared.Field.{Field}
 use Rattle.fields.specs.declared.Field.TheVariants.{Body, Refused}
-use Rattle.fields.proofs.RecordField.{refused-some, whole, length-field}
+use Rattle.fields.proofs.RecordField.{refusal-some, whole, length-field}
 use Rattle.layout_head.specs.RecordHeadFaults.{next_field}
 use Rattle.layout_head.proofs.NumberFields.{next-missing, next_there}
 
 -- ---- refusals
-
--- The refusal of a field that must come next is not 0.
-pub next-refused : (s : List ℕ) (at tag exact r b : ℕ) → next_field s at tag exact ≡ Refused r b → 0 < r
-next-refused s at tag exact r b e =
-    ⊎_elim (λ l. (refused-some s at (tag ∷ []) exact r b (sym (next_there s at tag exact l) ∙ e)).0)
-    (λ g. let w : Refused 7 (length s) ≡ Refused r b = sym (next-missing s at tag exact g) ∙ e in
-    let d : r ≡ 7 = cc in omega arith)
-    (lt_or_ge at (length s))
 
 -- Where no tag is allowed, a field is refused.
 pub none-refused : (s : List ℕ) (at exact : ℕ) → 0 < refusal_of (field_at s at [] exact)
@@ -33,14 +26,14 @@ none-refused s at exact = go (field_at s at [] exact) refl
   where
     go : (f : Field) → field_at s at [] exact ≡ f → 0 < refusal_of f
     go (Body tag start len) e = absurd (mem-none tag (whole s at [] exact tag start len e).member)
-    go (Refused refusal byte) e = (refused-some s at [] exact refusal byte e).0
+    go (Refused refusal byte) e = refusal-some refusal
 
 -- A whole field stands before the end of the record.
 pub next_body : (s : List ℕ) (at tag exact t start len : ℕ) → next_field s at tag exact ≡ Body t start len
     → field_at s at (tag ∷ []) exact ≡ Body t start len
 next_body s at tag exact t start len e =
     ⊎_elim (λ l. sym (next_there s at tag exact l) ∙ e)
-    (λ g. let w : Refused 7 (length s) ≡ Body t start len = sym (next-missing s at tag exact g) ∙ e in
+    (λ g. let w : Refused Missing (length s) ≡ Body t start len = sym (next-missing s at tag exact g) ∙ e in
     let z : ◌≡◌ {A = ℕ} 0 1 = cc in absurd (omega arith))
     (lt_or_ge at (length s))
 

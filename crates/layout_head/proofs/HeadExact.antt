@@ -9,17 +9,18 @@ use native.Mathlib.Nat.{add-zero}
 use native.Mathlib.Omega.{arith}
 use lib.ListN.{length, drop}
 use Rattle.sums.proofs.Tests.{both, true_or_false}
+use Rattle.cluster.specs.TermsRefusal.{number_of}
 use Rattle.fields.specs.RecordField.{bytes_of, Bytes, number_at, field, legal}
 use Rattle.fields.specs.declared.Field.{Field}
 use Rattle.fields.specs.declared.Field.TheVariants.{Body, Refused}
 use Rattle.numbers.proofs.Numbers.{length-bytes, bytes_there, number_here}
-use Rattle.fields.proofs.RecordField.{legal-any, whole, field_back, field_here, body_here, rest_here}
+use Rattle.fields.proofs.RecordField.{refusal-some, legal-any, whole, field_back, field_here, body_here, rest_here}
 use Rattle.layout_head.specs.declared.Numbers.{Numbers}
 use Rattle.layout_head.specs.declared.table.Entry.{Entry}
 use Rattle.layout_head.specs.RecordHead.{head_table, numbers_in, numbers_from, holds, all_hold, in_range, number_fields, head_fields}
 use Rattle.layout_head.specs.RecordHeadFaults.{next_field, HeadRead, head_ends, head_refused, head_number, head_from}
 use Rattle.layout_head.proofs.NumberFields.{next_there, six_values, Lawful, Each, table_lawful, entry-width, entry-range, size_of}
-use Rattle.layout_head.proofs.FieldFaults.{next-refused, next_body, tag_alone, before_end}
+use Rattle.layout_head.proofs.FieldFaults.{next_body, tag_alone, before_end}
 
 -- ---- what is read, is in the bytes
 
@@ -35,7 +36,7 @@ head_not_zero (e ∷ es) s at vs r b h = go (next_field s at e.tag 0) refl (λ n
   where
     go : (f : Field) → next_field s at e.tag 0 ≡ f → ((next v : ℕ) → head_from es s next (vs ++ (v ∷ [])) ≡ head_refused r b → 0 < r)
         → head_number (λ next v. head_from es s next (vs ++ (v ∷ []))) s at e f ≡ head_refused r b → 0 < r
-    go (Refused x y) d later q = let z : x ≡ r = cc in omega (arith, next-refused s at e.tag 0 x y d)
+    go (Refused x y) d later q = let z : number_of x ≡ r = cc in omega (arith, refusal-some x)
     go (Body t start len) d later q =
         let v = number_at s start len in
         let pick : ((k : Bool) → holds e v ≡ k → cond k (head_from es s (start + len) (vs ++ (v ∷ []))) (head_refused 4 at) ≡ head_refused r b) =
@@ -76,7 +77,7 @@ numbers-back (e ∷ es) s at vs n end b l h =
     go : (f : Field) → next_field s at e.tag 0 ≡ f
         → ((next v : ℕ) → head_from es s next (vs ++ (v ∷ [])) ≡ head_ends n end → NumbersRead es s next (vs ++ (v ∷ [])) n end)
         → head_number (λ next v. head_from es s next (vs ++ (v ∷ []))) s at e f ≡ head_ends n end → NumbersRead (e ∷ es) s at vs n end
-    go (Refused x y) d later q = absurd (refused_ends x y n end q)
+    go (Refused x y) d later q = absurd (refused_ends (number_of x) y n end q)
     go (Body t start len) d later q =
         let v = number_at s start len in
         let pick : ((k : Bool) → holds e v ≡ k → cond k (head_from es s (start + len) (vs ++ (v ∷ []))) (head_refused 4 at) ≡ head_ends n end) =

@@ -9,6 +9,8 @@ use native.Mathlib.Numerals.{add-one}
 use native.Mathlib.Omega.{arith}
 use lib.ListN.{length, take, drop, set, length-set}
 use lib.Seq.{take_all, take-suc-set}
+use Rattle.cluster.specs.declared.refusal.Refusal.{Refusal}
+use Rattle.cluster.specs.TermsRefusal.{number_of}
 use Rattle.fields.specs.RecordField.{number_at, Whole}
 use Rattle.fields.specs.declared.Field.TheVariants.{Body, Refused}
 use Rattle.layout_head.specs.declared.Numbers.{Numbers}
@@ -53,7 +55,7 @@ module _ {i : ℕ} (inside : i < length head_table) {e : Entry} (here : e ≡ en
 
   module _ {s : List ℕ} {nu : Numbers} {at : ℕ} (k : HeadTo s nu i at) where
     -- A field that is not whole stops the reading.
-    pub head_stops : {refusal byte : ℕ} → Refused refusal byte ≡ next_field s at e.tag 0 → head_from head_table s 0 [] ≡ head_refused refusal byte
+    pub head_stops : {refusal : Refusal} {byte : ℕ} → Refused refusal byte ≡ next_field s at e.tag 0 → head_from head_table s 0 [] ≡ head_refused (number_of refusal) byte
     head_stops {refusal} {byte} f = k.same ∙ head_stop i inside e here s at (take i (numbers_in nu)) (Refused refusal byte) f refusal byte refl
 
     module _ {tag start len v : ℕ} (f : Body tag start len ≡ next_field s at e.tag 0) (value : v ≡ number_at s start len) where

@@ -16,6 +16,9 @@ use Rattle.sums.proofs.Tests.{both}
 use Rattle.cells.proofs.Cells.{tab_get_or}
 use Rattle.cluster.specs.Terms.{most_bits, most_copies, mem}
 use Rattle.cluster.proofs.Lists.{mem_cases}
+use Rattle.cluster.specs.declared.refusal.Refusal.{Refusal}
+use Rattle.cluster.specs.declared.refusal.Refusal.TheVariants.{Missing}
+use Rattle.cluster.specs.TermsRefusal.{number_of as number_of_refusal}
 use Rattle.fields.specs.RecordField.{bytes_of, field, number_at, written, rule_of, legal, field_at, Whole}
 use Rattle.fields.specs.declared.Field.{Field}
 use Rattle.fields.specs.declared.Field.TheVariants.{Body, Refused}
@@ -30,7 +33,7 @@ use Rattle.fields.proofs.Puts.{put_next}
 
 module _ (s : List ℕ) (at tag exact : ℕ) where
   -- At the end of the record the field is missing.
-  pub next-missing : length s ≤ at → next_field s at tag exact ≡ Refused 7 (length s)
+  pub next-missing : length s ≤ at → next_field s at tag exact ≡ Refused Missing (length s)
   unfolding next_field
   next-missing h = simp (le-leb (length s) at h)
 
@@ -180,7 +183,7 @@ module _ (i : ℕ) (inside : i < length head_table) (e : Entry) (here : e ≡ en
     first = ap (λ (es : List Entry). head_from es s at vs) entries ∙ ap (head_number on s at e) (sym read)
 
     -- A field that is not whole stops it.
-    pub head_stop : (r b : ℕ) → f ≡ Refused r b → head_from (drop i head_table) s at vs ≡ head_refused r b
+    pub head_stop : (r : Refusal) (b : ℕ) → f ≡ Refused r b → head_from (drop i head_table) s at vs ≡ head_refused (number_of_refusal r) b
     head_stop r b q = first ∙ ap (head_number on s at e) q
 
     module _ (t start len v : ℕ) (whole : f ≡ Body t start len) (value : v ≡ number_at s start len) where

@@ -76,10 +76,7 @@ impl Entry {
     pub fn holds(self, value: u32) -> bool
         ensures { result ≡ holds self value }
     {
-        if value < self.least {
-            return false;
-        }
-        value <= self.most
+        self.least <= value && value <= self.most
     }
 }
 
@@ -126,13 +123,10 @@ pub fn in_range(n: Numbers) -> bool
     ensures { result ≡ in_range n }
 {
     let values = numbers_in(n);
-    let mut i = 0;
-    while i < HEAD.len() {
-        let entry = Entry::at(i);
-        if !entry.holds(values[i]) {
+    for i in 0..HEAD.len() {
+        if !Entry::at(i).holds(values[i]) {
             return false;
         }
-        i += 1;
     }
     true
 }

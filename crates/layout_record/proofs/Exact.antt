@@ -16,13 +16,11 @@ use Rattle.cell_rows.proofs.CellRows.{formed-rising, rising-ids}
 use Rattle.cell_rows.proofs.CellLayouts.{get_or_row_at, row_at_take, length-rows_in, row-rows_in, length-cells_of, row_at-cells_of, rows_in_take, rows_in-cells_of, holds-cells_of, id-rows_in, cells_of-rows_in}
 use Rattle.fields.specs.RecordField.{Bytes, over}
 use Rattle.layout_head.specs.declared.Numbers.{Numbers}
-use Rattle.layout_record.specs.declared.ReadLayout.{ReadLayout}
-use Rattle.layout_record.specs.declared.Written.{Written}
 use Rattle.layout_head.specs.RecordHead.{head_table, in_range, head_fields}
 use Rattle.layout_rows.specs.RecordLayout.{HasLayout, layout_row_fields, layout_record, record_length, IsLayoutRecord}
 use Rattle.layout_head.specs.RecordHeadFaults.{HeadRead, head_ends, head_refused, head_from}
 use Rattle.layout_rows.specs.RecordLayoutFaults.{LayoutRead, layout_accepted, rows_from, read_layout, row_fits, rows_fit, write_fault}
-use Rattle.layout_record.specs.RecordLayoutAnswer.{layout_answer, read_layout_of, assignment_read, write_answer, out_after}
+use Rattle.layout_record.specs.RecordLayoutAnswer.{ReadLayout, Written, layout_answer, read_layout_of, assignment_read, write_answer, out_after}
 use Rattle.layout_record.proofs.RecordLaws.{length_record}
 use Rattle.layout_record.specs.RecordLayoutClaims.{Words, WasRecord, ReadsLayout, WasRead, CanWrite, WritesLayout, WasWritten}
 use Rattle.layout_head.proofs.NumberFields.{few_bits, few_copies}

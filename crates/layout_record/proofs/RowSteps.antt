@@ -12,6 +12,8 @@ use borrow.Author.Tests.{eq-eqb, ne_eqb, lt-ltb, le-ltb}
 use Rattle.sums.proofs.Sum.{lt_or_ge}
 use Rattle.cells.specs.ModelCells.{put}
 use Rattle.cluster.specs.Terms.{row_cells, buffer_rows, layout_cells, Layout, cells_of, rows_in}
+use Rattle.cluster.specs.declared.refusal.Refusal.{Refusal}
+use Rattle.cluster.specs.TermsRefusal.{number_of}
 use Rattle.fields.specs.RecordField.{number_at, over, ids_at}
 use Rattle.fields.specs.declared.Field.{Field}
 use Rattle.fields.specs.declared.Field.TheVariants.{Body, Refused}
@@ -36,7 +38,7 @@ module _ (s : List ℕ) (at : ℕ) (n : Numbers) (L : Layout) (k : ℕ) (some : 
       ap (λ (j : ℕ). rows_from j s at n L) e ∙ ap (row_in (λ next M. rows_from (k - 1) s next n M) s at n L) (sym read)
 
   -- A field that is not whole stops the reading.
-  pub rows_stop : (r b : ℕ) → f ≡ Refused r b → rows_from k s at n L ≡ layout_refused r b
+  pub rows_stop : (r : Refusal) (b : ℕ) → f ≡ Refused r b → rows_from k s at n L ≡ layout_refused (number_of r) b
   rows_stop r b e = first ∙ ap (row_in (λ next M. rows_from (k - 1) s next n M) s at n L) e
 
   module _ (t start len x : ℕ) (whole : f ≡ Body t start len)

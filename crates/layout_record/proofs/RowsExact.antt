@@ -17,7 +17,7 @@ use Rattle.fields.specs.RecordField.{bytes_of, Bytes, part, number_at, field, ru
 use Rattle.fields.specs.declared.Field.{Field}
 use Rattle.fields.specs.declared.Field.TheVariants.{Body, Refused}
 use Rattle.numbers.proofs.Numbers.{length-bytes, bytes_there, number_here, part-append}
-use Rattle.fields.proofs.RecordField.{one_tag, legal_only, whole, field_back, field_here, body_here, rest_here}
+use Rattle.fields.proofs.RecordField.{refusal-some, one_tag, legal_only, whole, field_back, field_here, body_here, rest_here}
 use Rattle.layout_head.specs.declared.Numbers.{Numbers}
 use Rattle.layout_rows.specs.RecordLayout.{layout_row_field, layout_row_fields}
 use Rattle.layout_head.specs.RecordHeadFaults.{next_field}
@@ -26,7 +26,7 @@ use Rattle.id_bytes.proofs.IdBytes.{length_ids, length-id-bytes, ids_here, ids-b
 use Rattle.layout_record.proofs.CellsMore.{length_more}
 use Rattle.layout_head.proofs.NumberFields.{next_there}
 use Rattle.layout_rows.proofs.RowFaults.{fault-partition, fault_zero, fault-next, fault_falls, fault-none, end_whole, end_more}
-use Rattle.layout_head.proofs.FieldFaults.{next-refused, none-refused, next_body, tag_alone, before_end}
+use Rattle.layout_head.proofs.FieldFaults.{none-refused, next_body, tag_alone, before_end}
 
 -- Rows as a record has them: R rising ids of 32 bits each.
 pub record Rows (R : ℕ) (M : Layout) : Type 0 where
@@ -142,7 +142,7 @@ module _ (s : List ℕ) (b : Bytes s) (n : Numbers) where
           → ((at' : ℕ) (L' : Layout) → (rows_from k s at' n L').refusal ≡ 0 → RowsRead (rows_from k s at' n L') k s at' n L')
           → (row_in (λ next M. rows_from k s next n M) s at n L f).refusal ≡ 0
           → RowsRead (row_in (λ next M. rows_from k s next n M) s at n L f) (suc k) s at n L
-      go (Refused r y) e i q = absurd (omega (arith, next-refused s at 10 (2 + 4 * n.replication) r y e))
+      go (Refused r y) e i q = absurd (omega (arith, refusal-some r))
       go (Body t start len) e i q =
           let fault = layout_row_fault (2 ^ n.bits) (length L) (number_at s start 2) (ids_at s (start + 2) n.replication) in
           let M = L ++ (ids_at s (start + 2) n.replication ∷ []) in

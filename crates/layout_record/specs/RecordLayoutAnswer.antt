@@ -1,13 +1,36 @@
 -- What `read_layout` and `write_layout` answer, and what the lent cells and bytes then hold.
 -- Assumes nothing.
-use Rattle.std.specs.Prelude.{ℕ, ◌^◌, cond, List, ◌++◌, ltb, eqb, length, drop}
+use Rattle.std.specs.Prelude.{ℕ, ◌^◌, cond, List, ◌++◌, ltb, eqb, length, drop, Result, Ok, Err}
 use Rattle.cluster.specs.Terms.{layout_cells, cells_of, rows_in}
+use Rattle.cluster.specs.declared.refusal.Refusal.{Refusal}
+use Rattle.cluster.specs.TermsRefusal.{number_of}
+use Rattle.fields.specs.declared.Refused.{Refused}
 use Rattle.fields.specs.RecordField.{over}
 use Rattle.layout_head.specs.declared.Numbers.{Numbers}
-use Rattle.layout_record.specs.declared.ReadLayout.{ReadLayout}
-use Rattle.layout_record.specs.declared.Written.{Written}
+use Rattle.layout_head.specs.RecordHeadFaults.{no_numbers}
 use Rattle.layout_rows.specs.RecordLayout.{layout_record, record_length}
 use Rattle.layout_rows.specs.RecordLayoutFaults.{LayoutRead, layout_refused, read_layout, write_fault}
+
+-- What a reading yields: the refusal, 0 for none, with its byte, and the numbers.
+pub record ReadLayout : Type 0 where
+  pub refusal : ℕ
+  pub byte : ℕ
+  pub numbers : Numbers
+
+-- What `read_layout` answers, as the paper's numbers: a refused reading yields no numbers.
+abbrev pub read_as : Result Numbers Refused → ReadLayout
+read_as (Ok n) = record { refusal = 0; byte = 0; numbers = n }
+read_as (Err r) = record { refusal = number_of r.refusal; byte = r.at; numbers = no_numbers }
+
+-- What writing yields: the refusal, 0 for none, and the record's length.
+pub record Written : Type 0 where
+  pub refusal : ℕ
+  pub length : ℕ
+
+-- What `write_layout` answers, as the paper's numbers.
+abbrev pub written_as : Result ℕ Refusal → Written
+written_as (Ok n) = record { refusal = 0; length = n }
+written_as (Err refusal) = record { refusal = number_of refusal; length = 0 }
 
 -- "8 for the assignment buffer", with byte 0; then field by field.
 unfoldable pub layout_outcome : List ℕ → List ℕ → LayoutRead

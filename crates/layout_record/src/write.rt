@@ -14,10 +14,8 @@ fn put_ids(out: &mut [u8], at: usize, cells: &[u32], from: usize, count: usize)
     requires { (at + 4 * count ≤ length out.old) × (from + count ≤ length cells.now) }
     ensures { out.new ≡ written out.old at (id_bytes (take count (drop from cells.now))) }
 {
-    let mut j = 0;
-    while j < count {
+    for j in 0..count {
         numbers::put_word(out, at + 4 * j, cells[from + j]);
-        j += 1;
     }
 }
 
@@ -38,11 +36,9 @@ fn put_rows(out: &mut [u8], cells: &[u32], partitions: usize, count: usize)
     ensures { out.new ≡ written out.old 29 (layout_row_fields 0 (rows_in partitions cells.now)) }
 {
     let mut at = table::HEAD_BYTES;
-    let mut p = 0;
-    while p < partitions {
+    for p in 0..partitions {
         put_row(out, at, cells, p, count);
         at += range::ROW + 4 * count;
-        p += 1;
     }
 }
 

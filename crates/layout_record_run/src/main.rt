@@ -3,6 +3,8 @@
 
 ghost use Rattle.std.specs.Prelude.{◌<◌, ◌≡◌, length};
 
+use cluster::refusal::Refusal;
+use fields::Refused;
 use layout_head::Numbers;
 use std::io;
 
@@ -46,8 +48,18 @@ fn cells() -> [u32; 2048]
     c
 }
 
-fn show(rt: &impl Print, name: &str, refusal: u32, place: usize) -> io::Result<()> {
-    println!(rt; "{name}: {refusal} {place}")
+fn show_read(rt: &impl Print, name: &str, read: Result<Numbers, Refused>) -> io::Result<()> {
+    match read {
+        Ok(_) => println!(rt; "{name}: 0 0"),
+        Err(refused) => println!(rt; "{name}: {} {}", u32::from(refused.refusal), refused.at),
+    }
+}
+
+fn show_written(rt: &impl Print, name: &str, written: Result<usize, Refusal>) -> io::Result<()> {
+    match written {
+        Ok(length) => println!(rt; "{name}: 0 {length}"),
+        Err(refusal) => println!(rt; "{name}: {} 0", u32::from(refusal)),
+    }
 }
 
 // Reads the first bytes.
@@ -56,8 +68,8 @@ fn read(rt: &impl Print, name: &str, bytes: &[u8], len: usize) -> io::Result<()>
         return Ok(());
     }
     let mut c = [0u32; 2048];
-    let r = layout_record::read_layout(&bytes[..len], &mut c);
-    show(rt, name, r.refusal, r.byte)
+    let read = layout_record::read_layout(&bytes[..len], &mut c);
+    show_read(rt, name, read)
 }
 
 // The first bytes of the sample.
@@ -79,8 +91,8 @@ fn read_altered(rt: &impl Print, name: &str, at: usize, high: u8, low: u8) -> io
 fn read_short_buffer(rt: &impl Print) -> io::Result<()> {
     let bytes = sample();
     let mut c = [0u32; 2047];
-    let r = layout_record::read_layout(&bytes, &mut c);
-    show(rt, "read into 2,047 cells", r.refusal, r.byte)
+    let read = layout_record::read_layout(&bytes, &mut c);
+    show_read(rt, "read into 2,047 cells", read)
 }
 
 // Writes into the first bytes of an output.
@@ -95,8 +107,8 @@ fn write(
     if out.len() < room {
         return Ok(());
     }
-    let w = layout_record::write_layout(n, c, &mut out[..room]);
-    show(rt, name, w.refusal, w.length)
+    let written = layout_record::write_layout(n, c, &mut out[..room]);
+    show_written(rt, name, written)
 }
 
 // The sample's rows with one cell altered.
@@ -127,8 +139,8 @@ fn bytes_of(rt: &impl Print, bytes: &[u8]) -> io::Result<()> {
 fn both_ways(rt: &impl Print) -> io::Result<()> {
     let c = cells();
     let mut out = [255u8; 68];
-    let w = layout_record::write_layout(numbers(), &c, &mut out);
-    show(rt, "write", w.refusal, w.length)?;
+    let written = layout_record::write_layout(numbers(), &c, &mut out);
+    show_written(rt, "write", written)?;
     bytes_of(rt, &out)?;
     read(rt, "read again", &out, 55)
 }

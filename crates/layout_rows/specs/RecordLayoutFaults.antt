@@ -3,6 +3,7 @@
 use Rattle.std.specs.Prelude.{ℕ, zero, suc, ◌+◌, ◌*◌, ◌^◌, Bool, not, ◌&&◌, ◌||◌, cond, List, [], ◌∷◌, ◌++◌, ltb, leb, eqb, length}
 use Rattle.sums.specs.TermsSums.{every_to}
 use Rattle.cluster.specs.Terms.{buffer_rows, layout_cells, Layout, mem, rising, row_at, ids_in, blank, formed}
+use Rattle.cluster.specs.TermsRefusal.{number_of}
 use Rattle.fields.specs.RecordField.{number_at, ids_at, field_at, refusal_of, place_of}
 use Rattle.fields.specs.declared.Field.{Field}
 use Rattle.fields.specs.declared.Field.TheVariants.{Body, Refused}
@@ -41,7 +42,7 @@ end_in s at n L =
 
 -- A row, and what comes after it. L has the rows before it; "for field 10 only 2 + 4R with this record's R is legal".
 abbrev pub row_in : (ℕ → Layout → LayoutRead) → List ℕ → ℕ → Numbers → Layout → Field → LayoutRead
-row_in go s at n L (Refused refusal byte) = layout_refused refusal byte
+row_in go s at n L (Refused refusal byte) = layout_refused (number_of refusal) byte
 row_in go s at n L (Body tag start len) =
     cond (eqb (layout_row_fault (2 ^ n.bits) (length L) (number_at s start 2) (ids_at s (start + 2) n.replication)) 0)
     (go (start + len) (L ++ (ids_at s (start + 2) n.replication ∷ [])))

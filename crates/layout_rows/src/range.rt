@@ -1,10 +1,12 @@
 // The faults of what is to be written, and the record's length.
 ghost use Rattle.std.specs.Prelude.{◌≡◌, ◌≤◌, ◌<◌, length};
 ghost use Rattle.cluster.specs.Terms.{most_bits, most_copies, buffer_rows, layout_cells};
+ghost use Rattle.cluster.specs.TermsRefusal.{refusal_of};
 ghost use Rattle.layout_rows.specs.RecordLayout.{record_length};
 ghost use Rattle.layout_rows.specs.RecordLayoutFaults.{row_fits, rows_fit, write_fault};
 
-use cluster::{Cluster, refusal};
+use cluster::Cluster;
+use cluster::refusal::Refusal;
 use layout_head::{Numbers, table};
 
 // The bytes of a row's field before its ids.
@@ -24,7 +26,7 @@ fn row_fits(cells: &[u32], partitions: usize, replication: u32, p: usize) -> boo
     ensures { result ≡ row_fits cells.now partitions replication p }
 {
     if p < partitions {
-        return cell_rows::row_ids(cells, p) == replication;
+        return cell_rows::row_ids(cells, p) == Some(replication);
     }
     cell_rows::row_is_blank(cells, p)
 }
@@ -34,35 +36,33 @@ fn rows_fit(cells: &[u32], partitions: usize, replication: u32) -> bool
     requires { (layout_cells ≤ length cells.now) × (replication ≤ most_copies) }
     ensures { result ≡ rows_fit cells.now partitions replication }
 {
-    let mut p = 0;
-    while p < Cluster::PARTITIONS {
+    for p in 0..Cluster::PARTITIONS {
         if !row_fits(cells, partitions, replication, p) {
             return false;
         }
-        p += 1;
     }
     true
 }
 
-// The first fault of what is to be written into so many bytes; 0 where there is none.
-pub fn write_fault(numbers: Numbers, cells: &[u32], room: usize) -> u32
-    ensures { result ≡ write_fault numbers cells.now room }
+// The first fault of what is to be written into so many bytes.
+pub fn write_fault(numbers: Numbers, cells: &[u32], room: usize) -> Result<(), Refusal>
+    ensures { refusal_of result ≡ write_fault numbers cells.now room }
 {
     if cells.len() < Cluster::CELLS {
-        return refusal::BUFFER;
+        return Err(Refusal::Buffer);
     }
     if !table::in_range(numbers) {
-        return refusal::RANGE;
+        return Err(Refusal::Range);
     }
     if !rows_fit(
         cells,
         cluster::partitions(numbers.bits),
         numbers.replication,
     ) {
-        return refusal::ROW;
+        return Err(Refusal::Row);
     }
     if room < record_length(numbers.bits, numbers.replication) {
-        return refusal::BUFFER;
+        return Err(Refusal::Buffer);
     }
-    0
+    Ok(())
 }

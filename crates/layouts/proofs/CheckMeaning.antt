@@ -14,8 +14,7 @@ use Rattle.cluster.specs.declared.Cluster.{Cluster}
 use Rattle.cluster.proofs.Accepting.{few_partitions, accepted}
 use Rattle.cell_rows.specs.ModelRows.{FitsCells, HoldsRows}
 use Rattle.cell_rows.proofs.CellLayouts.{length-rows_in, row-rows_in, row_at_take, rows_in_take, rows_in-cells_of, holds-cells_of, cells_of-rows_in}
-use Rattle.layouts.specs.declared.check.Checked.{Checked}
-use Rattle.layouts.specs.TermsCheck.{fault, Passes, row_fault, rows_fault, node_fault, nodes_fault, check_of}
+use Rattle.layouts.specs.TermsCheck.{Checked, fault, Passes, row_fault, rows_fault, node_fault, nodes_fault, check_of}
 use Rattle.layouts.proofs.FaultMeaning.{own_row, row-own, other_row, row_other, node-held, held-node, each_row}
 use Rattle.layouts.proofs.CheckOrder.{none_found, find_none, sound, no_cluster-fault, order-nodes, all_pass}
 

@@ -12,8 +12,7 @@ use borrow.Author.Tests.{lt-ltb, le-ltb, eq-eqb, ne_eqb, eqb-true, eqb-false}
 use Rattle.sums.proofs.Sum.{lt_or_ge, eq_or_ne}
 use Rattle.cluster.specs.Terms.{most_nodes, layout_cells, topology, partitions, rows_in, fault_of}
 use Rattle.cluster.specs.declared.Cluster.{Cluster}
-use Rattle.layouts.specs.declared.check.Checked.{Checked}
-use Rattle.layouts.specs.TermsCheck.{fault, first_fault, cluster_fault, rows_fault, nodes_fault, check_of}
+use Rattle.layouts.specs.TermsCheck.{Checked, fault, first_fault, cluster_fault, rows_fault, nodes_fault, check_of}
 use Rattle.cluster.proofs.Accepting.{few_nodes}
 
 -- ---- a first fault

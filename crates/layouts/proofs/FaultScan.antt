@@ -11,12 +11,21 @@ use borrow.Author.Tests.{eq-eqb, ne_eqb}
 use Rattle.cluster.specs.Terms.{takes, most_nodes, topology, no_node, rows_in}
 use Rattle.cluster.specs.declared.Cluster.{Cluster}
 use Rattle.cluster.specs.declared.Node.{Node}
+use Rattle.cluster.specs.TermsRefusal.{number_of}
+use Rattle.cluster.specs.declared.refusal.Refusal.{Refusal}
+use Rattle.std.proofs.Common.{◌≢◌}
 use Rattle.cluster.proofs.Slots.{node-slot}
 use Rattle.cluster.proofs.Accepting.{nodes-count}
 use Rattle.copies.specs.TermsCounts.{counts_after}
 use Rattle.copies.proofs.Counted.{counted-used}
-use Rattle.layouts.specs.declared.check.Checked.{Checked}
-use Rattle.layouts.specs.TermsCheck.{fault, first_fault, node_fault}
+use Rattle.layouts.specs.TermsCheck.{Checked, fault, first_fault, node_fault}
+
+-- No refusal has number 0.
+some : (r : Refusal) → 1 ≤ number_of r
+some r = grind arith
+
+pub number-some : (r : Refusal) → number_of r ≢ 0
+number-some r e = omega (arith, some r)
 
 module _ (n i : ℕ) (f : ℕ → Checked) where
   -- A scan that is at a fault has found the first.

@@ -1,18 +1,15 @@
 -- The set of the zones of a row, and the walk that makes the zones of nodes.
 -- Assumes nothing.
-use Prim.Native.Nat.{ℕ, ◌+◌, ◌*◌, ◌≤◌, ◌<◌, min}
+use Prim.Native.Nat.{ℕ, ◌+◌, ◌*◌, ◌^◌, ◌≤◌, ◌<◌, min}
 use mathlib.Core.Path.{◌≡◌, sym, ap, ap₂, ◌∙◌}
-use mathlib.Core.Bool.{true, false}
 use mathlib.Core.List.{List}
 use native.Mathlib.Nat.{zero-mul, mul-zero}
-use native.Mathlib.Numerals.{add-one}
 use native.Mathlib.Omega.{arith}
 use lib.ListN.{length, get_or}
-use Rattle.sums.specs.TermsSums.{sum_to}
 use Rattle.sums.specs.ModelSums.{is}
-use Rattle.sums.proofs.Sum.{is_le, is_ne, sum_cong, sum-cut, sum_zero}
-use Rattle.sets.specs.ModelBits.{bit, mask_of, member_of, with_of, count_of}
-use Rattle.sets.proofs.Laws.{bit_ext, bit_zero, bit_mask, bit-mask-high, mask_lt, mask_unique, with_lt, bit-with, mask_cong, member-true, member-false, count-sum}
+use Rattle.sums.proofs.Sum.{is_le, is_ne, sum_cong, sum-cut, sum_zero, sum_but_one}
+use Rattle.sets.specs.ModelBits.{mask_bits, bit, mask_of, with_of, without_of, count_of, least_of}
+use Rattle.sets.proofs.Laws.{bit_le, bit_zero, bit_mask, bit-mask-high, mask_lt, mask_unique, bit-with, bit-without_same, bit-without_other, least_at, least-some, count-sum}
 use Rattle.exchange.specs.ModelRow.{zone_count, cover}
 use Rattle.cluster.specs.Terms.{most_nodes, Topology, zones_of, row_at, ids_in}
 use Rattle.incidence.specs.ModelIncidence.{zone_index, bits_of, zone_cells}
@@ -22,40 +19,50 @@ use Rattle.copies.specs.ModelCopies.{row_nodes}
 use Rattle.copies.proofs.RowNodes.{bit-nodes}
 use Rattle.layouts.specs.ModelScans.{zones_in}
 
--- A number put into a mask is counted in the function that the mask is made of.
-mask_grow : (f g : ℕ → ℕ) (k : ℕ) → ((z : ℕ) → z < most_nodes → g z ≡ f z + is k z) → with_of (mask_of f most_nodes) k ≡ mask_of g most_nodes
-mask_grow f g k h =
-    bit_ext most_nodes (with_of (mask_of f most_nodes) k) (mask_of g most_nodes) (with_lt (mask_of f most_nodes) k) (mask_lt g most_nodes)
-    (λ z l. omega (arith, bit-with (mask_of f most_nodes) k z l, bit_mask f most_nodes z l, bit_mask g most_nodes z l, h z l, is_le k z))
+-- How many nodes of a set are in zone z.
+abbrev in_zone : List ℕ → ℕ → ℕ → ℕ
+in_zone zones nodes z = zone_count most_nodes (λ b. get_or zones b 0) (bit nodes) z
 
--- The zones of the first b nodes of a set.
-unfoldable pub zones_to : List ℕ → ℕ → ℕ → ℕ
-zones_to zones nodes b = mask_of (zone_count b (λ x. get_or zones x 0) (bit nodes)) most_nodes
+-- The zones of the nodes that are passed, with those of the nodes that are left, are the zones of all.
+unfoldable pub CoveredSoFar : List ℕ → ℕ → ℕ → ℕ → Type 0
+CoveredSoFar zones nodes left covered = (z : ℕ) → z < most_nodes → min 1 (bit covered z + in_zone zones left z) ≡ min 1 (in_zone zones nodes z)
 
 module _ (zones : List ℕ) (nodes : ℕ) where
-  -- Of no nodes there are no zones.
-  pub zones-none : 0 ≡ zones_to zones nodes 0
-  unfolding zones_to zone_count sum_to
-  zones-none = mask_unique most_nodes 0 (zone_count 0 (λ x. get_or zones x 0) (bit nodes)) (omega arith) (λ i l. bit_zero i)
+  -- At first all are left.
+  pub zones-none : CoveredSoFar zones nodes nodes 0
+  unfolding CoveredSoFar
+  zones-none z l = omega (arith, bit_zero z)
 
-  -- One node more counts where it is in the set.
-  zone_step : (b z : ℕ) → zone_count (b + 1) (λ x. get_or zones x 0) (bit nodes) z ≡ zone_count b (λ x. get_or zones x 0) (bit nodes) z + bit nodes b * is (get_or zones b 0) z
-  unfolding zone_count sum_to
-  zone_step b z = ap (λ (n : ℕ). sum_to n (λ x. bit nodes x * is (get_or zones x 0) z)) (add-one b)
+  -- The least node that is left counts in its zone.
+  zone_step : (left z : ℕ) → left < 2 ^ mask_bits → (left ≡ 0 → ⊥)
+      → in_zone zones (without_of left (least_of left)) z + is (get_or zones (least_of left) 0) z ≡ in_zone zones left z
+  unfolding zone_count
+  zone_step left z w some =
+      let b = least_of left in
+      let l : b < mask_bits = least-some left w some in
+      let zone = λ (x : ℕ). is (get_or zones x 0) z in
+      omega (
+        arith,
+        sum_but_one most_nodes b (λ x. bit (without_of left b) x * zone x) (λ x. bit left x * zone x) l
+            (λ x m d. ap (λ (n : ℕ). n * zone x) (bit-without_other left b x m (λ e. d (sym e)))),
+        ap (λ (n : ℕ). n * zone b) (bit-without_same left b l),
+        ap (λ (n : ℕ). n * zone b) (least_at left l),
+      )
 
-  -- The zone of a node of the set is put in.
-  pub zones-put : (b : ℕ) → member_of nodes b ≡ true → with_of (zones_to zones nodes b) (get_or zones b 0) ≡ zones_to zones nodes (b + 1)
-  unfolding zones_to
-  zones-put b m =
-      mask_grow (zone_count b (λ x. get_or zones x 0) (bit nodes)) (zone_count (b + 1) (λ x. get_or zones x 0) (bit nodes)) (get_or zones b 0)
-      (λ z l. omega (arith, zone_step b z, ap (λ (n : ℕ). n * is (get_or zones b 0) z) (member-true nodes b m)))
+  -- Its zone is put in.
+  pub zones-put : (left covered : ℕ) → left < 2 ^ mask_bits → (left ≡ 0 → ⊥) → CoveredSoFar zones nodes left covered
+      → CoveredSoFar zones nodes (without_of left (least_of left)) (with_of covered (get_or zones (least_of left) 0))
+  unfolding CoveredSoFar
+  zones-put left covered w some h z l =
+      omega (arith, h z l, zone_step left z w some, bit-with covered (get_or zones (least_of left) 0) z l, bit_le covered z, is_le (get_or zones (least_of left) 0) z)
 
-  -- A node that is not in the set has no part.
-  pub zones_pass : (b : ℕ) → member_of nodes b ≡ false → zones_to zones nodes b ≡ zones_to zones nodes (b + 1)
-  unfolding zones_to
-  zones_pass b m =
-      mask_cong (zone_count b (λ x. get_or zones x 0) (bit nodes)) (zone_count (b + 1) (λ x. get_or zones x 0) (bit nodes)) most_nodes
-      (λ z l. omega (arith, zone_step b z, ap (λ (n : ℕ). n * is (get_or zones b 0) z) (member-false nodes b m)))
+  -- Where none is left, the zones are those of the set.
+  pub zones-all : (left covered : ℕ) → left ≡ 0 → covered < 2 ^ mask_bits → CoveredSoFar zones nodes left covered → covered ≡ zones_in zones nodes
+  unfolding CoveredSoFar zones_in zone_count
+  zones-all left covered e w h =
+      let none = λ (z : ℕ). sum_zero most_nodes (λ x. bit left x * is (get_or zones x 0) z)
+      (λ x l. ap (λ (m : ℕ). bit m x * is (get_or zones x 0) z) e ∙ (ap (λ (m : ℕ). m * is (get_or zones x 0) z) (bit_zero x) ∙ zero-mul (is (get_or zones x 0) z))) in
+      mask_unique most_nodes covered (in_zone zones nodes) w (λ z l. omega (arith, h z l, none z, bit_le covered z))
 
 -- The zones of the nodes of a row are as many as the row lies in.
 pub count-zones : (t : Topology) (cells : List ℕ) (p : ℕ) → length t.nodes ≤ most_nodes

@@ -1,13 +1,29 @@
 -- What check answers of a cluster, an assignment and a size: the first fault in the paper's order, with its place; and what it has to pass.
 -- Assumes nothing.
-use Rattle.std.specs.Prelude.{ℕ, zero, suc, ◌≤◌, ◌≡◌, Bool, ◌&&◌, cond, List, ltb, eqb, length, take}
+use Rattle.std.specs.Prelude.{ℕ, zero, suc, ◌≤◌, ◌≡◌, Bool, ◌&&◌, cond, List, Result, Ok, Err, ltb, eqb, length, take}
 use Rattle.cluster.specs.Terms.{takes, most_nodes, buffer_rows, layout_cells, Topology, topology, partitions, node_at, ids_of, zones_of, Layout, copies_in, ValidAt, only_in, cells_of, row_at, ids_in, blank, formed, rows_in, fault_of}
 use Rattle.cluster.specs.declared.Cluster.{Cluster}
-use Rattle.layouts.specs.declared.check.Checked.{Checked}
+use Rattle.cluster.specs.declared.refusal.Refusal.{Refusal}
+use Rattle.cluster.specs.TermsRefusal.{number_of}
+use Rattle.layouts.specs.declared.check.Fault.{Fault}
+
+-- What check answers: a refusal, 0 for none, and its place: a partition with 10 and 11, a node's id with 12, else 0.
+pub record Checked : Type 0 where
+  pub refusal : ℕ
+  pub place : ℕ
 
 -- A refusal and its place; both are 0 where nothing is refused.
 abbrev pub fault : ℕ → ℕ → Checked
 fault n place = record { refusal = n; place = place }
+
+-- A refusal at no place.
+abbrev pub at_none : Refusal → Fault
+at_none refusal = record { refusal = refusal; place = 0 }
+
+-- An answer as these numbers.
+abbrev pub checked_as : Result Unit Fault → Checked
+checked_as (Ok _) = fault 0 0
+checked_as (Err f) = fault (number_of f.refusal) f.place
 
 -- The first answer where it refuses, else the second.
 abbrev pub or_else : Checked → Checked → Checked

@@ -53,16 +53,15 @@ fn row(cells: &mut [u32], bytes: &[u8], at: usize) {
 
 // Check of lent cells at a size.
 fn check(rt: &impl Print, c: Cluster, cells: &[u32], size: u32) -> io::Result<()> {
-    let r = check::check(c, cells, size);
-    print::answer(rt, r.refusal, r.place)
+    print::answer(rt, &check::check(c, cells, size))
 }
 
 // Figures, some of which are printed with the cell after them. They go into cells that hold 77.
 fn figure(rt: &impl Print, c: Cluster, assignment: &[u32], size: u32) -> io::Result<()> {
     let mut cells = [77u32; 65];
-    let r = figures::figures(c, assignment, size, &mut cells);
-    print::answer(rt, r.refusal, r.place)?;
-    print::number(rt, "  hope ", r.hope)?;
+    let found = figures::figures(c, assignment, size, &mut cells);
+    print::answer(rt, &found)?;
+    print::number(rt, "  hope ", found.unwrap_or(0))?;
     print::some(rt, "  copies ", &cells, 0)?;
     print::some(rt, "  zone ", &cells, 32)?;
     print::cell(rt, "  after ", &cells, 64)
@@ -71,15 +70,14 @@ fn figure(rt: &impl Print, c: Cluster, assignment: &[u32], size: u32) -> io::Res
 // Figures into one cell too few.
 fn figure_short(rt: &impl Print, c: Cluster, assignment: &[u32], size: u32) -> io::Result<()> {
     let mut cells = [77u32; 63];
-    let r = figures::figures(c, assignment, size, &mut cells);
-    print::answer(rt, r.refusal, r.place)
+    print::answer(rt, &figures::figures(c, assignment, size, &mut cells))
 }
 
 // One row: its refusal, the number of its cells, and its third cell.
 fn show(rt: &impl Print, cells: &[u32], partition: u32) -> io::Result<()> {
     let mut refusal = 99;
     let part = show::show_row(cells, partition, &mut refusal);
-    print::answer(rt, refusal, 0)?;
+    print::numbers(rt, refusal, 0)?;
     print::number(rt, "  cells ", part.len() as u64)?;
     print::cell(rt, "  third ", part, 2)
 }
@@ -126,18 +124,17 @@ fn spelled(rt: &impl Print, c: Cluster, letter: u8, bytes: &[u8]) -> io::Result<
 }
 
 // What follows the `=` of a line: a case, or the cluster of those after it.
-fn line(rt: &impl Print, text: &[u8], from: usize, c: Cluster) -> io::Result<Cluster> {
-    if text.len() <= from {
+fn line(rt: &impl Print, text: &[u8], c: Cluster) -> io::Result<Cluster> {
+    let Some((letter, digits)) = text.split_first() else {
         return Ok(c);
-    }
-    let letter = text[from];
+    };
     let mut bytes = [0u8; 32];
-    hex_digits::decode(text, from + 1, &mut bytes);
-    match letter {
+    hex_digits::decode(digits, 0, &mut bytes);
+    match *letter {
         b'C' => Ok(with_head(Cluster::none(), &bytes)),
         b'H' => Ok(with_head(c, &bytes)),
         b'N' => Ok(with_node(c, &bytes)),
-        _ => {
+        letter => {
             spelled(rt, c, letter, &bytes)?;
             Ok(c)
         }
@@ -148,11 +145,11 @@ fn run(rt: &impl Print, text: &[u8]) -> io::Result<()> {
     let mut c = Cluster::none();
     let mut start = 0;
     for (at, b) in text.iter().enumerate() {
-        if *b == 61 {
+        if *b == b'=' {
             rt.write_all(&text[start..at])?;
-            c = line(rt, text, at + 1, c)?;
+            c = line(rt, &text[at + 1..], c)?;
         }
-        if *b == 10 {
+        if *b == b'\n' {
             start = at + 1;
         }
     }

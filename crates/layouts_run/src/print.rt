@@ -1,4 +1,5 @@
 // Lines of standard output.
+use layouts::check::Fault;
 use std::io;
 
 // A name, a number and a line end.
@@ -9,7 +10,7 @@ pub fn number(rt: &impl Print, name: &str, n: u64) -> io::Result<()> {
 // A name and what a cell holds; 0 where there is no such cell.
 pub fn cell(rt: &impl Print, name: &str, cells: &[u32], at: usize) -> io::Result<()> {
     if at < cells.len() {
-        number(rt, name, wide(cells[at]))
+        number(rt, name, u64::from(cells[at]))
     } else {
         number(rt, name, 0)
     }
@@ -26,11 +27,14 @@ pub fn some(rt: &impl Print, name: &str, cells: &[u32], from: usize) -> io::Resu
 }
 
 // A refusal and its place, after the name of a case.
-pub fn answer(rt: &impl Print, refusal: u32, place: u32) -> io::Result<()> {
+pub fn numbers(rt: &impl Print, refusal: u32, place: u32) -> io::Result<()> {
     println!(rt; ": {refusal} {place}")
 }
 
-// A number of 32 bits as one of 64.
-fn wide(n: u32) -> u64 {
-    n as u64
+// The refusal that was found and its place, 0 where there is none.
+pub fn answer<T>(rt: &impl Print, found: &Result<T, Fault>) -> io::Result<()> {
+    match found {
+        Ok(_) => numbers(rt, 0, 0),
+        Err(fault) => numbers(rt, fault.refusal.into(), fault.place),
+    }
 }

@@ -22,11 +22,9 @@ fn stands(levels: &[u32], n: u32) -> [u32; STANDS]
         → bit (get_or result c 0) v ≡ min (one_if (ltb v n)) (is (get_or levels.now v 0 + 1) c)) }
 {
     let mut at = [0u32; STANDS];
-    let mut v = 0;
-    while v < n {
+    for v in 0..n {
         let c = levels[v as usize] as usize + 1;
         at[c] = sets::with(at[c], v);
-        v += 1;
     }
     at
 }
@@ -38,13 +36,11 @@ pub fn even(levels: &[u32], n: u32) -> [u32; levels::ARCS]
 {
     let at = stands(levels, n);
     let mut even = [0u32; levels::ARCS];
-    let mut a = 0;
-    while a < n as usize {
+    for a in 0..n as usize {
         let c = levels[a] as usize;
         even[a] = at[c];
         even[Cluster::NODES + a] = at[c + 1];
         even[2 * Cluster::NODES + a] = at[c + 2];
-        a += 1;
     }
     even
 }
@@ -56,15 +52,13 @@ pub fn lead(arcs: &[u32], even: &[u32], n: u32) -> [u32; Cluster::NODES]
         × ((u : ℕ) → n ≤ u → u < most_nodes → get_or result u 0 ≡ 0) }
 {
     let mut leads = [0u32; Cluster::NODES];
-    let mut u = 0;
-    while u < n as usize {
+    for u in 0..n as usize {
         let i = Cluster::NODES + u;
         let j = 2 * Cluster::NODES + u;
         let low = sets::meet(arcs[u], even[u]);
         let beside = sets::meet(arcs[i], even[i]);
         let high = sets::meet(arcs[j], even[j]);
         leads[u] = sets::union(low, sets::union(beside, high));
-        u += 1;
     }
     leads
 }

@@ -32,6 +32,20 @@ const NONE: Rule = Rule {
     step: 1,
 };
 
+// A number of one byte.
+const ONE_BYTE: Rule = Rule {
+    least: 1,
+    greatest: 1,
+    step: 1,
+};
+
+// A number of two bytes.
+const TWO_BYTES: Rule = Rule {
+    least: 2,
+    greatest: 2,
+    step: 1,
+};
+
 // A node, in the cluster or to be added.
 const ONE_NODE: Rule = Rule {
     least: NODE,
@@ -51,23 +65,11 @@ const LEGAL: [Rule; TAGS] = [
     // 0: none.
     NONE,
     // 1 bits.
-    Rule {
-        least: 1,
-        greatest: 1,
-        step: 1,
-    },
+    ONE_BYTE,
     // 2 replication.
-    Rule {
-        least: 1,
-        greatest: 1,
-        step: 1,
-    },
+    ONE_BYTE,
     // 3 redundancy.
-    Rule {
-        least: 1,
-        greatest: 1,
-        step: 1,
-    },
+    ONE_BYTE,
     // 4 node.
     ONE_NODE,
     // 5 former row.
@@ -79,23 +81,11 @@ const LEGAL: [Rule; TAGS] = [
         step: 1,
     },
     // 7 sent.
-    Rule {
-        least: 2,
-        greatest: 2,
-        step: 1,
-    },
+    TWO_BYTES,
     // 8 verdict.
-    Rule {
-        least: 1,
-        greatest: 1,
-        step: 1,
-    },
+    ONE_BYTE,
     // 9 improvements.
-    Rule {
-        least: 2,
-        greatest: 2,
-        step: 1,
-    },
+    TWO_BYTES,
     // 10 row.
     ROW,
     // 11 to 19: none.
@@ -125,6 +115,7 @@ const LEGAL: [Rule; TAGS] = [
 ];
 
 // The rule of a tag; a tag that the table does not have has no legal length.
+#[tactic(auto, unfolding(crate::specs::RecordLengths::rule_of))]
 fn rule_of(tag: usize) -> Rule
     ensures { result ≡ rule_of tag }
 {
@@ -132,20 +123,15 @@ fn rule_of(tag: usize) -> Rule
 }
 
 // Whether a body of this length is legal by the rule of its tag and, where `exact` is not 0, of that length.
+#[tactic(auto, unfolding(crate::specs::RecordLengths::legal_as, crate::specs::RecordLengths::legal))]
 fn meets(rule: Rule, exact: usize, len: usize) -> bool
     requires { 0 < rule.step }
     ensures { (tag : ℕ) → rule ≡ rule_of tag → result ≡ legal_as exact tag len }
 {
-    if len < rule.least {
-        return false;
-    }
-    if rule.greatest < len {
-        return false;
-    }
-    if (len - rule.least) % rule.step != 0 {
-        return false;
-    }
-    exact == 0 || len == exact
+    rule.least <= len
+        && len <= rule.greatest
+        && (len - rule.least) % rule.step == 0
+        && (exact == 0 || len == exact)
 }
 
 // Whether a body of this length is legal for this tag and, where `exact` is not 0, of that length. Most fields are rows, and a rule that is known

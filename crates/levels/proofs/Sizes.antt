@@ -1,7 +1,6 @@
 -- The numbers of a level fit.
 -- Assumes nothing.
 use Prim.Native.Nat.{ℕ, ◌+◌, ◌*◌, ◌≤◌, ◌<◌}
-use mathlib.Core.Path.{◌≡◌}
 use native.Mathlib.Omega.{arith}
 use mathlib.Core.List.{List}
 use mir.Syntax.{w64}
@@ -20,7 +19,3 @@ module _ (u : ℕ) (l : u < most_nodes) (b : ℕ) (s : b ≤ 2 * most_nodes) whe
 
   pub arcs_inside : (t : List ℕ) → arc_cells ≤ length t → b + u < length t
   arcs_inside t e = omega arith
-
--- What keeps its length is as long as it was.
-pub length-kept : {a b n : ℕ} → a ≡ b → n ≤ b → n ≤ a
-length-kept e l = omega arith

@@ -10,7 +10,8 @@ use Rattle.sums.proofs.Sum.{lt_or_ge}
 use Rattle.sets.specs.ModelBits.{bit, meet_of, difference_of}
 use Rattle.sets.proofs.Laws.{bit_le, bit_zero, bit-meet, bit-difference}
 use Rattle.levels.specs.ModelTurns.{Settled, Taken}
-use Rattle.levels.proofs.Visits.{Visit, visit_node, visit_member, Passed, passed_none, passed_end}
+use Rattle.sets.specs.ModelMembers.{Comes}
+use Rattle.levels.proofs.Visits.{visit_member, Passed, passed_left, passed_none, passed_end}
 
 -- Before the first all are free.
 pub taken_start : (s : ℕ) (lead : ℕ → ℕ) (free c : ℕ) (next row : List ℕ) → Taken s lead 0 free free c next row next row
@@ -50,7 +51,7 @@ module _ {s t free still c : ℕ} {lead : ℕ → ℕ} {next row next' row' : Li
       }
 
   -- One offer more.
-  module _ {left u rest taken still' : ℕ} {next'' row'' : List ℕ} (p : Passed s left t) (o : Visit s left u rest)
+  module _ {left u rest taken still' : ℕ} {next'' row'' : List ℕ} (p : Passed s left t) (m : Comes left u rest)
       (e : taken ≡ meet_of (lead u) still) (q : still' ≡ difference_of still taken)
       (a : Settled (bit taken) (λ _. c) next' next'') (b : Settled (bit taken) (λ _. u) row' row'') where
     bit-taken : (v : ℕ) → v < most_nodes → bit taken v ≡ min (bit (lead u) v) (bit still v)
@@ -64,16 +65,16 @@ module _ {s t free still c : ℕ} {lead : ℕ → ℕ} {next row next' row' : Li
 
     -- Before u none has offered it to a node that was free.
     before : (w v : ℕ) → v < most_nodes → bit still v ≡ 1 → w < u → bit s w ≡ 1 → bit (lead w) v ≡ 0
-    before w v l f k m = ⊎_elim (λ g. h.none w v l f g m) (λ g. absurd (omega (arith, passed_none p o w g k))) (lt_or_ge w t)
+    before w v l f k i = ⊎_elim (λ g. h.none w v l f g i) (λ g. absurd (omega (arith, passed_none p m w g k))) (lt_or_ge w t)
 
     pub taken_more : Taken s lead (u + 1) free still' c next row next'' row''
     taken_more =
         record {
           part = λ v l. omega (arith, h.part v l, bit-still v l);
-          none = λ w v l f k m.
+          none = λ w v l f k o.
               let i : bit still v ≡ 1 = omega (arith, bit-still v l, bit_le still v) in
               let j : bit (lead u) v ≡ 0 = omega (arith, bit-still v l, bit-taken v l, bit_le (lead u) v) in
-              ⊎_elim (λ g. before w v l i g m) (λ g. let r : u ≡ w = omega arith in subst (λ (x : ℕ). bit (lead x) v ≡ 0) r j) (lt_or_ge w u);
+              ⊎_elim (λ g. before w v l i g o) (λ g. let r : u ≡ w = omega arith in subst (λ (x : ℕ). bit (lead x) v ≡ 0) r j) (lt_or_ge w u);
           kept = λ v l f.
               let i : bit still v ≡ bit free v = omega (arith, h.part v l, bit-still v l) in
               let j : bit taken v ≡ 0 = omega (arith, bit-still v l, bit-taken v l) in
@@ -82,10 +83,10 @@ module _ {s t free still c : ℕ} {lead : ℕ → ℕ} {next row next' row' : Li
           node = λ v l f.
               ⊎_elim
               (λ i. subst (λ (x : ℕ). (x < most_nodes) × (bit s x ≡ 1) × (bit (lead x) v ≡ 1)) (sym (b.taken v l i))
-              (visit_node o, visit_member o, omega (arith, bit-taken v l, bit_le (lead u) v)))
+              (m.below, visit_member (passed_left p m) m, omega (arith, bit-taken v l, bit_le (lead u) v)))
               (λ i. subst (λ (x : ℕ). (x < most_nodes) × (bit s x ≡ 1) × (bit (lead x) v ≡ 1)) (sym (b.left v l i)) (h.node v l (omega (arith, bit-still v l))))
               (one_or_none v);
-          first = λ w v l f k m.
-              ⊎_elim (λ i. before w v l (omega (arith, bit-taken v l, bit_le still v)) (omega (arith, b.taken v l i)) m)
-              (λ i. h.first w v l (omega (arith, bit-still v l)) (omega (arith, b.left v l i)) m) (one_or_none v);
+          first = λ w v l f k o.
+              ⊎_elim (λ i. before w v l (omega (arith, bit-taken v l, bit_le still v)) (omega (arith, b.taken v l i)) o)
+              (λ i. h.first w v l (omega (arith, bit-still v l)) (omega (arith, b.left v l i)) o) (one_or_none v);
         }

@@ -1,6 +1,6 @@
 -- The members of a set, one after the other, the least first: the cells of those that are not left, and the nodes that have been passed.
 -- Assumes nothing.
-use Prim.Native.Nat.{ℕ, ◌+◌, ◌-◌, ◌≤◌, ◌<◌, ◌^◌}
+use Prim.Native.Nat.{ℕ, ◌+◌, ◌-◌, ◌≤◌, ◌<◌}
 use mathlib.Core.Path.{◌≡◌, refl, sym, ap, ◌∙◌, subst}
 use mathlib.Core.List.{List}
 use mathlib.Core.Logic.{⊎_elim}
@@ -10,55 +10,39 @@ use lib.Seq.{get_or-set_same, get_or-set_other}
 use Rattle.cluster.specs.Terms.{most_nodes}
 use Rattle.sums.specs.ModelSums.{is}
 use Rattle.sums.proofs.Sum.{lt_or_ge, eq_or_ne, is_eq, is_ne}
-use Rattle.sets.specs.ModelBits.{mask_bits, bit, without_of, least_of, count_of}
-use Rattle.sets.proofs.Laws.{bit_le, bit_zero, bit-without, least_at, least-before, least-taken}
-use Rattle.sets.proofs.Scan.{Left, least-word, left_less, done_more, done_all}
+use Rattle.sets.specs.ModelBits.{bit, without_of}
+use Rattle.sets.proofs.Laws.{bit_le, bit_zero, bit-without, least_at, least-before}
+use Rattle.sets.specs.ModelMembers.{Comes}
+use Rattle.sets.proofs.Scan.{Left, left_less, done_more, done_all}
 use Rattle.levels.specs.ModelTurns.{Settled, Nodes}
 
 -- The turn at the next member w, of those left, with the rest after it.
-pub record Visit (s left w rest : ℕ) : Type 0 where
-  pub some : left ≡ 0 → ⊥
-  pub scan : Left s left
-  pub at_least : w ≡ least_of left
-  pub at_rest : rest ≡ without_of left w
-
-module _ {s left w rest : ℕ} (o : Visit s left w rest) where
-  -- The next member is a node.
-  pub visit_node : w < most_nodes
-  visit_node = omega (arith, o.at_least, least-word s left o.scan o.some)
-
+module _ {s left w rest : ℕ} (L : Left s left) (m : Comes left w rest) where
   here : bit left w ≡ 1
-  here = ap (bit left) o.at_least ∙ least_at left (least-word s left o.scan o.some)
+  here = ap (bit left) m.least ∙ least_at left (omega (arith, m.least, m.below))
 
   -- It is a member.
   pub visit_member : bit s w ≡ 1
-  visit_member = omega (arith, o.scan.part w visit_node, here, bit_le s w)
+  visit_member = omega (arith, L.part w m.below, here, bit_le s w)
 
   -- It is below n where all members are.
   pub visit_below : (n : ℕ) → Nodes n s → w < n
-  visit_below n k = ⊎_elim (λ l. l) (λ g. absurd (omega (arith, k w visit_node g, visit_member))) (lt_or_ge w n)
+  visit_below n k = ⊎_elim (λ l. l) (λ g. absurd (omega (arith, k w m.below g, visit_member))) (lt_or_ge w n)
 
   -- Nothing is left before it.
   pub visit_before : (i : ℕ) → i < w → bit left i ≡ 0
-  visit_before i l = least-before left i (omega (arith, o.at_least))
-
-  the_rest : rest ≡ without_of left (least_of left)
-  the_rest = o.at_rest ∙ ap (without_of left) o.at_least
-
-  -- What is left is smaller.
-  pub visit_less : count_of rest < count_of left
-  visit_less = omega (arith, least-taken left o.scan.word o.some, ap count_of the_rest)
+  visit_before i l = least-before left i (omega (arith, m.least))
 
   -- What is left is still a part.
   pub visit_rest : Left s rest
-  visit_rest = subst (Left s) (sym the_rest) (left_less s left o.scan o.some)
+  visit_rest = subst (Left s) (sym m.rest) (left_less s left L m.some)
 
   -- After it the others are left.
   pub visit_after : (v : ℕ) → v < most_nodes → bit rest v ≡ bit left v - is w v
-  visit_after v l = ap (λ (i : ℕ). bit i v) o.at_rest ∙ bit-without left w v l
+  visit_after v l = ap (λ (i : ℕ). bit i v) (m.rest ∙ ap (without_of left) (sym m.least)) ∙ bit-without left w v l
 
   done : (v : ℕ) → v < most_nodes → bit s v - bit left v + is w v ≡ bit s v - bit rest v
-  done v l = omega (arith, done_more s left o.scan o.some v l, ap (λ (i : ℕ). is i v) o.at_least, ap (λ (i : ℕ). bit i v) the_rest)
+  done v l = omega (arith, done_more s left L m.some v l, ap (λ (i : ℕ). is i v) m.least, ap (λ (i : ℕ). bit i v) m.rest)
 
   still : (v : ℕ) → v < most_nodes → (w ≡ v → ⊥) → bit s v - bit left v ≡ bit s v - bit rest v
   still v l n = omega (arith, done v l, is_ne n)
@@ -68,12 +52,12 @@ module _ {s left w rest : ℕ} (o : Visit s left w rest) where
       → Settled (λ v. bit s v - bit rest v) x l₀ (set l w y)
   settled-more x y l₀ l k q h =
       record {
-        taken = λ v m e. ⊎_elim (λ r. same v r) (λ n. other v n ∙ h.taken v m (still v m n ∙ e)) (eq_or_ne w v);
-        left = λ v m e. ⊎_elim (λ r. absurd (omega (arith, done v m, is_eq r))) (λ n. other v n ∙ h.left v m (still v m n ∙ e)) (eq_or_ne w v);
+        taken = λ v i e. ⊎_elim (λ r. same v r) (λ n. other v n ∙ h.taken v i (still v i n ∙ e)) (eq_or_ne w v);
+        left = λ v i e. ⊎_elim (λ r. absurd (omega (arith, done v i, is_eq r))) (λ n. other v n ∙ h.left v i (still v i n ∙ e)) (eq_or_ne w v);
       }
     where
       same : (v : ℕ) → w ≡ v → get_or (set l w y) v 0 ≡ x v
-      same v r = subst (λ (i : ℕ). get_or (set l w y) i 0 ≡ x i) r (get_or-set_same l w y 0 (omega (arith, visit_node)) ∙ q)
+      same v r = subst (λ (i : ℕ). get_or (set l w y) i 0 ≡ x i) r (get_or-set_same l w y 0 (omega (arith, m.below)) ∙ q)
 
       other : (v : ℕ) → (w ≡ v → ⊥) → get_or (set l w y) v 0 ≡ get_or l v 0
       other v n = get_or-set_other l w v y 0 (λ r. n (sym r))
@@ -91,37 +75,35 @@ settled_end s left x l l' z h =
 
 -- All nodes below t have been passed, and none from t on.
 pub record Passed (s left t : ℕ) : Type 0 where
-  pub word : left < 2 ^ mask_bits
   pub gone : (i : ℕ) → i < t → bit left i ≡ 0
   pub ahead : (i : ℕ) → t ≤ i → i < most_nodes → bit left i ≡ bit s i
 
 -- At first none has.
-pub passed_start : (s : ℕ) → s < 2 ^ mask_bits → Passed s s 0
-passed_start s w = record { word = w; gone = λ i l. absurd (omega arith); ahead = λ i a b. refl }
-
--- What is left is a part.
-pub passed_left : {s left t : ℕ} → Passed s left t → Left s left
-passed_left {s} {left} {t} p =
-    record { word = p.word; part = λ i l. ⊎_elim (λ a. omega (arith, p.gone i a)) (λ a. omega (arith, p.ahead i a l)) (lt_or_ge i t) }
+pub passed_start : (s : ℕ) → Passed s s 0
+passed_start s = record { gone = λ i l. absurd (omega arith); ahead = λ i a b. refl }
 
 -- At last there is no member from t on.
 pub passed_end : {s left t : ℕ} → Passed s left t → left ≡ 0 → (i : ℕ) → t ≤ i → i < most_nodes → bit s i ≡ 0
 passed_end p z i a b = sym (p.ahead i a b) ∙ (ap (λ (x : ℕ). bit x i) z ∙ bit_zero i)
 
-module _ {s left t w rest : ℕ} (p : Passed s left t) (o : Visit s left w rest) where
+module _ {s left t w rest : ℕ} (p : Passed s left t) (m : Comes left w rest) where
+  -- What is left is a part.
+  pub passed_left : Left s left
+  passed_left = record { word = m.word; part = λ i l. ⊎_elim (λ a. omega (arith, p.gone i a)) (λ a. omega (arith, p.ahead i a l)) (lt_or_ge i t) }
+
   -- The next member has not been passed.
-  pub passed_le : t ≤ w
-  passed_le = ⊎_elim (λ l. absurd (omega (arith, p.gone w l, here o))) (λ l. l) (lt_or_ge w t)
+  passed_le : t ≤ w
+  passed_le = ⊎_elim (λ l. absurd (omega (arith, p.gone w l, here passed_left m))) (λ l. l) (lt_or_ge w t)
 
   -- There is none before it.
   pub passed_none : (i : ℕ) → t ≤ i → i < w → bit s i ≡ 0
-  passed_none i a b = sym (p.ahead i a (omega (arith, visit_node o))) ∙ visit_before o i b
+  passed_none i a b = sym (p.ahead i a (omega (arith, m.below))) ∙ visit_before passed_left m i b
 
   -- After it, it has been passed.
   pub passed_next : Passed s rest (w + 1)
   passed_next =
       record {
-        word = (visit_rest o).word;
-        gone = λ i l. ⊎_elim (λ a. omega (arith, visit_after o i (omega (arith, visit_node o)), visit_before o i a)) (λ a. omega (arith, visit_after o i (omega (arith, visit_node o)), is_eq {a = w} {b = i} (omega arith), bit_le left i)) (lt_or_ge i w);
-        ahead = λ i a b. omega (arith, visit_after o i b, is_ne {a = w} {b = i} (λ q. omega arith), p.ahead i (omega (arith, passed_le)) b);
+        gone = λ i l. ⊎_elim (λ a. omega (arith, visit_after passed_left m i (omega (arith, m.below)), visit_before passed_left m i a))
+            (λ a. omega (arith, visit_after passed_left m i (omega (arith, m.below)), is_eq {a = w} {b = i} (omega arith), bit_le left i)) (lt_or_ge i w);
+        ahead = λ i a b. omega (arith, visit_after passed_left m i b, is_ne {a = w} {b = i} (λ q. omega arith), p.ahead i (omega (arith, passed_le)) b);
       }

@@ -22,11 +22,8 @@ fn settle(s: u32, c: u32, u: u32, next: &mut [u32], row: &mut [u8])
     ensures { Settled (bit s) (λ _. c) next.old next.new × Settled (bit s) (λ _. u) row.old row.new }
 {
     let from = u as u8;
-    let mut left = s;
-    while left != 0 {
-        let v = sets::least(left);
+    for v in sets::iter(s) {
         let i = v as usize;
-        left = sets::rest(left);
         next[i] = c;
         row[i] = from;
     }
@@ -74,13 +71,10 @@ fn fall(
     ensures { Taken near (leads_to arcs.now even up) most_nodes free result c next.old row.old next.new row.new }
 {
     let mut still = free;
-    let mut left = near;
-    while left != 0 {
+    for u in sets::iter(near) {
         if still == 0 {
             return still;
         }
-        let u = sets::least(left);
-        left = sets::rest(left);
         let taken = sets::meet(arcs[weight(even, up, u) + u as usize], still);
         settle(taken, c, u, next, row);
         still = sets::difference(still, taken);
@@ -105,12 +99,12 @@ fn sweep(
     ensures stand { AtMost n next.new atmost.new }
 {
     let all = sets::below(n);
-    let mut c = n - k - 1;
-    let mut here = stand(atmost, n, c);
+    let least = n - k - 1;
+    let mut here = stand(atmost, n, least);
     let mut even = 0;
     let mut up = 0;
     let mut fell = 0;
-    while c < n {
+    for c in least..n {
         let above = stand(atmost, n, c + 1);
         let down = sets::difference(sets::meet(mask, above), here);
         let near = sets::union(down, sets::union(even, up));
@@ -121,7 +115,6 @@ fn sweep(
         up = even;
         even = down;
         here = above;
-        c += 1;
     }
     fell
 }

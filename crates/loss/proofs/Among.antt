@@ -1,28 +1,24 @@
--- Whether an id is among given ones, id by id.
+-- Whether an id is among given ones.
 -- Assumes nothing.
-use Prim.Native.Nat.{ℕ, ◌+◌, ◌≤◌, ◌<◌}
-use mathlib.Core.Path.{◌≡◌, sym, ap, ◌∙◌}
-use mathlib.Core.Bool.{true, false}
-use mathlib.Core.List.{List, ◌∷◌}
-use native.Mathlib.Numerals.{add-one}
-use lib.ListN.{length, drop, get_or, drop_of_length-le}
-use lib.Seq.{drop-cons}
-use borrow.Author.Tests.{ne_eqb}
+use Prim.Native.Nat.{ℕ}
+use mathlib.Core.Path.{◌≡◌, refl, sym, ap, ◌∙◌}
+use mathlib.Core.Bool.{Bool, ◌||◌}
+use mathlib.Core.List.{List}
+use mathlib.Core.Logic.{⊎_elim}
+use lib.Dec.{eqb}
+use borrow.Author.Tests.{eq-eqb, ne_eqb}
+use Rattle.sums.proofs.Sum.{eq_or_ne}
+use Rattle.std.specs.List.{list_any}
+use Rattle.std.proofs.lemmas.List.Recursion.{same_from_clauses}
 use Rattle.cluster.specs.Terms.{mem}
-use Rattle.cluster.proofs.Lists.{mem_head}
 
-module _ (id : ℕ) (ids : List ℕ) (i : ℕ) where
-  -- The ids from place i on begin with that one.
-  next : i < length ids → drop i ids ≡ get_or ids i 0 ∷ drop (i + 1) ids
-  next h = drop-cons ids i 0 h ∙ ap (λ (k : ℕ). get_or ids i 0 ∷ drop k ids) (sym (add-one i))
+either_way : (a b : ℕ) → eqb a b ≡ eqb b a
+either_way a b =
+    ⊎_elim (λ e. eq-eqb a b e ∙ sym (eq-eqb b a (sym e))) (λ d. ne_eqb a b d ∙ sym (ne_eqb b a (λ e. d (sym e)))) (eq_or_ne a b)
 
-  pub here : i < length ids → mem id ids ≡ mem id (drop i ids) → get_or ids i 0 ≡ id → true ≡ mem id ids
-  here h inv e = sym (inv ∙ (ap (mem id) (next h) ∙ mem_head id (get_or ids i 0) (drop (i + 1) ids) (sym e)))
-
-  pub past : i < length ids → mem id ids ≡ mem id (drop i ids) → (get_or ids i 0 ≡ id → ⊥) → mem id ids ≡ mem id (drop (i + 1) ids)
-  unfolding mem
-  past h inv e = inv ∙ (ap (mem id) (next h) ∙ simp (ne_eqb id (get_or ids i 0) (λ q. e (sym q))))
-
-  pub at_end : length ids ≤ i → mem id ids ≡ mem id (drop i ids) → false ≡ mem id ids
-  unfolding mem
-  at_end h inv = sym (inv ∙ ap (mem id) (drop_of_length-le ids {i = i} h))
+-- What the library's look answers is whether the id is a member.
+pub among : (ids : List ℕ) (id : ℕ) → list_any (λ x. eqb x id) ids ≡ mem id ids
+unfolding mem
+among ids id =
+    same_from_clauses (list_any (λ x. eqb x id)) (mem id) (λ x b. eqb x id || b) refl (λ x xs. refl)
+    (λ x xs. ap (λ (b : Bool). b || mem id xs) (either_way id x)) ids

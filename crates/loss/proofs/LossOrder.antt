@@ -13,8 +13,7 @@ use Rattle.sums.proofs.Sum.{lt_or_ge}
 use Rattle.sums.proofs.Tests.{true_or_false, neither}
 use Rattle.cluster.specs.Terms.{most_nodes, layout_cells}
 use Rattle.cluster.specs.declared.Cluster.{Cluster}
-use Rattle.layouts.specs.declared.check.Checked.{Checked}
-use Rattle.layouts.specs.TermsCheck.{fault, cluster_fault, check_of}
+use Rattle.layouts.specs.TermsCheck.{Checked, fault, cluster_fault, check_of}
 use Rattle.layouts.proofs.CheckOrder as check
 use Rattle.loss.specs.TermsLoss.{most_lost}
 use Rattle.loss.specs.TermsLossAnswer.{too_many, loss_fault}

@@ -19,16 +19,14 @@ use Rattle.cluster.proofs.Accepting.{few_nodes, nodes-count}
 use Rattle.cell_rows.proofs.CellRows.{get_or_zeros, rising-ids}
 use Rattle.incidence.specs.ModelIncidence.{ids_where}
 use Rattle.incidence.proofs.TieRows.{length_ids}
-use Rattle.layouts.specs.TermsCheck.{fault, check_of}
-use Rattle.layouts.specs.declared.check.Checked.{Checked}
+use Rattle.layouts.specs.TermsCheck.{Checked, fault, check_of}
 use Rattle.layouts.proofs.CheckMeaning.{passed_valid, valid_passed}
 use Rattle.loss.specs.TermsLoss.{most_lost, loss_of, IsWorst, worst_set}
 use Rattle.loss.proofs.Costliest.{worst-is}
 use Rattle.loss.specs.ModelSearch.{costing, lost_rows, searched}
 use Rattle.loss.specs.declared.search.Found.{Found}
 use Rattle.loss.proofs.Finds.{finds_worst}
-use Rattle.loss.specs.TermsLossAnswer.{loss_fault, layout_in, worst_in, loss, worst_loss, LossOwed, lost_with, given_loss}
-use Rattle.loss.specs.declared.worst.Loss.{Loss}
+use Rattle.loss.specs.TermsLossAnswer.{Loss, loss_fault, layout_in, worst_in, loss, worst_loss, LossOwed, lost_with, given_loss}
 use Rattle.loss.proofs.LossOrder.{all_pass, few_enough, in_range_lem}
 use Rattle.loss.proofs.RowsLost.{own-ids}
 use Rattle.loss.proofs.Passed.{SetRows, cluster_accepted, layout_valid, loss_same}

@@ -1,13 +1,13 @@
 -- What is answered of losses (2026-08): the refusals in their order, the number of partitions, and for the worst loss the nodes.
 -- Assumes nothing.
-use Rattle.std.specs.Prelude.{ℕ, ◌-◌, ◌≤◌, ◌<◌, ◌≡◌, Bool, true, ◌||◌, cond, List, [], ◌++◌, ltb, eqb, length, replicate}
+use Rattle.std.specs.Prelude.{ℕ, ◌-◌, ◌≤◌, ◌<◌, ◌≡◌, Bool, true, ◌||◌, cond, List, [], Result, Ok, Err, ◌++◌, ltb, eqb, length, replicate}
 use Rattle.cluster.specs.Terms.{most_nodes, layout_cells, topology, partitions, Layout, ids_in, rows_in}
 use Rattle.cluster.specs.declared.Cluster.{Cluster}
-use Rattle.layouts.specs.declared.check.Checked.{Checked}
-use Rattle.layouts.specs.TermsCheck.{fault, check_of}
+use Rattle.layouts.specs.TermsCheck.{Checked, fault, check_of}
 use Rattle.loss.specs.TermsLoss.{most_lost, loss_of, IsWorst, worst_set}
-use Rattle.loss.specs.declared.given.Lost.{Lost}
-use Rattle.loss.specs.declared.worst.Loss.{Loss}
+use Rattle.cluster.specs.TermsRefusal.{number_of}
+use Rattle.layouts.specs.declared.check.Fault.{Fault}
+use Rattle.loss.specs.declared.worst.Worst.{Worst}
 
 -- The layout in lent cells.
 abbrev pub layout_in : Cluster → List ℕ → Layout
@@ -30,9 +30,22 @@ loss_fault c assignment number =
 unfoldable pub worst_in : Cluster → List ℕ → ℕ → List ℕ
 worst_in c assignment number = worst_set (topology c) (layout_in c assignment) number
 
+-- What is answered: a refusal, 0 for none, its place, as check answers it; the number of partitions that are lost; and the ids of the nodes, rising,
+-- then zeros. The numbers are 0 where it is refused.
+pub record Loss : Type 0 where
+  pub refusal : ℕ
+  pub place : ℕ
+  pub lost : ℕ
+  pub nodes : List ℕ
+
 -- An answer: the ids rise, and zeros follow.
 abbrev pub loss : ℕ → ℕ → ℕ → List ℕ → Loss
 loss refusal place lost nodes = record { refusal = refusal; place = place; lost = lost; nodes = nodes ++ replicate (most_lost - length nodes) 0 }
+
+-- A worst loss as these numbers.
+abbrev pub worst_as : Result Worst Fault → Loss
+worst_as (Ok w) = record { refusal = 0; place = 0; lost = w.lost; nodes = w.nodes }
+worst_as (Err f) = loss (number_of f.refusal) f.place 0 []
 
 -- "answer the most partitions that can lose every copy, and the first set of boxes by rising ids that costs so many"; refused, all numbers are 0.
 unfoldable pub worst_loss : Cluster → List ℕ → ℕ → Loss
@@ -54,8 +67,19 @@ pub record LossOwed (c : Cluster) (assignment : List ℕ) (number : ℕ) (r : Lo
 
 -- ---- of given nodes
 
+-- What is answered: a refusal, 0 for none, its place, as check answers it, and the number of partitions that are lost; 0 where it is refused.
+pub record Lost : Type 0 where
+  pub refusal : ℕ
+  pub place : ℕ
+  pub lost : ℕ
+
 abbrev pub lost_with : ℕ → ℕ → ℕ → Lost
 lost_with refusal place lost = record { refusal = refusal; place = place; lost = lost }
+
+-- An answer as these numbers.
+abbrev pub lost_as : Result ℕ Fault → Lost
+lost_as (Ok lost) = lost_with 0 0 lost
+lost_as (Err f) = lost_with (number_of f.refusal) f.place 0
 
 -- How many partitions are lost with the nodes whose ids are given, whichever ids these are; it refuses what check refuses at size 1, and then the number is 0.
 unfoldable pub given_loss : Cluster → List ℕ → List ℕ → Lost

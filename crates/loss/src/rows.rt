@@ -12,13 +12,11 @@ pub fn lost_rows(rows: &[u32], set: u32) -> u32
     ensures { result ≡ lost_rows rows.now set }
 {
     let mut lost = 0;
-    let mut p = 0;
-    while p < Cluster::PARTITIONS {
+    for p in 0..Cluster::PARTITIONS {
         let left = sets::difference(rows[p], set);
         if left == 0 {
             lost += 1;
         }
-        p += 1;
     }
     lost
 }
@@ -27,8 +25,5 @@ pub fn lost_rows(rows: &[u32], set: u32) -> u32
 pub fn past(partitions: usize) -> u32
     ensures { result ≡ buffer_rows - partitions }
 {
-    if Cluster::PARTITIONS < partitions {
-        return 0;
-    }
-    (Cluster::PARTITIONS - partitions) as u32
+    Cluster::PARTITIONS.saturating_sub(partitions) as u32
 }

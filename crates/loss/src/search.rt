@@ -33,15 +33,13 @@ fn search(rows: &[u32], n: u32, from: u32, left: u32, set: u32, best: Found) -> 
     ensures { result ≡ searched rows.now left from (n - from) set best }
 {
     let mut most = best;
-    let mut b = from;
-    while left <= n - b {
+    for b in from..(n + 1).saturating_sub(left) {
         let taken = sets::with(set, b);
         if left == 1 {
             most = kept(rows, taken, most);
         } else {
             most = search(rows, n, b + 1, left - 1, taken, most);
         }
-        b += 1;
     }
     most
 }

@@ -4,56 +4,42 @@ ghost use Rattle.sums.specs.TermsSums.{tab};
 ghost use Rattle.sets.specs.ModelBits.{bit};
 ghost use Rattle.cluster.specs.Terms.{topology};
 ghost use Rattle.incidence.specs.ModelIncidence.{ids_where};
+ghost use Rattle.layouts.specs.TermsCheck.{checked_as};
 ghost use Rattle.loss.specs.TermsLoss.{most_lost, loss_of};
-ghost use Rattle.loss.specs.TermsLossAnswer.{layout_in, loss_fault, worst_in, worst_loss, LossOwed};
+ghost use Rattle.loss.specs.TermsLossAnswer.{layout_in, loss_fault, worst_in, worst_loss, worst_as, LossOwed};
 
 use super::search::Found;
 use super::{rows, search};
-use cluster::{Cluster, refusal};
+use cluster::Cluster;
+use cluster::refusal::Refusal;
 use incidence::zones;
-use layouts::check;
-use layouts::check::Checked;
+use layouts::check::{self, Fault};
 
 // The most nodes of which the loss can be asked.
 pub const MOST: usize = 4;
 
-// What is answered: a refusal, 0 for none, its place, as check answers it; the number of partitions that are lost; and the ids of the nodes, rising,
-// then zeros. The numbers are 0 where it is refused.
+// A worst loss: the number of partitions that are lost, and the ids of the nodes, rising, then zeros.
 #[derive(Clone, Copy)]
-pub struct Loss {
-    pub refusal: u32,
-    pub place: u32,
+pub struct Worst {
     pub lost: u32,
     pub nodes: [u32; MOST],
 }
 
 // The first fault, in the order of check, with the number judged where the cluster's numbers are.
-fn fault(c: Cluster, assignment: &[u32], number: u32) -> Checked
-    ensures { result ≡ loss_fault c assignment.now number }
+fn fault(c: Cluster, assignment: &[u32], number: u32) -> Result<(), Fault>
+    ensures { checked_as result ≡ loss_fault c assignment.now number }
 {
     if assignment.len() < Cluster::CELLS {
-        return Checked {
-            refusal: refusal::BUFFER,
-            place: 0,
-        };
+        return Err(Refusal::Buffer.into());
     }
     if Cluster::NODES < c.count {
-        return Checked {
-            refusal: refusal::NODES,
-            place: 0,
-        };
+        return Err(Refusal::Nodes.into());
     }
     if MOST < number as usize {
-        return Checked {
-            refusal: refusal::RANGE,
-            place: 0,
-        };
+        return Err(Refusal::Range.into());
     }
     if c.count < number as usize {
-        return Checked {
-            refusal: refusal::RANGE,
-            place: 0,
-        };
+        return Err(Refusal::Range.into());
     }
     check::check(c, assignment, 1)
 }
@@ -63,9 +49,9 @@ fn ids_of_set(c: Cluster, set: u32) -> [u32; MOST]
     ensures { result ≡ tab (λ j. get_or (ids_where (topology c).nodes (bit set)) j 0) most_lost }
 {
     let n = zones::used(c);
-    let ids = masks::ids_of(c);
+    let all = masks::ids_of(c);
     let mut row = [0u32; Cluster::ROW];
-    mask_cells::write_row(&ids, n, set, &mut row, 0);
+    mask_cells::write_row(&all[..n], set, &mut row, 0);
     [row[0], row[1], row[2], row[3]]
 }
 
@@ -88,24 +74,14 @@ fn worst_of(c: Cluster, assignment: &[u32], number: u32) -> Found
 }
 
 // The worst loss of so many nodes.
-pub fn worst_loss(c: Cluster, assignment: &[u32], number: u32) -> Loss
-    ensures { (result ≡ worst_loss c assignment.now number) × LossOwed c assignment.now number result }
+pub fn worst_loss(c: Cluster, assignment: &[u32], number: u32) -> Result<Worst, Fault>
+    ensures { (worst_as result ≡ worst_loss c assignment.now number) × LossOwed c assignment.now number (worst_as result) }
 {
-    let fault = fault(c, assignment, number);
-    if fault.refusal != 0 {
-        return Loss {
-            refusal: fault.refusal,
-            place: fault.place,
-            lost: 0,
-            nodes: [0; MOST],
-        };
-    }
+    fault(c, assignment, number)?;
     let found = worst_of(c, assignment, number);
     let nodes = ids_of_set(c, found.set);
-    Loss {
-        refusal: 0,
-        place: 0,
+    Ok(Worst {
         lost: found.lost,
         nodes,
-    }
+    })
 }

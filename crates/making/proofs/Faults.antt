@@ -1,13 +1,15 @@
 -- The fault of a change by whether its id is there: what the code tests is what the definition says.
 -- Assumes nothing.
-use Prim.Native.Nat.{ℕ}
-use mathlib.Core.Path.{◌≡◌, refl, sym, ap, ◌∙◌}
+use Prim.Native.Nat.{ℕ, ◌≤◌}
+use mathlib.Core.Path.{◌≡◌, refl, sym, ap, ap₂, ◌∙◌}
 use mathlib.Core.Bool.{Bool, true, false, cond}
 use mathlib.Core.List.{List}
 use lib.Dec.{ltb, leb}
 use lib.ListN.{length}
-use Rattle.cluster.specs.Terms.{most_nodes, ids_of, mem}
+use Rattle.cluster.specs.Terms.{topology, most_nodes, ids_of, mem}
 use Rattle.cluster.specs.declared.Node.{Node}
+use Rattle.cluster.specs.declared.Cluster.{Cluster}
+use Rattle.cluster.proofs.Accepting.{nodes-count}
 use Rattle.splices.specs.TermsReplaced.{nodes_with}
 use Rattle.splices.proofs.Places.{with_mem}
 use Rattle.change_fields.specs.RecordChange.{id_of}
@@ -39,3 +41,11 @@ fault-is l x id w z e f =
     ∙ (among l x
     ∙ ap (λ (t : Bool). verdict x t (length l))
     (with_mem (id_of x) l ∙ ap (λ (k : ℕ). ltb 0 k) (sym (f ∙ ap (λ (i : ℕ). length (nodes_with i l)) e))))
+
+-- The same for the nodes of a cluster, of a change that is known by its kind.
+pub fault-said : (c : Cluster) (x : Change) (id w : ℕ) → length c.nodes ≡ most_nodes → c.count ≤ most_nodes
+    → change_out_of_range x ≡ false → id ≡ id_of x → w ≡ length (nodes_with id (topology c).nodes)
+    → (y : Change) (is : Bool) → x ≡ y → ltb 0 w ≡ is → verdict y is c.count ≡ change_fault (topology c).nodes x
+fault-said c x id w long few z e f y is same t =
+    sym (fault-is (topology c).nodes x id w z e f
+    ∙ (ap (verdict x (ltb 0 w)) (nodes-count c long few) ∙ ap₂ (λ (y : Change) (b : Bool). verdict y b c.count) same t))

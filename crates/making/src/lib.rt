@@ -4,49 +4,54 @@
 ghost use Rattle.std.specs.Prelude.{◌≡◌, ◌≤◌};
 ghost use Rattle.cluster.specs.Terms.{most_nodes, topology, fault_of};
 ghost use Rattle.cluster.specs.TermsReading.{slots_of};
+ghost use Rattle.cluster.specs.TermsRefusal.{refusal_of};
 ghost use Rattle.splices.specs.TermsReplaced.{with_nodes};
 ghost use Rattle.making.specs.TermsMaking.{changed_nodes, reverse_of, change_out_of_range, change_fault};
 
 use change_fields::Change;
-use cluster::{Cluster, Node, refusal};
+use cluster::refusal::Refusal;
+use cluster::{Cluster, Node};
 
 // Whether a number of a change is out of its range.
+#[tactic(auto, unfolding(crate::specs::TermsMaking::change_out_of_range))]
 fn out_of_range(x: Change) -> bool
     ensures { result ≡ change_out_of_range x }
 {
     match x {
         Change::Add { node } => node.out_of_range(),
-        Change::Remove { id } => id == 0,
-        Change::Resize { id, capacity: _ } => id == 0,
+        Change::Remove { id } | Change::Resize { id, .. } => id == 0,
     }
 }
 
-// The first fault of a change that was read; 0 where there is none.
-pub fn fault_of(c: Cluster, x: Change) -> u32
+// The first fault of a change that was read, where there is one.
+pub fn fault_of(c: Cluster, x: Change) -> Result<(), Refusal>
     requires { c.count ≤ most_nodes }
-    ensures { result ≡ change_fault (topology c).nodes x }
+    ensures { refusal_of result ≡ change_fault (topology c).nodes x }
 {
     if out_of_range(x) {
-        return refusal::RANGE;
+        return Err(Refusal::Range);
     }
-    let id = change_fields::id_of(x);
-    let is_there = 0 < splices::find(c, id).with;
+    let is_there = 0 < splices::find(c, change_fields::id_of(x)).with;
     match x {
-        Change::Add { node: _ } => {
+        Change::Add { .. } => {
             if is_there {
-                return refusal::PRESENT;
+                return Err(Refusal::Present);
             }
             if Cluster::NODES <= c.count {
-                return refusal::NODES;
+                return Err(Refusal::Nodes);
             }
-            0
         }
-        Change::Remove { id: _ } => { if is_there { 0 } else { refusal::ABSENT } }
-        Change::Resize { id: _, capacity: _ } => { if is_there { 0 } else { refusal::ABSENT } }
+        Change::Remove { .. } | Change::Resize { .. } => {
+            if !is_there {
+                return Err(Refusal::Absent);
+            }
+        }
     }
+    Ok(())
 }
 
 // The change that reverses another, by the nodes before that one is made.
+#[tactic(auto, unfolding(crate::specs::TermsMaking::reverse_of))]
 pub fn reverse_of(c: Cluster, x: Change) -> Change
     requires { c.count ≤ most_nodes }
     ensures { result ≡ reverse_of (topology c).nodes x }
@@ -56,7 +61,7 @@ pub fn reverse_of(c: Cluster, x: Change) -> Change
         Change::Remove { id } => Change::Add {
             node: splices::node_with(c, id),
         },
-        Change::Resize { id, capacity: _ } => {
+        Change::Resize { id, .. } => {
             let node = splices::node_with(c, id);
             Change::Resize {
                 id,

@@ -4,10 +4,9 @@
 ghost use Rattle.std.specs.Prelude.{◌≡◌, ◌+◌, ◌≤◌, List, length, get_or, ltb, cond};
 ghost use Rattle.sets.specs.ModelBits.{bit};
 ghost use Rattle.cells.specs.ModelCells.{put};
-ghost use Rattle.cluster.specs.Terms.{most_nodes, row_cells, topology};
+ghost use Rattle.cluster.specs.Terms.{most_nodes, row_cells, topology, ids_of};
 ghost use Rattle.cluster.specs.declared.Node.{Node};
 ghost use Rattle.incidence.specs.ModelIncidence.{ids_where};
-ghost use Rattle.masks.specs.ModelMasks.{id_cells};
 ghost use Rattle.mask_cells.specs.ModelMaskCells.{cells_written};
 
 use cluster::Cluster;
@@ -26,31 +25,24 @@ fn blank_row(cells: &mut [u32], from: usize)
     requires { from + row_cells ≤ length cells.old }
     ensures { cells.new ≡ put from (λ _. 0) row_cells cells.old }
 {
-    let mut j = 0;
-    while j < Cluster::ROW {
-        cells[from + j] = 0;
-        j += 1;
-    }
+    cells[from..from + Cluster::ROW].fill(0);
 }
 
-// The ids of the first eight nodes of the mask, of the n whose ids are given, then zeros, into the row that starts at cell `from`.
-pub fn write_row(ids: &[u32], n: usize, mask: u32, cells: &mut [u32], from: usize)
-    requires { (n ≤ most_nodes) × (n ≤ length ids.now) × (from + row_cells ≤ length cells.old) }
-    ensures { (ns : List Node) → n ≡ length ns → ids.now ≡ id_cells ns
+// The ids of the first eight nodes of the mask, of those whose ids are given, then zeros, into the row that starts at cell `from`.
+pub fn write_row(ids: &[u32], mask: u32, cells: &mut [u32], from: usize)
+    requires { (length ids.now ≤ most_nodes) × (from + row_cells ≤ length cells.old) }
+    ensures { (ns : List Node) → ids.now ≡ ids_of ns
         → cells.new ≡ put from (λ j. get_or (ids_where ns (bit mask)) j 0) row_cells cells.old }
 {
     blank_row(cells, from);
-    let mut rest = mask;
-    let mut j = 0;
-    while j < Cluster::ROW {
-        if rest == 0 {
+    let mut nodes = sets::iter(mask);
+    for j in 0..Cluster::ROW {
+        let Some(node) = nodes.next() else {
             return;
-        }
-        let b = sets::least(rest) as usize;
-        let id = if b < n { ids[b] } else { 0 };
+        };
+        let b = node as usize;
+        let id = if b < ids.len() { ids[b] } else { 0 };
         cells[from + j] = id;
-        rest = sets::rest(rest);
-        j += 1;
     }
 }
 
@@ -70,11 +62,10 @@ pub fn write_cells(c: Cluster, masks: &[u32], partitions: usize, cells: &mut [u3
         return;
     }
     let n = zones::used(c);
-    let ids = masks::ids_of(c);
-    let mut p = 0;
-    while p < Cluster::PARTITIONS {
+    let all = masks::ids_of(c);
+    let ids = &all[..n];
+    for p in 0..Cluster::PARTITIONS {
         let mask = mask_at(masks, partitions, p);
-        write_row(&ids, n, mask, cells, p * Cluster::ROW);
-        p += 1;
+        write_row(ids, mask, cells, p * Cluster::ROW);
     }
 }

@@ -5,16 +5,16 @@ use mathlib.Core.Path.{◌≡◌, refl, sym, ap, ◌∙◌}
 use mathlib.Core.List.{List, [], ◌∷◌}
 use mathlib.Core.Logic.{⊎_elim}
 use native.Mathlib.Omega.{arith}
-use lib.ListN.{length, drop, get_or, get_or-eq_default}
-use lib.Seq.{drop-drop, get_or-drop}
+use lib.ListN.{length, take, drop, get_or, get_or-eq_default}
+use lib.Seq.{drop-drop, get_or-drop, get_or-take, ext_get_or, length-take-le}
 use Rattle.sums.specs.TermsSums.{sum_to}
 use Rattle.sums.proofs.Sum.{lt_or_ge, sum_first}
 use Rattle.sets.specs.ModelBits.{bit, without_of, least_of}
 use Rattle.sets.proofs.Laws.{bit_zero, bit-without, bit-without_same, bit-without_other, least-before, least_at}
-use Rattle.cluster.specs.Terms.{most_nodes, no_node}
+use Rattle.cluster.specs.Terms.{most_nodes, no_node, ids_of}
 use Rattle.incidence.specs.ModelIncidence.{ids_where}
-use Rattle.incidence.proofs.TieRows.{where_out, where_in, where_cong}
-use Rattle.incidence.proofs.Columns.{cell-column}
+use Rattle.incidence.proofs.TieRows.{id-at, length_ids, where_out, where_in, where_cong}
+use Rattle.incidence.proofs.Columns.{length-column, cell-column}
 use Rattle.cluster.specs.declared.Node.{Node}
 use Rattle.masks.specs.ModelMasks.{id_cells}
 
@@ -22,10 +22,24 @@ use Rattle.masks.specs.ModelMasks.{id_cells}
 pub past-id : (ns : List Node) (b : ℕ) → length ns ≤ b → (get_or ns b no_node).id ≡ 0
 past-id ns b h = ap (λ (n : Node). n.id) (get_or-eq_default ns no_node h)
 
--- Where the cells have the ids of the nodes, a node's cell has its id.
-pub id-cell : (ns : List Node) (ids : List ℕ) (b : ℕ) → length ns ≤ most_nodes → ids ≡ id_cells ns → b < length ns → get_or ids b 0 ≡ (get_or ns b no_node).id
+-- Of the ids of nodes there are as many as nodes,
+pub ids-many : (ns : List Node) (ids : List ℕ) → ids ≡ ids_of ns → length ids ≡ length ns
+ids-many ns ids e = ap length e ∙ length_ids ns
+
+-- and one after another they are those of the nodes.
+pub id-cell : (ns : List Node) (ids : List ℕ) (b : ℕ) → ids ≡ ids_of ns → get_or ids b 0 ≡ (get_or ns b no_node).id
+id-cell ns ids b e = ap (λ (l : List ℕ). get_or l b 0) e ∙ id-at ns b
+
+-- The cells of ids that are in use have the ids of the nodes.
+pub ids_used : (ns : List Node) (ids : List ℕ) (n : ℕ) → n ≤ most_nodes → n ≡ length ns → ids ≡ id_cells ns → take n ids ≡ ids_of ns
 unfolding id_cells
-id-cell ns ids b few e h = ap (λ (l : List ℕ). get_or l b 0) e ∙ cell-column (λ i. (get_or ns i no_node).id) (length ns) b few h
+ids_used ns ids n few m e =
+    ext_get_or 0 (take n ids) (ids_of ns) (length-take-le n ids (omega (arith, ap length e, length-column id (length ns))) ∙ (m ∙ sym (length_ids ns)))
+    (λ b l. let k : b < n = omega (arith, length-take-le n ids (omega (arith, ap length e, length-column id (length ns)))) in
+    get_or-take n ids b 0 k ∙ (ap (λ (r : List ℕ). get_or r b 0) e ∙ (cell-column id (length ns) b (omega arith) (omega arith) ∙ sym (id-at ns b))))
+  where
+    id : ℕ → ℕ
+    id b = (get_or ns b no_node).id
 
 -- A function that is 0 on the nodes gives no ids.
 pub where_none : (ns : List Node) (f : ℕ → ℕ) → ((b : ℕ) → b < length ns → f b ≡ 0) → ids_where ns f ≡ []

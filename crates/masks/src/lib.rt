@@ -2,44 +2,41 @@
 #![tactic(auto)]
 
 ghost use Rattle.std.specs.Prelude.{◌≡◌, ◌-◌, ◌≤◌, ◌<◌, List, length, take, drop};
-ghost use Rattle.cluster.specs.Terms.{most_nodes, buffer_rows, wide_row_cells, wide_cells, topology, row_of, ids_in};
+ghost use Rattle.cluster.specs.Terms.{most_nodes, buffer_rows, wide_row_cells, wide_cells, topology, ids_of, row_of, ids_in};
 ghost use Rattle.cluster.specs.declared.Node.{Node};
 ghost use Rattle.masks.specs.ModelMasks.{id_cells, named, row_mask, masks_read, rows_formed};
 
 use cluster::Cluster;
 use incidence::zones;
 
-// The ids of the nodes in use, then zeros. Rows are walked over these: a cluster by value would be copied for each row.
+// The ids of the nodes in use, then zeros. Rows are walked over the part of these that is in use: a cluster by value would be copied for each row.
 pub fn ids_of(c: Cluster) -> [u32; Cluster::NODES]
     ensures { result ≡ id_cells (topology c).nodes }
 {
     let n = zones::used(c);
     let mut ids = [0u32; Cluster::NODES];
-    let mut b = 0;
-    while b < n {
+    for b in 0..n {
         ids[b] = c.nodes[b].id;
-        b += 1;
     }
     ids
 }
 
-// The nodes, of the n whose ids are given, that the ids of the row from cell `from` up to `to` name: one walk over both, each id past the nodes that
+// The nodes, of those whose ids are given, that the ids of the row from cell `from` up to `to` name: one walk over both, each id past the nodes that
 // are not above it.
-fn walk_row(ids: &[u32], n: usize, cells: &[u32], from: usize, to: usize) -> u32
-    requires { (n ≤ most_nodes) × (n ≤ length ids.now) × (from ≤ to) × (to ≤ length cells.now) }
-    ensures { (ns : List Node) → n ≡ length ns → ids.now ≡ id_cells ns
-        → result ≡ named ns (ids_in (take (to - from) (drop from cells.now))) }
+fn walk_row(ids: &[u32], cells: &[u32], from: usize, to: usize) -> u32
+    requires { (length ids.now ≤ most_nodes) × (from ≤ to) × (to ≤ length cells.now) }
+    ensures { (ns : List Node) → ids.now ≡ ids_of ns → result ≡ named ns (ids_in (take (to - from) (drop from cells.now))) }
 {
     let mut mask = 0;
     let mut b = 0;
-    let mut i = from;
-    while i < to {
+    for i in from..to {
         let id = cells[i];
         if id == 0 {
             return mask;
         }
+        // A `loop`: each cell goes on with the nodes where the one before it stopped.
         loop {
-            if n <= b {
+            if ids.len() <= b {
                 return mask;
             }
             let own = ids[b];
@@ -51,15 +48,14 @@ fn walk_row(ids: &[u32], n: usize, cells: &[u32], from: usize, to: usize) -> u32
             }
             b += 1;
         }
-        i += 1;
     }
     mask
 }
 
-// The nodes, of the n whose ids are given, that row `partition` of the cells names; none where the row is not there whole.
-pub fn mask_of(ids: &[u32], n: usize, cells: &[u32], partition: usize) -> u32
-    requires { (n ≤ most_nodes) × (n ≤ length ids.now) }
-    ensures { (ns : List Node) → n ≡ length ns → ids.now ≡ id_cells ns → result ≡ row_mask ns cells.now partition }
+// The nodes, of those whose ids are given, that row `partition` of the cells names; none where the row is not there whole.
+pub fn mask_of(ids: &[u32], cells: &[u32], partition: usize) -> u32
+    requires { length ids.now ≤ most_nodes }
+    ensures { (ns : List Node) → ids.now ≡ ids_of ns → result ≡ row_mask ns cells.now partition }
 {
     if Cluster::PARTITIONS <= partition {
         return 0;
@@ -69,17 +65,16 @@ pub fn mask_of(ids: &[u32], n: usize, cells: &[u32], partition: usize) -> u32
     if cells.len() < to {
         return 0;
     }
-    walk_row(ids, n, cells, from, to)
+    walk_row(ids, cells, from, to)
 }
 
-// The nodes, of the n whose ids are given, that wide row `partition` of the cells names.
-pub fn wide_mask_of(ids: &[u32], n: usize, cells: &[u32], partition: usize) -> u32
-    requires { (n ≤ most_nodes) × (n ≤ length ids.now) × (partition < buffer_rows) × (wide_cells ≤ length cells.now) }
-    ensures { (ns : List Node) → n ≡ length ns → ids.now ≡ id_cells ns
-        → result ≡ named ns (ids_in (row_of wide_row_cells cells.now partition)) }
+// The nodes, of those whose ids are given, that wide row `partition` of the cells names.
+pub fn wide_mask_of(ids: &[u32], cells: &[u32], partition: usize) -> u32
+    requires { (length ids.now ≤ most_nodes) × (partition < buffer_rows) × (wide_cells ≤ length cells.now) }
+    ensures { (ns : List Node) → ids.now ≡ ids_of ns → result ≡ named ns (ids_in (row_of wide_row_cells cells.now partition)) }
 {
     let from = partition * Cluster::WIDE_ROW;
-    walk_row(ids, n, cells, from, from + Cluster::WIDE_ROW)
+    walk_row(ids, cells, from, from + Cluster::WIDE_ROW)
 }
 
 // The nodes that row `partition` of the cells names; none where the row is not there whole. Ids that no node has are left out.
@@ -88,7 +83,7 @@ pub fn row_mask(c: Cluster, cells: &[u32], partition: usize) -> u32
 {
     let n = zones::used(c);
     let ids = ids_of(c);
-    mask_of(&ids, n, cells, partition)
+    mask_of(&ids[..n], cells, partition)
 }
 
 // Rows 0 .. partitions - 1 of the cells as masks, into the first cells of `masks`. Nothing is written where `partitions` is more than
@@ -103,11 +98,10 @@ pub fn read_masks(c: Cluster, cells: &[u32], partitions: usize, masks: &mut [u32
         return;
     }
     let n = zones::used(c);
-    let ids = ids_of(c);
-    let mut p = 0;
-    while p < partitions {
-        masks[p] = mask_of(&ids, n, cells, p);
-        p += 1;
+    let all = ids_of(c);
+    let ids = &all[..n];
+    for p in 0..partitions {
+        masks[p] = mask_of(ids, cells, p);
     }
 }
 
@@ -118,12 +112,5 @@ pub fn rows_formed(cells: &[u32], partitions: usize) -> bool
     if Cluster::PARTITIONS < partitions {
         return false;
     }
-    let mut p = 0;
-    while p < partitions {
-        if cell_rows::ILL_FORMED <= cell_rows::row_ids(cells, p) {
-            return false;
-        }
-        p += 1;
-    }
-    true
+    (0..partitions).all(|p| cell_rows::row_ids(cells, p).is_some())
 }

@@ -17,12 +17,10 @@ use Rattle.cluster.specs.TermsReading.{Accepted}
 use Rattle.cluster.specs.declared.Cluster.{Cluster}
 use Rattle.cluster.proofs.Accepting.{accepted}
 use Rattle.cell_rows.specs.ModelRows.{HoldsRows}
-use Rattle.layouts.specs.declared.check.Checked.{Checked}
-use Rattle.layouts.specs.TermsCheck.{fault, check_of}
+use Rattle.layouts.specs.TermsCheck.{Checked, fault, check_of}
 use Rattle.layouts.proofs.CheckMeaning.{passed_valid, check-layout, check-holds}
 use Rattle.moves.specs.TermsMoves.{step_width, step_cells}
-use Rattle.move_list.specs.declared.Listed.{Listed}
-use Rattle.move_list.specs.TermsMoveList.{former_fault, moves_fault, former_in, new_in, moves_in, listed, count_moves, list_moves, cells_listed}
+use Rattle.move_list.specs.TermsMoveList.{Listed, former_fault, moves_fault, former_in, new_in, moves_in, listed, count_moves, list_moves, cells_listed}
 
 -- Whether the former rows are formed.
 abbrev pub former_formed : Topology → List ℕ → Bool

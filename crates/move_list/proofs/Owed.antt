@@ -11,14 +11,12 @@ use Rattle.cluster.specs.Terms.{row_cells, buffer_rows, wide_row_cells, Topology
 use Rattle.cluster.specs.declared.Cluster.{Cluster}
 use Rattle.cluster.proofs.Accepting.{few_partitions}
 use Rattle.cell_rows.proofs.CellRows.{ids-length}
-use Rattle.layouts.specs.TermsCheck.{fault}
-use Rattle.layouts.specs.declared.check.Checked.{Checked}
+use Rattle.layouts.specs.TermsCheck.{Checked, fault}
 use Rattle.moves.specs.TermsMoves.{Move, send, discard, surviving, survivors, missing, row_moves, moves_from, moves_of, step_width, step_cells, held, FitsSixteen, held_again, Resumes}
 use Rattle.moves.proofs.Missing.{missing_few, surviving_few}
 use Rattle.moves.proofs.WideRows.{length_wide_rows}
 use Rattle.moves.proofs.Promises.{kept_whole, ends_new, sources_hold, sends-sent, resumes, held-formed, held-read, length-wide_cells}
-use Rattle.move_list.specs.declared.Listed.{Listed}
-use Rattle.move_list.specs.TermsMoveList.{moves_fault, former_in, new_in, moves_in, listed, count_moves, list_moves, held_cells, moves_left, MadeAfresh, MovesOwed}
+use Rattle.move_list.specs.TermsMoveList.{Listed, moves_fault, former_in, new_in, moves_in, listed, count_moves, list_moves, held_cells, moves_left, MadeAfresh, MovesOwed}
 use Rattle.move_list.proofs.MovesOrder.{all_pass, pass_all, new_accepted, new_valid, count-made, list-made, cells-made}
 use Rattle.move_list.proofs.AllRows.{former-row, former_rises}
 

@@ -1,16 +1,30 @@
 -- What the list of moves and its count answer (2026-07): the refusals in their order, the number of steps, the lent cells; and what the list owes its
 -- callers where power goes.
 -- Assumes nothing.
-use Rattle.std.specs.Prelude.{ℕ, ◌+◌, ◌*◌, ◌≤◌, ◌<◌, ◌≡◌, cond, List, ◌++◌, ltb, eqb, length, drop}
+use Rattle.std.specs.Prelude.{ℕ, ◌+◌, ◌*◌, ◌≤◌, ◌<◌, ◌≡◌, cond, List, Result, Ok, Err, ◌++◌, ltb, eqb, length, drop}
 use Rattle.sums.specs.TermsSums.{every_to}
 use Rattle.cluster.specs.Terms.{buffer_rows, row_cells, wide_row_cells, wide_cells, Topology, topology, partitions, Layout, row, sent, row_of, formed, rows_in}
 use Rattle.cluster.specs.declared.Cluster.{Cluster}
-use Rattle.layouts.specs.declared.check.Checked.{Checked}
-use Rattle.layouts.specs.TermsCheck.{fault, or_else, check_of}
+use Rattle.layouts.specs.TermsCheck.{Checked, fault, or_else, check_of}
 use Rattle.moves.specs.TermsMoves.{wide_rows_in, wide_cells_of, Move, moves_of, step_width, step_cells, held, KeptWhole, FitsSixteen, SourcesHold, sends}
-use Rattle.move_list.specs.declared.Listed.{Listed}
+use Rattle.cluster.specs.TermsRefusal.{number_of}
+use Rattle.layouts.specs.declared.check.Fault.{Fault}
 
 -- ---- the answers
+
+-- What list and count answer: a refusal, 0 for none, its place, as check answers it, and the number of steps, 0 where it is refused.
+pub record Listed : Type 0 where
+  pub refusal : ℕ
+  pub place : ℕ
+  pub steps : ℕ
+
+abbrev pub listed : ℕ → ℕ → ℕ → Listed
+listed refusal place steps = record { refusal = refusal; place = place; steps = steps }
+
+-- An answer as these numbers.
+abbrev pub listed_as : Result ℕ Fault → Listed
+listed_as (Ok steps) = listed 0 0 steps
+listed_as (Err f) = listed (number_of f.refusal) f.place 0
 
 -- "then one of the first P former rows not rising ids and zeros (5)"
 unfoldable pub former_fault : Topology → List ℕ → ℕ
@@ -31,9 +45,6 @@ new_in c assignment = rows_in (partitions (topology c)) assignment
 -- The moves from the one to the other.
 abbrev pub moves_in : Cluster → List ℕ → List ℕ → List Move
 moves_in c former assignment = moves_of (topology c) (former_in c former) (new_in c assignment)
-
-abbrev pub listed : ℕ → ℕ → ℕ → Listed
-listed refusal place steps = record { refusal = refusal; place = place; steps = steps }
 
 -- "The number of steps must be known beforehand from the same three without making the list"; 0 where it is refused.
 unfoldable pub count_moves : Cluster → List ℕ → List ℕ → Listed

@@ -7,6 +7,7 @@ ghost use Rattle.fields.specs.RecordField.{written, node_bytes, node_at_byte};
 use cluster::Node;
 
 // The node in its bytes; all its numbers are 0 where the record does not have them all.
+#[tactic(auto, unfolding(numbers::specs::RecordNumber::has))]
 pub fn node_at(s: &[u8], at: usize) -> Node
     ensures { result ≡ node_at_byte s.now at }
 {
@@ -23,6 +24,7 @@ pub fn node_at(s: &[u8], at: usize) -> Node
 }
 
 // Writes the bytes of a node; nothing where the buffer does not have them all.
+#[tactic(auto, unfolding(numbers::specs::RecordNumber::has))]
 pub fn put_node(out: &mut [u8], at: usize, node: Node)
     ensures { out.new ≡ written out.old at (node_bytes node) }
 {

@@ -12,6 +12,7 @@ ghost use Rattle.improve.specs.ModelImprove.{ran_in};
 ghost use Rattle.improve.proofs.Ground.{Ground, Good};
 
 use cluster::Cluster;
+use swaps::instance::Instance;
 
 // How a run ended: whether nothing is left to improve, and how many improvements were made.
 #[derive(Clone, Copy)]
@@ -53,10 +54,15 @@ pub fn run(
     holders::fill(rows, partitions, &mut held);
     let mut had = [0u32; holders::CELLS];
     holders::fill(former, partitions, &mut had);
-    let ran = runs::run(
-        rows, &mut tight, &mut held, former, &had, partitions, mates, caps, nodes, z, allowance,
-        kept,
-    );
+    let given = Instance {
+        former,
+        had: &had,
+        partitions,
+        mates,
+        caps,
+        z,
+    };
+    let ran = runs::run(rows, &mut tight, &mut held, &given, nodes, allowance, kept);
     let improvements = ran.improvements;
     if !ran.finished {
         return Ended {
@@ -64,10 +70,7 @@ pub fn run(
             improvements,
         };
     }
-    firsts::order(
-        rows, &mut tight, &mut held, former, &had, partitions, mates, caps, nodes, z, ran.stale,
-        kept,
-    );
+    firsts::order(rows, &mut tight, &mut held, &given, nodes, ran.stale, kept);
     Ended {
         finished: true,
         improvements,

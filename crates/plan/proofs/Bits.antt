@@ -8,8 +8,7 @@ use lib.Dec.{eqb}
 use borrow.Author.Tests.{eqb-true}
 use Rattle.cluster.specs.declared.Cluster.{Cluster}
 use Rattle.cluster.proofs.Accepting.{accepted}
-use Rattle.planner.specs.TermsPlan.{plan_refusal, planned_of}
-use Rattle.planner.specs.declared.Planned.{Planned}
+use Rattle.planner.specs.TermsPlan.{Planned, plan_refusal, planned_of}
 use Rattle.planner.proofs.Refusals.{usable-has}
 
 -- What is 0, or else stands in another's place, is 0 where that is.

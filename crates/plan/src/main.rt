@@ -15,23 +15,22 @@ const ALLOWANCE: u16 = Cluster::IMPROVEMENTS as u16;
 fn plan(rt: &impl Print, c: Cluster, former: &[u32]) -> io::Result<()> {
     let mut assignment = [0u32; Cluster::CELLS];
     let mut scratch = [0u32; Cluster::SCRATCH];
-    let made = planner::plan(c, former, ALLOWANCE, &mut assignment, &mut scratch);
-    if made.refusal != 0 {
-        return print::refused(rt, made.refusal);
+    match planner::plan(c, former, ALLOWANCE, &mut assignment, &mut scratch) {
+        Ok(made) => {
+            print::numbers(rt, made)?;
+            print::rows(rt, c.bits, &assignment)
+        }
+        Err(refusal) => print::refused(rt, refusal),
     }
-    print::numbers(rt, made)?;
-    print::rows(rt, c.bits, &assignment)
 }
 
 // Plans the cluster of a record.
 fn run(rt: &impl Print, bytes: &[u8]) -> io::Result<()> {
     let mut former = [0u32; Cluster::CELLS];
-    let read = cluster_record::read_cluster(bytes, &mut former);
-    if read.refusal != 0 {
-        return print::refused(rt, read.refusal);
+    match cluster_record::read_cluster(bytes, &mut former) {
+        Ok(c) => plan(rt, c, &former),
+        Err(refused) => print::refused(rt, refused.refusal),
     }
-    let c = read.cluster;
-    plan(rt, c, &former)
 }
 
 fn main(rt: HostRuntime) -> io::Result<()> {

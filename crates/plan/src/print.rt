@@ -3,7 +3,8 @@ ghost use Rattle.std.specs.Prelude.{◌≤◌, length};
 ghost use Rattle.cluster.specs.Terms.{most_bits, layout_cells};
 
 use cluster::Cluster;
-use planner::Planned;
+use cluster::refusal::Refusal;
+use planner::settle::Plan;
 use std::io;
 
 // A name and its number.
@@ -17,12 +18,12 @@ fn line(rt: &impl Print, name: &str, n: u32) -> io::Result<()> {
 }
 
 // The one line of a refusal.
-pub(crate) fn refused(rt: &impl Print, refusal: u32) -> io::Result<()> {
-    line(rt, "refused ", refusal)
+pub(crate) fn refused(rt: &impl Print, refusal: Refusal) -> io::Result<()> {
+    line(rt, "refused ", refusal.into())
 }
 
 // The lines of the numbers and of the verdict.
-pub(crate) fn numbers(rt: &impl Print, made: Planned) -> io::Result<()> {
+pub(crate) fn numbers(rt: &impl Print, made: Plan) -> io::Result<()> {
     line(rt, "size ", made.size)?;
     line(rt, "sent ", made.sent)?;
     line(rt, "improvements ", made.improvements)?;

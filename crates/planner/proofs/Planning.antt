@@ -17,8 +17,7 @@ use Rattle.cluster.specs.TermsReading.{Fits32}
 use Rattle.unions.specs.ModelUnions.{kept_cells}
 use Rattle.sizing.specs.ModelSizing.{size_of, size_in}
 use Rattle.sizing.proofs.Reading.{size_in_lem}
-use Rattle.planner.specs.TermsPlan.{unusable, plan_refusal, plan_in, refused_with, answered, planned_of, assignment_after, scratch_after, Owed}
-use Rattle.planner.specs.declared.Planned.{Planned}
+use Rattle.planner.specs.TermsPlan.{Planned, unusable, plan_refusal, plan_in, refused_with, answered, planned_of, assignment_after, scratch_after, Owed}
 use Rattle.planner.proofs.Refusals.{usable-has, lent-former}
 use Rattle.planning.proofs.Demands.{demand3, no-layout}
 

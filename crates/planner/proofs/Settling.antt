@@ -28,8 +28,7 @@ use Rattle.agreement.specs.ModelAgreement.{agreement_in}
 use Rattle.steps.specs.ModelSteps.{State}
 use Rattle.improve.specs.ModelImprove.{ran_in}
 use Rattle.planning.specs.ModelPlan.{former_masks, start_rows, ran_from, layout_rows, sent_rows, answer_bits, plan_from, plan_of}
-use Rattle.planner.specs.TermsPlan.{plan_in, answered}
-use Rattle.planner.specs.declared.Planned.{Planned}
+use Rattle.planner.specs.TermsPlan.{Planned, plan_in, answered}
 use Rattle.improve.proofs.Ground.{run_good}
 use Rattle.planning.proofs.Grounds.{GoodRows, start_good, fm_long, ground, measure}
 use Rattle.planning.proofs.Rows.{rows-first, rows_share}

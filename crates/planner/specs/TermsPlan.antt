@@ -1,13 +1,23 @@
 -- What planning refuses, answers, leaves in lent buffers and owes. `size_of` and `plan_of` are a model's: `Owed` says what they achieve.
 -- Assumes nothing.
-use Rattle.std.specs.Prelude.{ℕ, ◌≡◌, false, ◌||◌, cond, List, ◌++◌, ltb, eqb, length, drop, replicate}
+use Rattle.std.specs.Prelude.{ℕ, ◌≡◌, Bool, false, Result, Ok, Err, ◌||◌, cond, List, ◌++◌, ltb, eqb, length, drop, replicate}
 use Rattle.sums.specs.TermsSums.{every_to}
 use Rattle.cluster.specs.Terms.{layout_cells, scratch_cells, Topology, topology, partitions, Layout, ValidAt, IsFormer, row_at, formed, rows_in, cells_of, fault_of}
 use Rattle.cluster.specs.declared.Cluster.{Cluster}
 use Rattle.sizing.specs.ModelSizing.{size_of}
 use Rattle.planning.specs.Demand.{Answer, Demand3}
 use Rattle.planning.specs.ModelPlan.{plan_of}
-use Rattle.planner.specs.declared.Planned.{Planned}
+use Rattle.cluster.specs.TermsRefusal.{number_of}
+use Rattle.cluster.specs.declared.refusal.Refusal.{Refusal}
+use Rattle.planner.specs.declared.settle.Plan.{Plan}
+
+-- What planning answers: the refusal, 0 for none, and the numbers of the plan, 0 where it is refused.
+pub record Planned : Type 0 where
+  pub refusal : ℕ
+  pub size : ℕ
+  pub sent : ℕ
+  pub finished : Bool
+  pub improvements : ℕ
 
 -- "8: any buffer too short. 6: more than 32 boxes. 4: bits, replication, redundancy or an id out of range. 5: ids not rising, or one of the
 -- first P former rows not rising ids followed by zeros."
@@ -31,6 +41,11 @@ refused_with n = record { refusal = n; size = 0; sent = 0; finished = false; imp
 
 abbrev pub answered : Answer → Planned
 answered x = record { refusal = 0; size = x.size; sent = x.sent; finished = x.finished; improvements = x.improvements }
+
+-- An answer as these numbers.
+abbrev pub planned_as : Result Plan Refusal → Planned
+planned_as (Ok p) = record { refusal = 0; size = p.size; sent = p.sent; finished = p.finished; improvements = p.improvements }
+planned_as (Err refusal) = refused_with (number_of refusal)
 
 -- What planning answers, for every cluster, former layout, allowance and length of the other buffers.
 unfoldable pub planned_of : Cluster → List ℕ → ℕ → ℕ → ℕ → Planned

@@ -3,35 +3,14 @@
 
 ghost use Rattle.std.specs.Prelude.{◌≡◌, length};
 ghost use Rattle.cluster.specs.Terms.{topology, partitions, rows_in};
-ghost use Rattle.planner.specs.TermsPlan.{unusable, planned_of, assignment_after, scratch_after, refused_with, Owed};
+ghost use Rattle.planner.specs.TermsPlan.{unusable, planned_of, assignment_after, scratch_after, planned_as, Owed};
 
-use cluster::{Cluster, refusal};
+use cluster::Cluster;
+use cluster::refusal::Refusal;
+use settle::Plan;
 
 mod refuse;
-mod settle;
-
-// What planning answers: the refusal, 0 for none, and the numbers of the plan, 0 where it is refused.
-#[derive(Clone, Copy)]
-pub struct Planned {
-    pub refusal: u32,
-    pub size: u32,
-    pub sent: u32,
-    pub finished: bool,
-    pub improvements: u32,
-}
-
-// An answer that refuses.
-fn refused(number: u32) -> Planned
-    ensures { result ≡ refused_with number }
-{
-    Planned {
-        refusal: number,
-        size: 0,
-        sent: 0,
-        finished: false,
-        improvements: 0,
-    }
-}
+pub mod settle;
 
 // The plan of a cluster: the largest size, and the first of the layouts of that size that send the fewest copies, or one that sends as few as the
 // allowance of improvements brings it to. The assignment takes the layout. The run works in the scratch, all of which is zeroed at the end.
@@ -41,23 +20,20 @@ pub fn plan(
     allowance: u16,
     assignment: &mut [u32],
     scratch: &mut [u32],
-) -> Planned
-    ensures { (result ≡ planned_of c former.now allowance (length assignment.old) (length scratch.old))
+) -> Result<Plan, Refusal>
+    ensures { (planned_as result ≡ planned_of c former.now allowance (length assignment.old) (length scratch.old))
         × (assignment.new ≡ assignment_after c former.now allowance assignment.old (length scratch.old))
         × (scratch.new ≡ scratch_after c former.now (length assignment.old) scratch.old)
         × (unusable c former.now (length assignment.old) (length scratch.old) ≡ 0
-        → Owed (topology c) (rows_in (partitions (topology c)) former.now) result.refusal) }
+        → Owed (topology c) (rows_in (partitions (topology c)) former.now) (planned_as result).refusal) }
 {
-    let unusable = refuse::unusable(c, former, assignment.len(), scratch.len());
-    if unusable != 0 {
-        return refused(unusable);
-    }
+    refuse::unusable(c, former, assignment.len(), scratch.len())?;
     let size = sizing::size(c);
     if size == 0 {
         clearing::clear(scratch);
-        return refused(refusal::NO_LAYOUT);
+        return Err(Refusal::NoLayout);
     }
-    let planned = settle::settle(
+    let plan = settle::settle(
         c,
         former,
         allowance as u32,
@@ -66,5 +42,5 @@ pub fn plan(
         &mut scratch[..graph::KEPT],
     );
     clearing::clear(scratch);
-    planned
+    Ok(plan)
 }

@@ -1,29 +1,33 @@
-// What planning cannot use: short buffers, a cluster with a fault, ill_formed_lem former rows.
+// What planning cannot use: short buffers, a cluster with a fault, ill formed former rows.
 ghost use Rattle.std.specs.Prelude.{◌≡◌};
+ghost use Rattle.cluster.specs.TermsRefusal.{refusal_of};
 ghost use Rattle.planner.specs.TermsPlan.{unusable};
 
-use cluster::{Cluster, refusal};
+use cluster::Cluster;
+use cluster::refusal::Refusal;
 
-// The first refusal but that of a cluster without layout: 8, 6, 4, 5, or 0.
-pub fn unusable(c: Cluster, former: &[u32], assignment: usize, scratch: usize) -> u32
-    ensures { result ≡ unusable c former.now assignment scratch }
+// Refuses what is refused but a cluster without layout: 8, 6, 4, 5.
+pub fn unusable(
+    c: Cluster,
+    former: &[u32],
+    assignment: usize,
+    scratch: usize,
+) -> Result<(), Refusal>
+    ensures { refusal_of result ≡ unusable c former.now assignment scratch }
 {
     if former.len() < Cluster::CELLS {
-        return refusal::BUFFER;
+        return Err(Refusal::Buffer);
     }
     if assignment < Cluster::CELLS {
-        return refusal::BUFFER;
+        return Err(Refusal::Buffer);
     }
     if scratch < Cluster::SCRATCH {
-        return refusal::BUFFER;
+        return Err(Refusal::Buffer);
     }
-    let fault = c.fault();
-    if fault != 0 {
-        return fault;
-    }
+    c.accept()?;
     if masks::rows_formed(former, cluster::partitions(c.bits)) {
-        0
+        Ok(())
     } else {
-        refusal::ORDER
+        Err(Refusal::Order)
     }
 }

@@ -1,1 +1,2 @@
 pub mod ModelBits
+pub mod ModelMembers

@@ -4,6 +4,10 @@
 ghost use Rattle.std.specs.Prelude.{◌≡◌};
 ghost use Rattle.sets.specs.ModelBits.{member_of, with_of, without_of, union_of, meet_of, difference_of, below_of, count_of, least_of};
 
+use members::Members;
+
+pub mod members;
+
 // How many numbers a set can hold: the digits of a u32.
 pub const WIDTH: u32 = 32;
 
@@ -75,4 +79,11 @@ pub fn least(s: u32) -> u32
     ensures { result ≡ least_of s }
 {
     u32::trailing_zeros(s)
+}
+
+// The members of s one after another, from the least on.
+pub fn iter(s: u32) -> Members
+    ensures { result.left ≡ s }
+{
+    Members { left: s }
 }

@@ -7,7 +7,7 @@ use Rattle.sums.specs.TermsSums.{sum_to}
 use Rattle.dealing.specs.ModelDeal.{pour}
 use Rattle.sums.proofs.Sum.{sum-next}
 
-module _ (f : ℕ → ℕ) (room b left v x : ℕ) (l : left ≡ room - sum_to b f) (e : v ≡ f b) (h : x ≡ min v left) where
+module _ (f : ℕ → ℕ) (room b left v x : ℕ) (l : left ≡ room - sum_to b f) (e : v ≡ f b) (h : x ≡ min left v) where
   -- What of the next number still goes in.
   pub pour_here : x ≡ pour room f b
   unfolding pour

@@ -4,7 +4,8 @@
 ghost use Rattle.std.specs.Prelude.{◌≡◌, ◌+◌};
 ghost use Rattle.show.specs.TermsShow.{shown, show_code, show_byte};
 
-use cluster::{Cluster, refusal};
+use cluster::Cluster;
+use cluster::refusal::Refusal;
 
 // The eight cells of row `partition`, none of them copied; no cell where it is refused. The refusal goes into the lent number.
 pub fn show_row<'a>(cells: &'a [u32], partition: u32, refusal: &mut u32) -> &'a [u32]
@@ -14,11 +15,11 @@ pub fn show_row<'a>(cells: &'a [u32], partition: u32, refusal: &mut u32) -> &'a 
     ensures byte { result.ref_ptr.1 ≡ cells.entry.ref_ptr.1 + show_byte cells.now partition }
 {
     if cells.len() < Cluster::CELLS {
-        *refusal = refusal::BUFFER;
+        *refusal = Refusal::Buffer.into();
         return &cells[0..0];
     }
     if Cluster::PARTITIONS as u32 <= partition {
-        *refusal = refusal::RANGE;
+        *refusal = Refusal::Range.into();
         return &cells[0..0];
     }
     *refusal = 0;

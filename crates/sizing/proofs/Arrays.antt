@@ -7,7 +7,6 @@ use native.Mathlib.Nat.{div-eq_of_lt, mul-pos}
 use mathlib.Core.List.{List}
 use native.Mathlib.Omega.{arith}
 use lib.Dec.{leb}
-use lib.ListN.{length}
 use borrow.Author.Tests.{lt-leb}
 use lib.Pow.{pow_pos}
 use Rattle.sums.specs.TermsSums.{sum_to}
@@ -15,17 +14,12 @@ use Rattle.sums.proofs.Sum.{sum_zero}
 use Rattle.cluster.proofs.Accepting.{partitions_in_range}
 use Rattle.cluster.specs.Terms.{most_nodes, most_bits, Topology, partitions, node_at, usable}
 use Rattle.cluster.specs.TermsReading.{Accepted}
-use Rattle.incidence.specs.ModelIncidence.{zone_index, cap_at, cell, column, zone_cells}
+use Rattle.incidence.specs.ModelIncidence.{zone_index, cap_at, cell, zone_cells}
 use Rattle.incidence.proofs.TieZones.{zone_below}
 use Rattle.dealing.specs.ModelDeal.{in_zone, has_room}
 use Rattle.tallies.specs.ModelTallies.{Below, AtMost}
 use Rattle.sizing.specs.ModelSizing.{nodes_of, cap_cells}
-use Rattle.incidence.proofs.Columns.{length-column}
 use Rattle.shares.proofs.Agree.{SameBelow, fits_agree, cells_agree}
-
--- An array that is a column has a cell for each node that there can be.
-pub cells_long : (f : ℕ → ℕ) (n : ℕ) (l : List ℕ) → l ≡ column f n → length l ≡ most_nodes
-cells_long f n l e = ap (λ (k : List ℕ). length k) e ∙ length-column f n
 
 -- The number of partitions that is counted for a cluster without fault: its own, and one at least.
 pub partitions_known : (t : Topology) → Accepted t → (r : ℕ) → r ≡ 2 ^ min t.bits most_bits → (r ≡ partitions t) × (1 ≤ r)
@@ -41,10 +35,6 @@ module _ (t : Topology) (few : nodes_of t ≤ most_nodes) where
   pub zones-most : (l : List ℕ) → l ≡ zone_cells t → Below most_nodes (nodes_of t) l
   zones-most l e b h = omega (arith, zones-hold l e b h, zone_below t b h)
 
-  pub zones_long : (l : List ℕ) → l ≡ zone_cells t → length l ≡ most_nodes
-  unfolding zone_cells
-  zones_long l e = cells_long (zone_index t) (nodes_of t) l e
-
   module _ (s : ℕ) where
     -- The array of caps holds the caps.
     pub caps-hold : (l : List ℕ) → l ≡ cap_cells t s → SameBelow (nodes_of t) (cell l) (cap_at t s)
@@ -54,10 +44,6 @@ module _ (t : Topology) (few : nodes_of t ≤ most_nodes) where
     -- They are at most the number of partitions.
     pub caps-most : (l : List ℕ) → l ≡ cap_cells t s → AtMost (partitions t) (nodes_of t) l
     caps-most l e b h = unfold cap_at in omega (arith, caps-hold l e b h)
-
-    pub caps_long : (l : List ℕ) → l ≡ cap_cells t s → length l ≡ most_nodes
-    unfolding cap_cells
-    caps_long l e = cells_long (cap_at t s) (nodes_of t) l e
 
     -- The test of the arrays is the test of the cluster.
     pub arrays_fit : (n p : ℕ) (zones caps : List ℕ) (r : Bool) → n ≡ nodes_of t → p ≡ partitions t → zones ≡ zone_cells t → caps ≡ cap_cells t s

@@ -13,6 +13,9 @@ use Rattle.sets.specs.ModelBits.{bit, mask_of}
 use Rattle.sets.proofs.Bits.{bit-mask_of, mask_cong}
 use Rattle.cells.specs.ModelCells.{put}
 use Rattle.cells.proofs.Cells.{length-put, get_or_put_in}
+use Rattle.cluster.specs.TermsRefusal.{number_of}
+use Rattle.cluster.specs.declared.refusal.Refusal.{Refusal}
+use Rattle.std.proofs.Common.{◌≢◌}
 use Rattle.cluster.specs.Terms.{most_bits, most_nodes, Topology, topology, partitions, fault_of}
 use Rattle.incidence.specs.ModelIncidence.{zone_index, cell, column, zone_cells}
 use Rattle.cluster.specs.declared.Cluster.{Cluster}
@@ -20,6 +23,13 @@ use Rattle.sizing.specs.ModelSizing.{cap_cells, caps_in, nodes_of, mate_cells, s
 use Rattle.shares.proofs.Agree.{SameBelow, cells_agree}
 use Rattle.sizing.proofs.Arrays.{zones-hold}
 use Rattle.sizing.proofs.Sizes.{beginning_le}
+
+-- No refusal has number 0.
+some : (r : Refusal) → 1 ≤ number_of r
+some r = grind arith
+
+pub number-some : (r : Refusal) → number_of r ≢ 0
+number-some r e = omega (arith, some r)
 
 -- Without fault the size is answered.
 pub size_in_lem : (c : Cluster) → fault_of c ≡ 0 → size_in c ≡ size_of (topology c)

@@ -16,7 +16,7 @@ use tallies::totals;
 const SIZE_BITS: u32 = 32;
 
 // Whether the caps of a size have room for a layout; a size above `most`, the largest usable capacity, needs no caps.
-fn passes(c: Cluster, zones: &[u32], most: u32, size: u32) -> bool
+fn passes(c: Cluster, zones: &[u32; Cluster::NODES], most: u32, size: u32) -> bool
     requires { (fault_of c ≡ 0) × (zones.now ≡ zone_cells (topology c)) × ((b : ℕ) → b < length (topology c).nodes → usable (node_at (topology c) b) ≤ most) }
     ensures { result ≡ has_room (partitions (topology c)) (length (topology c).nodes) c.replication c.redundancy (zone_index (topology c))
         (cap_at (topology c) size) }
@@ -44,9 +44,7 @@ fn bisected(c: Cluster) -> u32
     let zones = zones::zones(c);
     let most = caps::greatest(c);
     let mut size = 0;
-    let mut i = SIZE_BITS;
-    while 0 < i {
-        i -= 1;
+    for i in (0..SIZE_BITS).rev() {
         let larger = size + (1 << i);
         if passes(c, &zones, most, larger) {
             size = larger;
@@ -59,7 +57,11 @@ fn bisected(c: Cluster) -> u32
 pub fn size(c: Cluster) -> u32
     ensures { result ≡ size_in c }
 {
-    if c.fault() == 0 { bisected(c) } else { 0 }
+    if let Ok(()) = c.accept() {
+        bisected(c)
+    } else {
+        0
+    }
 }
 
 // Deals the layout of a cluster without fault into the first P cells.
@@ -81,7 +83,7 @@ fn begin(c: Cluster, size: u32, rows: &mut [u32])
 pub fn deal(c: Cluster, size: u32, rows: &mut [u32])
     ensures { rows.new ≡ dealt_in c size rows.old }
 {
-    if c.fault() == 0 {
+    if let Ok(()) = c.accept() {
         if cluster::partitions(c.bits) <= rows.len() {
             begin(c, size, rows);
         }

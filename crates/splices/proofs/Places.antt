@@ -1,8 +1,8 @@
 -- The place of an id among nodes by rising id: how many nodes are below it and how many have it, and what a scan over the nodes counts.
 -- Assumes nothing.
-use Prim.Native.Nat.{ℕ, ◌+◌, ◌-◌, ◌≤◌, ◌<◌}
+use Prim.Native.Nat.{ℕ, ◌+◌, ◌≤◌, ◌<◌}
 use mathlib.Core.Path.{◌≡◌, refl, sym, ap, ap₂, ◌∙◌}
-use mathlib.Core.Bool.{Bool, true, cond}
+use mathlib.Core.Bool.{true}
 use mathlib.Core.List.{List, [], ◌∷◌, ◌++◌}
 use mathlib.Core.Logic.{⊎_elim}
 use native.Mathlib.Numerals.{add-one}
@@ -10,13 +10,12 @@ use native.Mathlib.Omega.{arith}
 use lib.Dec.{ltb}
 use lib.ListN.{length, take, drop, get_or, length-append}
 use lib.Seq.{take-suc, take-append_seam, drop-append-add, drop-append_seam}
-use borrow.Author.Tests.{lt-ltb, eq-eqb, ne_eqb}
+use borrow.Author.Tests.{lt-ltb}
 use Rattle.sums.proofs.Sum.{eq_or_ne}
-use Rattle.cells.proofs.Cells.{rest_cons}
 use Rattle.cluster.specs.Terms.{no_node, ids_of, mem, rising_from, rising}
 use Rattle.cluster.specs.declared.Node.{Node}
 use Rattle.cluster.proofs.Lists.{mem_head, mem-skip, rising_tail}
-use Rattle.splices.specs.TermsReplaced.{nodes_below, nodes_with, nodes_above, node_with, replaced}
+use Rattle.splices.specs.TermsReplaced.{nodes_below, nodes_with, nodes_above, replaced}
 use Rattle.splices.specs.ModelSplice.{spliced}
 use Rattle.splices.proofs.Replaced.{below_cons, below-skip, with_cons, with-skip, with_none, below-append, each_weaker, each_rising, replaced-own}
 
@@ -136,26 +135,3 @@ below-begin i l = refl
 pub with-begin : (i : ℕ) (l : List Node) → 0 ≡ length (nodes_with i (take 0 l))
 unfolding nodes_with
 with-begin i l = refl
-
--- ---- a scan for one node
-
--- A scan that meets the id has found its node.
-pub node_here : (i : ℕ) (l : List Node) (n k : ℕ) → k < n → n ≤ length l → (get_or l k no_node).id ≡ i
-    → node_with i (take (n - k) (drop k l)) ≡ get_or l k no_node
-unfolding node_with
-node_here i l n k h f e =
-    ap (λ (r : List Node). node_with i r) (rest_cons l n k no_node h f)
-    ∙ ap (λ (b : Bool). cond b (get_or l k no_node) (node_with i (take (n - (k + 1)) (drop (k + 1) l)))) (eq-eqb (get_or l k no_node).id i e)
-
--- A scan that meets another id goes on.
-pub node-on : (i : ℕ) (l : List Node) (n k : ℕ) → k < n → n ≤ length l → ((get_or l k no_node).id ≡ i → ⊥)
-    → node_with i (take (n - k) (drop k l)) ≡ node_with i (take (n - (k + 1)) (drop (k + 1) l))
-unfolding node_with
-node-on i l n k h f e =
-    ap (λ (r : List Node). node_with i r) (rest_cons l n k no_node h f)
-    ∙ ap (λ (b : Bool). cond b (get_or l k no_node) (node_with i (take (n - (k + 1)) (drop (k + 1) l)))) (ne_eqb (get_or l k no_node).id i e)
-
--- Where nothing is left, there is none.
-pub node-none : (i : ℕ) → node_with i [] ≡ no_node
-unfolding node_with
-node-none i = refl

@@ -22,19 +22,16 @@ pub fn find(c: Cluster, id: u32) -> Place
     requires { c.count ≤ most_nodes }
     ensures { (result.below ≡ length (nodes_below id (topology c).nodes)) × (result.with ≡ length (nodes_with id (topology c).nodes)) }
 {
-    let n = c.count;
+    let nodes = &c.nodes[..c.count];
     let mut below = 0;
     let mut with = 0;
-    let mut i = 0;
-    while i < n {
-        let other = c.nodes[i].id;
-        if other < id {
+    for node in nodes {
+        if node.id < id {
             below += 1;
         }
-        if other == id {
+        if node.id == id {
             with += 1;
         }
-        i += 1;
     }
     Place { below, with }
 }
@@ -44,16 +41,11 @@ pub fn node_with(c: Cluster, id: u32) -> Node
     requires { c.count ≤ most_nodes }
     ensures { result ≡ node_with id (topology c).nodes }
 {
-    let n = c.count;
-    let mut i = 0;
-    while i < n {
-        let node = c.nodes[i];
-        if node.id == id {
-            return node;
-        }
-        i += 1;
+    let nodes = &c.nodes[..c.count];
+    match nodes.iter().find(|node| node.id == id) {
+        Some(node) => *node,
+        None => Node::NONE,
     }
-    Node::NONE
 }
 
 // Slot b of the cluster in which `out` nodes from place `at` on give way to `new` times a node.
@@ -82,16 +74,12 @@ pub fn replace(c: Cluster, id: u32, node: Node, new: usize) -> Cluster
 {
     let place = find(c, id);
     let mut nodes = [Node::NONE; Cluster::NODES];
-    let mut b = 0;
-    while b < Cluster::NODES {
+    for b in 0..Cluster::NODES {
         nodes[b] = slot(c, place.below, place.with, node, new, b);
-        b += 1;
     }
     Cluster {
-        bits: c.bits,
-        replication: c.replication,
-        redundancy: c.redundancy,
         count: c.count + new - place.with,
         nodes,
+        ..c
     }
 }

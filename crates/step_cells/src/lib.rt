@@ -3,10 +3,9 @@
 
 ghost use Rattle.std.specs.Prelude.{◌≡◌, List, ◌++◌, ◌+◌, ◌*◌, ◌^◌, ◌≤◌, ◌<◌, length, take, drop};
 ghost use Rattle.sets.specs.ModelBits.{bit, count_of};
-ghost use Rattle.cluster.specs.Terms.{most_nodes};
+ghost use Rattle.cluster.specs.Terms.{most_nodes, ids_of};
 ghost use Rattle.cluster.specs.declared.Node.{Node};
 ghost use Rattle.incidence.specs.ModelIncidence.{ids_where};
-ghost use Rattle.masks.specs.ModelMasks.{id_cells};
 ghost use Rattle.moves.specs.TermsMoves.{step_width};
 ghost use Rattle.step_cells.specs.ModelSteps.{step_count, first_id, kind_cells, row_steps};
 
@@ -37,33 +36,26 @@ pub fn count(old: u32, new: u32) -> u32
 }
 
 // The lowest id of the nodes of a set, 0 where it has none.
-fn first_id(ids: &[u32], n: usize, nodes: u32) -> u32
-    requires { (n ≤ most_nodes) × (n ≤ length ids.now) }
-    ensures { (ns : List Node) → n ≡ length ns → ids.now ≡ id_cells ns → result ≡ first_id ns nodes }
+fn first_id(ids: &[u32], nodes: u32) -> u32
+    requires { length ids.now ≤ most_nodes }
+    ensures { (ns : List Node) → ids.now ≡ ids_of ns → result ≡ first_id ns nodes }
 {
     let b = sets::least(nodes) as usize;
-    if b < n { ids[b] } else { 0 }
+    if b < ids.len() { ids[b] } else { 0 }
 }
 
 // Steps of one kind into the cells from `at` on, by rising id; the answer is the cell after them.
-fn put_steps(ids: &[u32], n: usize, steps: Steps, cells: &mut [u32], at: usize) -> usize
-    requires { (n ≤ most_nodes) × (n ≤ length ids.now) × (steps.nodes < 2 ^ n) × (at + step_width * count_of steps.nodes ≤ length cells.old) }
-    ensures { (result ≡ at + step_width * count_of steps.nodes) × ((ns : List Node) → n ≡ length ns → ids.now ≡ id_cells ns
+fn put_steps(ids: &[u32], steps: Steps, cells: &mut [u32], at: usize) -> usize
+    requires { (length ids.now ≤ most_nodes) × (steps.nodes < 2 ^ length ids.now) × (at + step_width * count_of steps.nodes ≤ length cells.old) }
+    ensures { (result ≡ at + step_width * count_of steps.nodes) × ((ns : List Node) → ids.now ≡ ids_of ns
         → cells.new ≡ take at cells.old ++ kind_cells steps.kind steps.partition steps.source (ids_where ns (bit steps.nodes))
         ++ drop (at + step_width * count_of steps.nodes) cells.old) }
 {
-    let kind = steps.kind;
-    let partition = steps.partition;
-    let source = steps.source;
-    let mut left = steps.nodes;
     let mut to = at;
-    while left != 0 {
-        let b = sets::least(left) as usize;
-        let node = ids[b];
-        let step = [kind, partition, node, source];
+    for b in sets::iter(steps.nodes) {
+        let step = [steps.kind, steps.partition, ids[b as usize], steps.source];
         cells::put(&step, to, cells);
         to += STEP;
-        left = sets::rest(left);
     }
     to
 }
@@ -72,21 +64,20 @@ fn put_steps(ids: &[u32], n: usize, steps: Steps, cells: &mut [u32], at: usize) 
 // the drops; the answer is the cell after them.
 pub fn put_row(
     ids: &[u32],
-    n: usize,
     partition: u32,
     old: u32,
     new: u32,
     cells: &mut [u32],
     at: usize,
 ) -> usize
-    requires { (n ≤ most_nodes) × (n ≤ length ids.now) × (old < 2 ^ n) × (new < 2 ^ n) × (at + step_width * step_count old new ≤ length cells.old) }
-    ensures { (result ≡ at + step_width * step_count old new) × ((ns : List Node) → n ≡ length ns → ids.now ≡ id_cells ns
+    requires { (length ids.now ≤ most_nodes) × (old < 2 ^ length ids.now) × (new < 2 ^ length ids.now) × (at + step_width * step_count old new ≤ length cells.old) }
+    ensures { (result ≡ at + step_width * step_count old new) × ((ns : List Node) → ids.now ≡ ids_of ns
         → cells.new ≡ take at cells.old ++ row_steps ns partition old new ++ drop (at + step_width * step_count old new) cells.old) }
 {
     let sends = Steps {
         kind: SEND,
         partition,
-        source: first_id(ids, n, old),
+        source: first_id(ids, old),
         nodes: sets::difference(new, old),
     };
     let drops = Steps {
@@ -95,6 +86,6 @@ pub fn put_row(
         source: 0,
         nodes: sets::difference(old, new),
     };
-    let then = put_steps(ids, n, sends, cells, at);
-    put_steps(ids, n, drops, cells, then)
+    let then = put_steps(ids, sends, cells, at);
+    put_steps(ids, drops, cells, then)
 }

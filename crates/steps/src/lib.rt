@@ -7,13 +7,13 @@ ghost use Rattle.cluster.specs.Terms.{most_nodes, buffer_rows};
 ghost use Rattle.cycles.specs.ModelFound.{walk_cells};
 ghost use Rattle.exchange.specs.ModelUncross.{Same};
 ghost use Rattle.sets.specs.ModelBits.{bit, below_of};
-ghost use Rattle.swaps.specs.ModelSwaps.{Tight};
-ghost use Rattle.holders.specs.ModelHolders.{Held};
+ghost use Rattle.holders.specs.ModelHolders.{Follows, Held};
 ghost use Rattle.walks.specs.ModelWalks.{walk_in};
 ghost use Rattle.graph.specs.ModelKept.{Kept};
 ghost use Rattle.steps.specs.ModelSteps.{arcs_in, found_in, sought_in, stepped_in};
 
 use cluster::Cluster;
+use swaps::instance::Instance;
 
 // What a step leaves: how many arcs the walk in y and q has, and the leaves of rows of which nothing is kept.
 #[derive(Clone, Copy)]
@@ -27,26 +27,26 @@ pub fn arcs(
     rows: &[u32],
     tight: &[u32],
     held: &[u32],
-    former: &[u32],
-    partitions: usize,
-    mates: &[u32],
-    caps: &[u32],
+    given: &Instance,
     nodes: u32,
-    z: u32,
     stale: u64,
     kept: &mut [u32],
 ) -> [u32; levels::ARCS]
-    requires { (partitions ≤ buffer_rows) × Kept rows.now former.now partitions mates.now (below_of nodes) z (bit stale) kept.old
-        × Tight mates.now z rows.now partitions tight.now × Held rows.now partitions held.now }
-    ensures { (result ≡ arcs_in former.now partitions mates.now caps.now nodes z rows.now)
-        × Kept rows.now former.now partitions mates.now (below_of nodes) z (bit 0) kept.new }
+    requires { let g = given.now in (g.partitions ≤ buffer_rows) × Kept rows.now g.former.now g.partitions g.mates.now (below_of nodes) g.z (bit stale) kept.old
+        × Follows g rows.now tight.now held.now }
+    ensures { let g = given.now in (result ≡ arcs_in g.former.now g.partitions g.mates.now g.caps.now nodes g.z rows.now)
+        × Kept rows.now g.former.now g.partitions g.mates.now (below_of nodes) g.z (bit 0) kept.new }
 {
     let all = sets::below(nodes);
-    let room = holders::room(rows, partitions, held, caps, Cluster::NODES as u32);
-    let mut arcs = [0u32; levels::ARCS];
-    graph::build(
-        rows, tight, former, partitions, mates, caps, room, all, z, stale, kept, &mut arcs,
+    let room = holders::room(
+        rows,
+        given.partitions,
+        held,
+        given.caps,
+        Cluster::NODES as u32,
     );
+    let mut arcs = [0u32; levels::ARCS];
+    graph::build(rows, tight, given, room, all, stale, kept, &mut arcs);
     arcs
 }
 
@@ -58,32 +58,23 @@ fn search(
     rows: &[u32],
     tight: &[u32],
     held: &[u32],
-    former: &[u32],
-    had: &[u32],
-    partitions: usize,
-    mates: &[u32],
-    caps: &[u32],
+    given: &Instance,
     nodes: u32,
-    z: u32,
     stale: u64,
     kept: &mut [u32],
 ) -> usize
-    requires { (walk_cells ≤ length y.old) × (walk_cells ≤ length q.old) × (partitions ≤ buffer_rows)
-        × Kept rows.now former.now partitions mates.now (below_of nodes) z (bit stale) kept.old
-        × Tight mates.now z rows.now partitions tight.now × Held rows.now partitions held.now × Held former.now partitions had.now }
-    ensures { (result ≤ most_nodes) × (length y.new ≡ length y.old) × (length q.new ≡ length q.old)
-        × Same (found_in former.now partitions mates.now caps.now nodes z rows.now) (walk_in result y.new q.new)
-        × Kept rows.now former.now partitions mates.now (below_of nodes) z (bit 0) kept.new }
+    requires { let g = given.now in (walk_cells ≤ length y.old) × (walk_cells ≤ length q.old) × (g.partitions ≤ buffer_rows)
+        × Kept rows.now g.former.now g.partitions g.mates.now (below_of nodes) g.z (bit stale) kept.old
+        × Follows g rows.now tight.now held.now × Held g.former.now g.partitions g.had.now }
+    ensures { let g = given.now in (result ≤ most_nodes) × (length y.new ≡ length y.old) × (length q.new ≡ length q.old)
+        × Same (found_in g.former.now g.partitions g.mates.now g.caps.now nodes g.z rows.now) (walk_in result y.new q.new)
+        × Kept rows.now g.former.now g.partitions g.mates.now (below_of nodes) g.z (bit 0) kept.new }
 {
     let all = sets::below(nodes);
-    let arcs = arcs(
-        rows, tight, held, former, partitions, mates, caps, nodes, z, stale, kept,
-    );
+    let arcs = arcs(rows, tight, held, given, nodes, stale, kept);
     let mut walk = [0u32; cycles::WALK];
     let m = cycles::find(&arcs, nodes, &mut walk) as usize;
-    circuits::load(
-        y, q, &walk, m, rows, tight, held, former, had, partitions, mates, &arcs, all, z,
-    );
+    circuits::load(y, q, &walk, m, rows, tight, held, given, &arcs, all);
     m
 }
 
@@ -96,34 +87,25 @@ fn seek(
     rows: &[u32],
     tight: &[u32],
     held: &[u32],
-    former: &[u32],
-    had: &[u32],
-    partitions: usize,
-    mates: &[u32],
-    caps: &[u32],
+    given: &Instance,
     nodes: u32,
-    z: u32,
     kept: &mut [u32],
 ) -> Left
-    requires { (last.len ≤ most_nodes) × (walk_cells ≤ length y.old) × (walk_cells ≤ length q.old) × (partitions ≤ buffer_rows)
-        × Kept rows.now former.now partitions mates.now (below_of nodes) z (bit last.stale) kept.old
-        × Tight mates.now z rows.now partitions tight.now × Held rows.now partitions held.now × Held former.now partitions had.now }
-    ensures { (result.len ≤ most_nodes) × (length y.new ≡ length y.old) × (length q.new ≡ length q.old)
-        × Same (sought_in former.now partitions mates.now caps.now nodes z rows.now (walk_in last.len y.old q.old))
+    requires { let g = given.now in (last.len ≤ most_nodes) × (walk_cells ≤ length y.old) × (walk_cells ≤ length q.old) × (g.partitions ≤ buffer_rows)
+        × Kept rows.now g.former.now g.partitions g.mates.now (below_of nodes) g.z (bit last.stale) kept.old
+        × Follows g rows.now tight.now held.now × Held g.former.now g.partitions g.had.now }
+    ensures { let g = given.now in (result.len ≤ most_nodes) × (length y.new ≡ length y.old) × (length q.new ≡ length q.old)
+        × Same (sought_in g.former.now g.partitions g.mates.now g.caps.now nodes g.z rows.now (walk_in last.len y.old q.old))
         (walk_in result.len y.new q.new)
-        × Kept rows.now former.now partitions mates.now (below_of nodes) z (bit result.stale) kept.new }
+        × Kept rows.now g.former.now g.partitions g.mates.now (below_of nodes) g.z (bit result.stale) kept.new }
 {
     let all = sets::below(nodes);
     let len = last.len;
-    if circuits::renew(
-        y, q, len, rows, tight, held, former, had, partitions, mates, caps, all, z,
-    ) {
+    if circuits::renew(y, q, len, rows, tight, held, given, all) {
         return last;
     }
     let stale = last.stale;
-    let len = search(
-        y, q, rows, tight, held, former, had, partitions, mates, caps, nodes, z, stale, kept,
-    );
+    let len = search(y, q, rows, tight, held, given, nodes, stale, kept);
     Left { len, stale: 0 }
 }
 
@@ -135,37 +117,28 @@ pub fn step(
     rows: &mut [u32],
     tight: &mut [u32],
     held: &mut [u32],
-    former: &[u32],
-    had: &[u32],
-    partitions: usize,
-    mates: &[u32],
-    caps: &[u32],
+    given: &Instance,
     nodes: u32,
-    z: u32,
     allowed: bool,
     kept: &mut [u32],
 ) -> Left
-    requires { (last.len ≤ most_nodes) × (walk_cells ≤ length y.old) × (walk_cells ≤ length q.old) × (partitions ≤ buffer_rows) × (partitions ≤ length rows.old)
-        × Kept rows.old former.now partitions mates.now (below_of nodes) z (bit last.stale) kept.old
-        × Tight mates.now z rows.old partitions tight.old × Held rows.old partitions held.old × Held former.now partitions had.now }
-    ensures { (result.len ≤ most_nodes) × (length y.new ≡ length y.old) × (length q.new ≡ length q.old)
+    requires { let g = given.now in (last.len ≤ most_nodes) × (walk_cells ≤ length y.old) × (walk_cells ≤ length q.old) × (g.partitions ≤ buffer_rows) × (g.partitions ≤ length rows.old)
+        × Kept rows.old g.former.now g.partitions g.mates.now (below_of nodes) g.z (bit last.stale) kept.old
+        × Follows g rows.old tight.old held.old × Held g.former.now g.partitions g.had.now }
+    ensures { let g = given.now in (result.len ≤ most_nodes) × (length y.new ≡ length y.old) × (length q.new ≡ length q.old)
         × (rows.new
-        ≡ (stepped_in former.now partitions mates.now caps.now nodes z allowed rows.old (walk_in last.len y.old q.old)).rows)
-        × Same (stepped_in former.now partitions mates.now caps.now nodes z allowed rows.old (walk_in last.len y.old q.old)).last
+        ≡ (stepped_in g.former.now g.partitions g.mates.now g.caps.now nodes g.z allowed rows.old (walk_in last.len y.old q.old)).rows)
+        × Same (stepped_in g.former.now g.partitions g.mates.now g.caps.now nodes g.z allowed rows.old (walk_in last.len y.old q.old)).last
         (walk_in result.len y.new q.new)
-        × Kept rows.new former.now partitions mates.now (below_of nodes) z (bit result.stale) kept.new
-        × Tight mates.now z rows.new partitions tight.new × Held rows.new partitions held.new }
+        × Kept rows.new g.former.now g.partitions g.mates.now (below_of nodes) g.z (bit result.stale) kept.new
+        × Follows g rows.new tight.new held.new }
 {
-    let next = seek(
-        y, q, last, rows, tight, held, former, had, partitions, mates, caps, nodes, z, kept,
-    );
+    let next = seek(y, q, last, rows, tight, held, given, nodes, kept);
     if !allowed {
         return next;
     }
     let all = sets::below(nodes);
-    let turned = circuits::turn(
-        y, q, next.len, rows, tight, held, former, partitions, mates, all, z,
-    );
+    let turned = circuits::turn(y, q, next.len, rows, tight, held, given, all);
     let len = turned.len;
     let stale = next.stale | turned.changed;
     Left { len, stale }

@@ -5,6 +5,8 @@
 ghost use Rattle.std.specs.Prelude.{◌≡◌, ◌≤◌, length, get_or};
 ghost use Rattle.swaps.specs.ModelSwaps.{tight_of, targets_in, Tight};
 
+pub mod instance;
+
 // The rows of a leaf: what the rows of a leaf allow is kept until one of them changes. Row p stands in leaf p / LEAF.
 pub const LEAF: usize = 4;
 
@@ -21,18 +23,16 @@ pub fn tight(mates: &[u32], z: u32, row: u32) -> u32
     ensures { result ≡ tight_of mates.now z row }
 {
     let mut left = row;
-    let mut count = 0;
     let mut nodes = 0;
-    while left != 0 {
-        if count == z {
-            return 0;
+    for _count in 0..z {
+        if left == 0 {
+            return nodes;
         }
         let mate = cell(mates, sets::least(left) as usize);
         left = sets::difference(sets::rest(left), mate);
         nodes = sets::union(nodes, mate);
-        count += 1;
     }
-    nodes
+    if left == 0 { nodes } else { 0 }
 }
 
 // The same for each of the first `partitions` rows, into their cells of `tight`.
@@ -40,10 +40,8 @@ pub fn tighten(mates: &[u32], z: u32, rows: &[u32], partitions: usize, tight: &m
     requires { partitions ≤ length tight.old }
     ensures { Tight mates.now z rows.now partitions tight.new }
 {
-    let mut p = 0;
-    while p < partitions {
+    for p in 0..partitions {
         tight[p] = self::tight(mates, z, cell(rows, p));
-        p += 1;
     }
 }
 

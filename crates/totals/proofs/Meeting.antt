@@ -1,6 +1,6 @@
 -- The ids met in the cells, each once: one cell more.
 -- Assumes nothing.
-use Prim.Native.Nat.{ℕ, ◌+◌, ◌-◌, ◌≤◌, ◌<◌}
+use Prim.Native.Nat.{ℕ, ◌+◌, ◌<◌}
 use mathlib.Core.Path.{◌≡◌, refl, sym, ap, ap₂, ◌∙◌}
 use mathlib.Core.Bool.{Bool, true, false, ◌||◌}
 use mathlib.Core.List.{List, [], ◌∷◌, ◌++◌}
@@ -8,30 +8,23 @@ use mathlib.Core.Logic.{◌⊎◌, inl, inr, ⊎_elim}
 use native.Mathlib.Numerals.{add-one}
 use native.Mathlib.Omega.{arith}
 use lib.Dec.{eqb}
-use lib.ListN.{length, take, drop, get_or, set, replicate, length-set, length-replicate, get_or-replicate}
+use lib.ListN.{length, take, get_or, set, replicate, length-set, length-replicate, get_or-replicate}
 use lib.Seq.{take-suc, take-set-le, get_or-set_same, get_or-set_other}
 use borrow.Author.Tests.{eqb-true, eq-eqb}
+use Rattle.std.specs.List.{list_any}
 use Rattle.sums.proofs.Sum.{eq_or_ne}
 use Rattle.cluster.specs.Terms.{mem}
-use Rattle.cluster.proofs.Lists.{mem_head, mem-skip}
-use Rattle.cells.proofs.Cells.{rest_cons, rest_all, rest-none}
+use Rattle.cluster.proofs.Lists.{same_test}
 use Rattle.totals.specs.ModelTotals.{SameIds}
 
 -- ---- whether an id is among the first
 
-module _ (ids : List ℕ) (count : ℕ) (whole : count ≤ length ids) (id : ℕ) where
-  pub has-start : mem id (take count ids) ≡ mem id (take (count - 0) (drop 0 ids))
-  has-start = ap (mem id) (rest_all ids count)
-
-  pub has_here : (i : ℕ) → i < count → get_or ids i 0 ≡ id → mem id (take (count - i) (drop i ids)) ≡ true
-  has_here i h e = ap (mem id) (rest_cons ids count i 0 h whole) ∙ mem_head id (get_or ids i 0) (take (count - (i + 1)) (drop (i + 1) ids)) (sym e)
-
-  pub has-later : (i : ℕ) → i < count → (get_or ids i 0 ≡ id → ⊥) → mem id (take (count - i) (drop i ids)) ≡ mem id (take (count - (i + 1)) (drop (i + 1) ids))
-  has-later i h e = ap (mem id) (rest_cons ids count i 0 h whole) ∙ mem-skip id (get_or ids i 0) (take (count - (i + 1)) (drop (i + 1) ids)) (λ q. e (sym q))
-
-  pub has-none : (i : ℕ) → count ≤ i → mem id (take (count - i) (drop i ids)) ≡ false
-  unfolding mem
-  has-none i h = ap (mem id) (rest-none ids count i h)
+-- What `contains` answers.
+pub any_mem : (i : ℕ) (l : List ℕ) → list_any (λ y. eqb y i) l ≡ mem i l
+unfolding mem
+any_mem i [] = refl
+any_mem i (x ∷ xs) =
+    ap₂ ◌||◌ (same_test (eqb x i) (eqb i x) (λ q. eq-eqb i x (sym (eqb-true x i q))) (λ q. eq-eqb x i (sym (eqb-true i x q)))) (any_mem i xs)
 
 -- ---- one id more
 

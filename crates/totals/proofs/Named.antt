@@ -138,19 +138,19 @@ pub record Least (last acc : ℕ) (l : List ℕ) (r : ℕ) : Type 0 where
   pub below : (x : ℕ) → mem x l ≡ true → last < x → r ≤ x
   pub kept : (acc ≡ 0 → ⊥) → (r ≤ acc) × (r ≡ 0 → ⊥)
 
-near-low : (last acc x : ℕ) → x ≤ last → nearer_of last acc x ≡ acc
+pub near-low : (last acc x : ℕ) → x ≤ last → nearer_of last acc x ≡ acc
 unfolding nearer_of
 near-low last acc x h = rw (le-leb x last h)
 
-near_first : (last acc x : ℕ) → last < x → acc ≡ 0 → nearer_of last acc x ≡ x
+pub near_first : (last acc x : ℕ) → last < x → acc ≡ 0 → nearer_of last acc x ≡ x
 unfolding nearer_of
 near_first last acc x h e = rw (lt-leb x last h, eq-eqb acc 0 e)
 
-near-less : (last acc x : ℕ) → last < x → (acc ≡ 0 → ⊥) → x < acc → nearer_of last acc x ≡ x
+pub near-less : (last acc x : ℕ) → last < x → (acc ≡ 0 → ⊥) → x < acc → nearer_of last acc x ≡ x
 unfolding nearer_of
 near-less last acc x h e l = rw (lt-leb x last h, ne_eqb acc 0 e, lt-ltb x acc l)
 
-near-more : (last acc x : ℕ) → last < x → (acc ≡ 0 → ⊥) → acc ≤ x → nearer_of last acc x ≡ acc
+pub near-more : (last acc x : ℕ) → last < x → (acc ≡ 0 → ⊥) → acc ≤ x → nearer_of last acc x ≡ acc
 unfolding nearer_of
 near-more last acc x h e l = rw (lt-leb x last h, ne_eqb acc 0 e, le-ltb x acc l)
 

@@ -13,11 +13,12 @@ use borrow.Author.Tests.{lt-leb, eq-eqb, ne_eqb}
 use Rattle.sums.proofs.Sum.{eq_or_ne}
 use Rattle.sums.proofs.Tests.{true_or_false}
 use Rattle.cluster.proofs.Lists.{mem_head}
+use Rattle.cluster.specs.TermsRefusal.{number_of}
 use Rattle.fields.specs.RecordField.{Bytes, part, bytes_of, has, number_at, rule_of, legal, head_width, field, field_at}
 use Rattle.fields.specs.declared.Field.{Field}
 use Rattle.fields.specs.declared.Field.TheVariants.{Body, Refused}
 use Rattle.numbers.proofs.Numbers.{length-bytes, bytes_there, number_here, part-append}
-use Rattle.fields.proofs.RecordField.{legal-any, one_tag, refused-some, whole, field_back, length-field, field_here, body_here, rest_here}
+use Rattle.fields.proofs.RecordField.{legal-any, one_tag, refusal-some, whole, field_back, length-field, field_here, body_here, rest_here}
 use Rattle.totals.specs.RecordTotals.{Total, total, total_field, total_fields}
 use Rattle.totals.specs.RecordTotalsFaults.{total_at, total_bytes, total_fault, TotalsRead, totals_end, totals_refused, row_begins, total_in, totals_from}
 use Rattle.totals.proofs.Walk.{total-width}
@@ -67,7 +68,7 @@ module _ (s : List ℕ) (b : Bytes s) where
       go : (f : Field) → field_at s at (11 ∷ []) 0 ≡ f
           → ((x : ℕ) (t : Total) → totals_from k s x t.id (ts ++ (t ∷ [])) ≡ totals_end us end → TotalsBack s x t.id (ts ++ (t ∷ [])) us end)
           → next f ≡ totals_end us end → TotalsBack s at last ts us end
-      go (Refused x y) d later q = absurd (refused_ends x y us end q)
+      go (Refused x y) d later q = absurd (refused_ends (number_of x) y us end q)
       go (Body tag start len) d later q =
           let t = total_at s start in
           let w = whole s at (11 ∷ []) 0 tag start len d in
@@ -169,7 +170,7 @@ totals-some s (suc k) at last ts r b h =
 
     go : (f : Field) → field_at s at (11 ∷ []) 0 ≡ f → ((x : ℕ) (t : Total) → totals_from k s x t.id (ts ++ (t ∷ [])) ≡ totals_refused r b → 0 < r)
         → next f ≡ totals_refused r b → 0 < r
-    go (Refused x y) d later q = let z : x ≡ r = cc in omega (arith, (refused-some s at (11 ∷ []) 0 x y d).0)
+    go (Refused x y) d later q = let z : number_of x ≡ r = cc in omega (arith, refusal-some x)
     go (Body tag start len) d later q =
         let t = total_at s start in
         let pick : ((c : Bool) → eqb (total_fault last t) 0 ≡ c

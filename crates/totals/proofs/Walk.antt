@@ -9,6 +9,8 @@ use lib.Dec.{leb}
 use lib.ListN.{length}
 use borrow.Author.Tests.{le-leb, lt-leb, lt-ltb, le-ltb, eq-eqb, ne_eqb}
 use Rattle.sums.specs.TermsSums.{tab}
+use Rattle.cluster.specs.declared.refusal.Refusal.{Refusal}
+use Rattle.cluster.specs.TermsRefusal.{number_of}
 use Rattle.fields.specs.RecordField.{head_width, rule_of, Whole, field_at}
 use Rattle.fields.specs.declared.Field.TheVariants.{Body, Refused}
 use Rattle.fields.proofs.RecordField.{one_tag}
@@ -106,7 +108,7 @@ module _ {s : List ℕ} {from last at : ℕ} (k : To s from last at) where
         ∙ (ap (λ (n : ℕ). totals_from n s at last (totals_at s from many)) f ∙ going left s at last (totals_at s from many) (simp (lt-leb (length s) at h, e)))
 
     -- A field that is not whole stops the reading;
-    pub to_halt : {refusal byte : ℕ} → Refused refusal byte ≡ field_at s at (11 ∷ []) 0 → totals_refused refusal byte ≡ totals_from (length s) s from 0 []
+    pub to_halt : {refusal : Refusal} {byte : ℕ} → Refused refusal byte ≡ field_at s at (11 ∷ []) 0 → totals_refused (number_of refusal) byte ≡ totals_from (length s) s from 0 []
     to_halt d = sym (turn ∙ ap (total_in on s at last) (sym d))
 
     module _ {tag start len : ℕ} (d : Body tag start len ≡ field_at s at (11 ∷ []) 0) where

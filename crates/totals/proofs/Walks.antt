@@ -8,21 +8,9 @@ use lib.ListN.{length, take, drop, get_or}
 use Rattle.sums.specs.ModelSums.{is}
 use Rattle.sums.proofs.Sum.{is_eq, is_ne}
 use Rattle.cells.proofs.Cells.{rest_cons, rest_all, rest-none}
-use Rattle.totals.specs.ModelTotals.{nearer_of, least_from, least_above, count_in}
+use Rattle.totals.specs.ModelTotals.{count_in}
 
 module _ (cells : List ℕ) (end : ℕ) (whole : end ≤ length cells) where
-  pub least_start : (last : ℕ) → least_above last (take end cells) ≡ least_from last 0 (take (end - 0) (drop 0 cells))
-  unfolding least_above
-  least_start last = ap (least_from last 0) (rest_all cells end)
-
-  pub least-next : (last least i : ℕ) → i < end → least_from last least (take (end - i) (drop i cells)) ≡ least_from last (nearer_of last least (get_or cells i 0)) (take (end - (i + 1)) (drop (i + 1) cells))
-  unfolding least_from
-  least-next last least i h = ap (least_from last least) (rest_cons cells end i 0 h whole)
-
-  pub least_end : (last least i : ℕ) → end ≤ i → least_from last least (take (end - i) (drop i cells)) ≡ least
-  unfolding least_from
-  least_end last least i h = ap (least_from last least) (rest-none cells end i h)
-
   pub count-start : (id : ℕ) → count_in id (take end cells) ≡ 0 + count_in id (take (end - 0) (drop 0 cells))
   count-start id = omega (arith, ap (count_in id) (rest_all cells end))
 

@@ -2,6 +2,7 @@
 -- Assumes nothing.
 use Rattle.std.specs.Prelude.{ℕ, zero, suc, ◌+◌, ◌*◌, Bool, true, false, ◌&&◌, ◌||◌, cond, List, [], ◌∷◌, ◌++◌, ltb, leb, eqb, length}
 use Rattle.sums.specs.TermsSums.{tab}
+use Rattle.cluster.specs.TermsRefusal.{number_of}
 use Rattle.fields.specs.RecordField.{head_width, has, number_at, field_at}
 use Rattle.fields.specs.declared.Field.{Field}
 use Rattle.fields.specs.declared.Field.TheVariants.{Body, Refused}
@@ -38,7 +39,7 @@ row_begins s at = has (length s) at head_width && eqb (number_at s at 1) 10
 
 -- A field 11, and what comes after it.
 abbrev pub total_in : (ℕ → Total → TotalsRead) → List ℕ → ℕ → ℕ → Field → TotalsRead
-total_in go s at last (Refused refusal byte) = totals_refused refusal byte
+total_in go s at last (Refused refusal byte) = totals_refused (number_of refusal) byte
 total_in go s at last (Body tag start len) =
     cond (eqb (total_fault last (total_at s start)) 0) (go (start + len) (total_at s start)) (totals_refused (total_fault last (total_at s start)) at)
 

@@ -3,38 +3,20 @@
 
 ghost use Rattle.std.specs.Prelude.{◌≡◌, ◌||◌, ℕ, ◌+◌, ◌*◌, ◌≤◌, ◌<◌, eqb, length, take};
 ghost use Rattle.cluster.specs.Terms.{row_cells, buffer_rows, layout_cells, mem};
-ghost use Rattle.totals.specs.ModelTotals.{nearer_of, least_above, count_in, SameIds};
+ghost use Rattle.totals.specs.ModelTotals.{least_above, count_in, SameIds};
 
 use cluster::Cluster;
 
 pub mod reading;
 pub mod writing;
 
-// Of the least id above `last` so far, 0 for none, and one more id, the least.
-fn nearer(last: u32, least: u32, id: u32) -> u32
-    ensures { result ≡ nearer_of last least id }
-{
-    if id <= last {
-        return least;
-    }
-    if least == 0 {
-        return id;
-    }
-    if id < least { id } else { least }
-}
-
 // The least of the first `count` ids above `last`; 0 where there is none.
 pub fn least_above(ids: &[u32], count: usize, last: u32) -> u32
     requires { count ≤ length ids.now }
     ensures { result ≡ least_above last (take count ids.now) }
 {
-    let mut least = 0;
-    let mut i = 0;
-    while i < count {
-        least = nearer(last, least, ids[i]);
-        i += 1;
-    }
-    least
+    let ids = ids[..count].iter().copied();
+    ids.filter(|id| last < *id).min().unwrap_or(0)
 }
 
 // How many cells in the rows of the first partitions hold an id.
@@ -42,31 +24,14 @@ pub fn copies_of(cells: &[u32], partitions: usize, id: u32) -> u32
     requires { (partitions ≤ buffer_rows) × (partitions * row_cells ≤ length cells.now) }
     ensures { result ≡ count_in id (take (partitions * row_cells) cells.now) }
 {
-    let end = partitions * Cluster::ROW;
+    // A loop: the machine code of a filter's count takes one cell a turn, and that of this one sixteen.
     let mut copies = 0;
-    let mut i = 0;
-    while i < end {
-        if cells[i] == id {
+    for cell in &cells[..partitions * Cluster::ROW] {
+        if *cell == id {
             copies += 1;
         }
-        i += 1;
     }
     copies
-}
-
-// Whether an id is among the first `count`.
-fn has(ids: &[u32], count: usize, id: u32) -> bool
-    requires { count ≤ length ids.now }
-    ensures { result ≡ mem id (take count ids.now) }
-{
-    let mut i = 0;
-    while i < count {
-        if ids[i] == id {
-            return true;
-        }
-        i += 1;
-    }
-    false
 }
 
 // Puts an id behind the first `count`, unless it is among them; answers how many there are then.
@@ -75,7 +40,7 @@ fn with_id(ids: &mut [u32], count: usize, id: u32) -> usize
     ensures { (length ids.new ≡ length ids.old) × (result ≤ count + 1)
         × ((j : ℕ) → mem j (take result ids.new) ≡ (mem j (take count ids.old) || eqb j id)) }
 {
-    if has(ids, count, id) {
+    if ids[..count].contains(&id) {
         return count;
     }
     ids[count] = id;
@@ -102,10 +67,8 @@ pub fn gather(cells: &[u32], partitions: usize, ids: &mut [u32]) -> usize
     let end = partitions * Cluster::ROW;
     let mut met = [0u32; 1025];
     let mut count = 0;
-    let mut i = 0;
-    while i < end {
+    for i in 0..end {
         let id = cells[i];
-        i += 1;
         let slot = slot_of(id);
         if met[slot] == id {
             continue;

@@ -17,6 +17,7 @@ pub fn count_ids(cells: &[u32], partitions: usize) -> usize
     let count = gather(cells, partitions, &mut ids);
     let mut n = 0;
     let mut last = 0;
+    // A `loop`: each id is found from the one before it, until none is above.
     loop {
         let id = least_above(&ids, count, last);
         if id == 0 {
@@ -48,6 +49,7 @@ pub fn put_totals(out: &mut [u8], from: usize, cells: &[u32], partitions: usize)
     let count = gather(cells, partitions, &mut ids);
     let mut last = 0;
     let mut at = from;
+    // A `loop`, as above.
     loop {
         let id = least_above(&ids, count, last);
         if id == 0 {

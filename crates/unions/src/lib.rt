@@ -22,10 +22,8 @@ fn unite(held: &mut [u32], kept: &[u32], at: usize)
     ensures { held.new
         ≡ put 0 (λ t. union_of (get_or held.old t 0) (get_or kept.now (at + t) 0)) most_nodes held.old }
 {
-    let mut t = 0;
-    while t < Cluster::NODES {
+    for t in 0..Cluster::NODES {
         arcs::join(held, t, kept[at + t]);
-        t += 1;
     }
 }
 
@@ -36,23 +34,19 @@ fn united(kept: &[u32], k: usize, j: usize) -> [u32; Cluster::NODES]
     ensures { (length result ≡ most_nodes) × ((t : ℕ) → t < most_nodes → get_or result t 0 ≡ union_at kept.now k (j + t)) }
 {
     let mut held = [0u32; Cluster::NODES];
-    let mut b = 0;
-    while b < PARTS {
+    for b in 0..PARTS {
         unite(&mut held, kept, (k + b) * levels::ARCS + j);
-        b += 1;
     }
     held
 }
 
-// Writes cells from the cell `at` on.
+// Writes cells from the cell `at` on. A loop: at `copy_from_slice` the compiler asks each time whether the two slices overlap.
 fn store(kept: &mut [u32], at: usize, cells: &[u32])
     requires { at + length cells.now ≤ length kept.old }
     ensures { kept.new ≡ put at (λ t. get_or cells.now t 0) (length cells.now) kept.old }
 {
-    let mut t = 0;
-    while t < cells.len() {
+    for t in 0..cells.len() {
         kept[at + t] = cells[t];
-        t += 1;
     }
 }
 

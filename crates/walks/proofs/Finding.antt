@@ -86,14 +86,12 @@ module _ (rows mates : List ℕ) (all z u v base : ℕ) where
     low : r < mask_bits
     low = omega (arith, least, least-some left word some)
 
-    pub sift_hit : ok ≡ true → (sifted_of rows mates all z u v base left ≡ r) × (r ≤ mask_bits)
+    pub sift_hit : ok ≡ true → sifted_of rows mates all z u v base left ≡ r
     unfolding sifted_of
-    sift_hit o = (
-      first-is (test left) mask_bits 0 r (omega arith) low
-          (ap₂ ◌&&◌ (bit-true left r (ap (bit left) least ∙ least_at left (least-some left word some))) (sym tried ∙ o))
-          (λ j a b. ap (λ (c : Bool). c && ok_of rows mates all z (base + j) u v) (bit-false left j (least-before left j (omega (arith, least))))),
-      omega (arith, low),
-    )
+    sift_hit o =
+        first-is (test left) mask_bits 0 r (omega arith) low
+        (ap₂ ◌&&◌ (bit-true left r (ap (bit left) least ∙ least_at left (least-some left word some))) (sym tried ∙ o))
+        (λ j a b. ap (λ (c : Bool). c && ok_of rows mates all z (base + j) u v) (bit-false left j (least-before left j (omega (arith, least)))))
 
     -- .. and else left.
     pub sift_miss : ok ≡ false → (rest : ℕ) → rest ≡ without_of left r → sifted_of rows mates all z u v base left ≡ sifted_of rows mates all z u v base rest

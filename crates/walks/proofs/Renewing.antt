@@ -1,12 +1,13 @@
 -- The arcs of a walk again in other rows: where they are looked for, and that only the entries of a walk up to its length are read.
 -- Assumes nothing.
 use Prim.Native.Nat.{ℕ, suc, ◌-◌, ◌≤◌, ◌<◌}
-use mathlib.Core.Path.{◌≡◌, ap, ap₂, ◌∙◌}
+use mathlib.Core.Path.{◌≡◌, sym, ap, ap₂, ◌∙◌}
 use mathlib.Core.Bool.{Bool, true, ◌&&◌, cond}
 use mathlib.Core.List.{List}
 use native.Mathlib.Omega.{arith}
 use lib.Dec.{ltb}
 use borrow.Author.Tests.{lt-ltb, le-ltb, ltb-true}
+use Rattle.std.specs.Prelude.{Option, None, Some, is_some, unwrap_or, IfSome}
 use Rattle.sums.specs.TermsSums.{every_to}
 use Rattle.sums.specs.ModelSums.{first_from}
 use Rattle.sums.proofs.Tests.{both, every_cong}
@@ -14,6 +15,16 @@ use Rattle.sets.specs.ModelBits.{bits_at}
 use Rattle.exchange.specs.ModelCircuit.{cost}
 use Rattle.exchange.specs.ModelUncross.{Walk, Same}
 use Rattle.walks.specs.ModelWalks.{suits_at, room_at, renewed_at, renewed, stands_at, stands}
+
+-- Where a partition is looked for, of P: the number that an answer stands for is at most P, ..
+pub found_le : (o : Option ℕ) (P : ℕ) → IfSome o (λ p. p < P) → unwrap_or o P ≤ P
+found_le None P h = omega arith
+found_le (Some p) P h = omega arith
+
+-- .. and less where there is one.
+pub found_some : (o : Option ℕ) (P : ℕ) → IfSome o (λ p. p < P) → (is_some o ≡ ltb (unwrap_or o P) P) × IfSome o (λ p. p ≤ P)
+found_some None P h = (sym (le-ltb P P (omega arith)), tt)
+found_some (Some p) P h = (sym (lt-ltb p P h), omega arith)
 
 module _ (rows former : List ℕ) (P : ℕ) (mates : List ℕ) (all z : ℕ) where
   -- The first partition from q on with the exchange of u for v at the cost that it had at q.

@@ -3,18 +3,19 @@
 // past a slice's end counts as 0.
 #![tactic(auto)]
 
-ghost use Rattle.std.specs.Prelude.{◌≡◌, ℕ, ◌+◌, ◌-◌, ◌≤◌, ◌<◌};
+ghost use Rattle.std.specs.Prelude.{◌≡◌, ℕ, ◌+◌, ◌-◌, ◌≤◌, ◌<◌, is_some, unwrap_or, IfSome};
 ghost use Rattle.cluster.specs.Terms.{buffer_rows};
 ghost use Rattle.sums.specs.ModelSums.{first_from};
 ghost use Rattle.sets.specs.ModelBits.{mask_bits, bit, bits_at};
 ghost use Rattle.exchange.specs.ModelCircuit.{cost};
 ghost use Rattle.levels.specs.ModelGraph.{weight_of};
 ghost use Rattle.swaps.specs.ModelSwaps.{Tight};
-ghost use Rattle.holders.specs.ModelHolders.{Held};
+ghost use Rattle.holders.specs.ModelHolders.{Follows, Held};
 ghost use Rattle.walks.specs.ModelWalks.{Picks, ok_of, sifted_of, suits_at, witness_of, room_at, renewed_at, stands_at};
 
 use cluster::Cluster;
 use holders::{BITS, WORDS};
+use swaps::instance::Instance;
 
 // Digit i of s.
 fn digit(s: u32, i: u32) -> u32
@@ -53,73 +54,63 @@ fn candidates(own: u32, other: u32, owned: u32, othered: u32, w: u32) -> u32
     sets::meet(here, lost)
 }
 
-// The first of the partitions of a word, which begins at `base`, in whose row u may give way to v; WIDTH where there is none.
+// The first of the partitions of a word, which begins at `base`, in whose row u may give way to v, if there is one.
 fn sift(
     rows: &[u32],
     tight: &[u32],
-    partitions: usize,
-    mates: &[u32],
+    given: &Instance,
     all: u32,
-    z: u32,
     u: u32,
     v: u32,
     base: usize,
     word: u32,
-) -> u32
-    requires { (base < buffer_rows) × ((j : ℕ) → j < mask_bits → bit word j ≡ 1 → base + j < partitions) × Tight mates.now z rows.now partitions tight.now }
-    ensures { (result ≡ sifted_of rows.now mates.now all z u v base word) × (result ≤ mask_bits) }
+) -> Option<u32>
+    requires { let g = given.now in (base < buffer_rows) × ((j : ℕ) → j < mask_bits → bit word j ≡ 1 → base + j < g.partitions) × Tight g.mates.now g.z rows.now g.partitions tight.now }
+    ensures { let g = given.now in (unwrap_or result mask_bits ≡ sifted_of rows.now g.mates.now all g.z u v base word) × IfSome result (λ j. j < mask_bits) }
 {
-    let mut left = word;
-    while left != 0 {
-        let j = sets::least(left);
+    for j in sets::iter(word) {
         let p = base + j as usize;
-        if allows(rows, tight, partitions, mates, all, z, p, u, v) {
-            return j;
+        if allows(rows, tight, given, all, p, u, v) {
+            return Some(j);
         }
-        left = sets::without(left, j);
     }
-    sets::WIDTH
+    None
 }
 
-// The first partition from `start` on with the exchange of u for v at the weight w. A node past the last is in no row.
+// The first partition from `start` on with the exchange of u for v at the weight w, if there is one. A node past the last is in no row.
 pub fn first(
     rows: &[u32],
     tight: &[u32],
     held: &[u32],
-    former: &[u32],
-    had: &[u32],
-    partitions: usize,
-    mates: &[u32],
+    given: &Instance,
     all: u32,
-    z: u32,
     w: u32,
     u: u32,
     v: u32,
     start: usize,
-) -> usize
-    requires { (w ≤ 2) × (start ≤ partitions) × (partitions ≤ buffer_rows) × Tight mates.now z rows.now partitions tight.now × Held rows.now partitions held.now × Held former.now partitions had.now }
-    ensures { (result ≡ first_from (suits_at rows.now former.now mates.now all z w u v) (partitions - start) start) × (result ≤ partitions) }
+) -> Option<usize>
+    requires { let g = given.now in (w ≤ 2) × (start ≤ g.partitions) × (g.partitions ≤ buffer_rows) × Follows g rows.now tight.now held.now × Held g.former.now g.partitions g.had.now }
+    ensures { let g = given.now in (unwrap_or result g.partitions ≡ first_from (suits_at rows.now g.former.now g.mates.now all g.z w u v) (g.partitions - start) start) × IfSome result (λ p. p < g.partitions) }
 {
     if Cluster::NODES <= u as usize {
-        return partitions;
+        return None;
     }
     if Cluster::NODES <= v as usize {
-        return partitions;
+        return None;
     }
     let mut p = start;
-    while p < partitions {
+    while p < given.partitions {
         let k = p / BITS;
         let i = WORDS * u as usize + k;
         let j = WORDS * v as usize + k;
-        let word = candidates(held[i], held[j], had[i], had[j], w);
+        let word = candidates(held[i], held[j], given.had[i], given.had[j], w);
         let left = sets::difference(word, sets::below((p % BITS) as u32));
-        let found = sift(rows, tight, partitions, mates, all, z, u, v, BITS * k, left);
-        if found < sets::WIDTH {
-            return BITS * k + found as usize;
+        if let Some(j) = sift(rows, tight, given, all, u, v, BITS * k, left) {
+            return Some(BITS * k + j as usize);
         }
         p = BITS * k + BITS;
     }
-    partitions
+    None
 }
 
 // The first partition with the exchange of u for v at the arc's weight.
@@ -127,43 +118,34 @@ pub fn witness(
     rows: &[u32],
     tight: &[u32],
     held: &[u32],
-    former: &[u32],
-    had: &[u32],
-    partitions: usize,
-    mates: &[u32],
+    given: &Instance,
     arcs: &[u32],
     all: u32,
-    z: u32,
     u: u32,
     v: u32,
 ) -> usize
-    requires { (partitions ≤ buffer_rows) × Tight mates.now z rows.now partitions tight.now
-        × Held rows.now partitions held.now × Held former.now partitions had.now }
-    ensures { (result ≡ witness_of rows.now former.now partitions mates.now arcs.now all z u v) × (result ≤ partitions) }
+    requires { let g = given.now in (g.partitions ≤ buffer_rows) × Follows g rows.now tight.now held.now × Held g.former.now g.partitions g.had.now }
+    ensures { let g = given.now in (result ≡ witness_of rows.now g.former.now g.partitions g.mates.now arcs.now all g.z u v) × (result ≤ g.partitions) }
 {
     let w = weight(arcs, u, v);
-    first(
-        rows, tight, held, former, had, partitions, mates, all, z, w, u, v, 0,
-    )
+    first(rows, tight, held, given, all, w, u, v, 0).unwrap_or(given.partitions)
 }
 
 // Whether node a of the row of partition p may give way to node b.
 pub fn allows(
     rows: &[u32],
     tight: &[u32],
-    partitions: usize,
-    mates: &[u32],
+    given: &Instance,
     all: u32,
-    z: u32,
     p: usize,
     a: u32,
     b: u32,
 ) -> bool
-    requires { (p < partitions) × Tight mates.now z rows.now partitions tight.now }
-    ensures { result ≡ ok_of rows.now mates.now all z p a b }
+    requires { let g = given.now in (p < g.partitions) × Tight g.mates.now g.z rows.now g.partitions tight.now }
+    ensures { let g = given.now in result ≡ ok_of rows.now g.mates.now all g.z p a b }
 {
     let row = swaps::cell(rows, p);
-    let mate = swaps::cell(mates, a as usize);
+    let mate = swaps::cell(given.mates, a as usize);
     sets::member(swaps::targets_in(all, row, mate, tight[p]), b)
 }
 
@@ -190,49 +172,31 @@ pub fn room(rows: &[u32], held: &[u32], partitions: usize, caps: &[u32], u: u32)
     holders::count(rows, partitions, held, u) < cap
 }
 
-// An arc in other rows: whether it stands in them, and at which partition.
-#[derive(Clone, Copy)]
-pub struct Arc {
-    pub stands: bool,
-    pub partition: usize,
-}
-
 // The arc from u to v again, which was an exchange at q: the next partition, from q on, with the same exchange at the same cost. A step over the
-// store stands where u has room.
+// store, `partitions`, stays one where u has room.
 pub fn renewed(
     rows: &[u32],
     tight: &[u32],
     held: &[u32],
-    former: &[u32],
-    had: &[u32],
-    partitions: usize,
-    mates: &[u32],
-    caps: &[u32],
+    given: &Instance,
     all: u32,
-    z: u32,
     q: u32,
     u: u32,
     v: u32,
-) -> Arc
-    requires { (partitions ≤ buffer_rows) × Tight mates.now z rows.now partitions tight.now
-        × Held rows.now partitions held.now × Held former.now partitions had.now }
-    ensures { (result.stands ≡ stands_at rows.now former.now partitions mates.now all z caps.now q u v)
-        × (result.partition ≡ renewed_at rows.now former.now partitions mates.now all z q u v)
-        × (result.partition ≤ partitions) }
+) -> Option<usize>
+    requires { let g = given.now in (g.partitions ≤ buffer_rows) × Follows g rows.now tight.now held.now × Held g.former.now g.partitions g.had.now }
+    ensures { let g = given.now in (is_some result ≡ stands_at rows.now g.former.now g.partitions g.mates.now all g.z g.caps.now q u v)
+        × (unwrap_or result g.partitions ≡ renewed_at rows.now g.former.now g.partitions g.mates.now all g.z q u v)
+        × IfSome result (λ p. p ≤ g.partitions) }
 {
     let start = q as usize;
-    if partitions <= start {
-        return Arc {
-            stands: room(rows, held, partitions, caps, u),
-            partition: partitions,
+    if given.partitions <= start {
+        return if room(rows, held, given.partitions, given.caps, u) {
+            Some(given.partitions)
+        } else {
+            None
         };
     }
-    let w = arc_cost(former, partitions, q, u, v) as u32;
-    let p = first(
-        rows, tight, held, former, had, partitions, mates, all, z, w, u, v, start,
-    );
-    Arc {
-        stands: p < partitions,
-        partition: p,
-    }
+    let w = arc_cost(given.former, given.partitions, q, u, v) as u32;
+    first(rows, tight, held, given, all, w, u, v, start)
 }

@@ -1,6 +1,6 @@
 -- The first member of a set that leads to a node, over plain numbers and lists.
 -- Assumes nothing.
-use Prim.Native.Nat.{ℕ, ◌^◌, ◌<◌}
+use Prim.Native.Nat.{ℕ, ◌<◌}
 use mathlib.Core.Path.{◌≡◌, refl, sym, ap, ap₂, ◌∙◌}
 use mathlib.Core.Bool.{Bool, true, false, ◌&&◌}
 use mathlib.Core.List.{List}
@@ -12,8 +12,9 @@ use Rattle.sums.specs.ModelSums.{first_from}
 use Rattle.sums.proofs.Sum.{eq_or_ne}
 use Rattle.sums.proofs.First.{first-is, first-is-none, first_cong, first_passes}
 use Rattle.sums.proofs.Tests.{both}
-use Rattle.sets.specs.ModelBits.{mask_bits, bit, member_of, without_of, least_of}
-use Rattle.sets.proofs.Laws.{bit_zero, member-true, bit-true, bit-false, bit-without_other, least-before, least_at, least-some}
+use Rattle.sets.specs.ModelBits.{mask_bits, bit, member_of, without_of}
+use Rattle.sets.proofs.Laws.{bit_zero, member-true, bit-true, bit-false, bit-without_other, least-before, least_at}
+use Rattle.sets.specs.ModelMembers.{Comes}
 use Rattle.waves.specs.ModelWaves.{source_of}
 
 -- Not both where the second fails.
@@ -38,24 +39,20 @@ module _ (leads : List ℕ) (v : ℕ) where
 
   -- ---- the loop of `source`
 
-  module _ (left u : ℕ) (w : left < 2 ^ mask_bits) (s : left ≡ 0 → ⊥) (eu : u ≡ least_of left) where
-    -- The least member that is left is a node.
-    pub source-node : u < mask_bits
-    source-node = omega (arith, least-some left w s)
-
-    -- It is found where it leads to v.
+  module _ (left u rest : ℕ) (m : Comes left u rest) where
+    -- The least member is found where it leads to v.
     pub source_here : member_of (get_or leads u 0) v ≡ true → u ≡ source_of leads left v
     unfolding source_of
     source_here e =
-        let m : bit left u ≡ 1 = ap (bit left) eu ∙ least_at left (least-some left w s) in
-        sym (first-is (passes left) mask_bits 0 u (omega arith) (omega (arith, source-node)) (ap₂ ◌&&◌ (bit-true left u m) e)
-        (λ j a h. ap (λ (x : Bool). x && member_of (get_or leads j 0) v) (bit-false left j (least-before left j (omega arith)))))
+        let k : bit left u ≡ 1 = ap (bit left) m.least ∙ least_at left (omega (arith, m.least, m.below)) in
+        sym (first-is (passes left) mask_bits 0 u (omega arith) (omega (arith, m.below)) (ap₂ ◌&&◌ (bit-true left u k) e)
+        (λ j a h. ap (λ (x : Bool). x && member_of (get_or leads j 0) v) (bit-false left j (least-before left j (omega (arith, m.least))))))
 
     -- It is passed over where it does not.
-    pub source-on : member_of (get_or leads u 0) v ≡ false → (rest : ℕ) → rest ≡ without_of left u → source_of leads rest v ≡ source_of leads left v
+    pub source-on : member_of (get_or leads u 0) v ≡ false → source_of leads rest v ≡ source_of leads left v
     unfolding source_of member_of
-    source-on e rest q =
-        rw q
+    source-on e =
+        rw (m.rest, ← m.least)
         (first_cong (passes (without_of left u)) (passes left) mask_bits 0
         (λ j a h. ⊎_elim (λ i. not_both (member_of (without_of left u) j) _ (at i) ∙ sym (not_both (member_of left j) _ (at i)))
         (λ i. ap (λ (x : Bool). x && member_of (get_or leads j 0) v) (other j (omega arith) i)) (eq_or_ne u j)))

@@ -1,13 +1,14 @@
 -- Where an arc of a way is, as the code finds it, over plain lists and numbers.
 -- Assumes nothing.
-use Prim.Native.Nat.{ℕ, ◌+◌, ◌-◌, ◌≤◌, ◌<◌}
-use mathlib.Core.Path.{◌≡◌, sym, ap₂, ◌∙◌}
+use Prim.Native.Nat.{ℕ, suc, ◌+◌, ◌-◌, ◌≤◌, ◌<◌}
+use mathlib.Core.Path.{◌≡◌, refl, sym, ap₂, ◌∙◌}
 use mathlib.Core.Bool.{Bool, true, false, ◌&&◌}
 use mathlib.Core.List.{List}
 use native.Mathlib.Numerals.{add-one}
 use native.Mathlib.Omega.{arith}
 use lib.Dec.{eqb}
 use borrow.Author.Tests.{lt-ltb, le-ltb, eq-eqb, ne_eqb}
+use Rattle.std.specs.Prelude.{Option, None, Some, unwrap_or, IfSome}
 use Rattle.sums.specs.ModelSums.{first_from}
 use Rattle.walks.specs.ModelWalks.{suits_at, room_at}
 use Rattle.ways.specs.ModelWays.{weight_in, free_from, row_for, arc_for}
@@ -50,9 +51,9 @@ module _ (rows former : List ℕ) (P : ℕ) (mates caps : List ℕ) (all z : ℕ
   weighs_not n h = ne_eqb (weight_in even u v) n (λ e. h (ew ∙ e))
 
   -- An exchange that is even at no weight is nowhere.
-  pub arc-none : w ≡ 3 → P + 1 ≡ place
+  pub arc-none : w ≡ 3 → suc P ≡ place
   unfolding arc_for
-  arc-none e = rw (weighs 3 e) (add-one P)
+  arc-none e = rw (weighs 3 e) refl
 
   -- A step over the store, where u has room.
   pub arc-store : (r : Bool) → r ≡ room_at rows P caps u → w ≡ 1 → r ≡ true → P ≡ place
@@ -73,13 +74,10 @@ module _ (rows former : List ℕ) (P : ℕ) (mates caps : List ℕ) (all z : ℕ
   unfolding row_for
   row_is s q es e = e ∙ ap₂ (λ (x t : ℕ). first_from (suits_at rows former mates all z x u v) (P - t) t) ew es
 
-  module _ (q : ℕ) (n : w ≡ 3 → ⊥) (t : over_store rows P caps even u v ≡ false) (e : q ≡ row_for rows former P mates caps all z even p b u v) where
-    -- The arc is in the row that was found.
-    pub arc-row : q < P → q ≡ place
+  module _ (n : w ≡ 3 → ⊥) (t : over_store rows P caps even u v ≡ false) where
+    -- The arc is in the row that was found; where none was, it is nowhere.
+    pub arc-found : (o : Option ℕ) → unwrap_or o P ≡ row_for rows former P mates caps all z even p b u v → IfSome o (λ q. q < P)
+        → (unwrap_or o (suc P) ≡ place) × IfSome o (λ q. q ≤ P)
     unfolding arc_for
-    arc-row l = rw (weighs_not 3 n, t, sym e, lt-ltb q P l)
-
-    -- Where none was found, the arc is nowhere.
-    pub arc_gone : P ≤ q → P + 1 ≡ place
-    unfolding arc_for
-    arc_gone l = rw (weighs_not 3 n, t, sym e, le-ltb q P l) (add-one P)
+    arc-found None e h = (rw (weighs_not 3 n, t, sym e, le-ltb P P (omega arith)) refl, tt)
+    arc-found (Some q) e h = (rw (weighs_not 3 n, t, sym e, lt-ltb q P h) refl, omega arith)

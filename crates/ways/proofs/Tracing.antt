@@ -1,7 +1,7 @@
 -- The steps of the loop of `trace`, over plain lists and numbers.
 -- Assumes nothing.
 use Prim.Native.Nat.{ℕ, suc, ◌+◌, ◌-◌, ◌≤◌, ◌<◌}
-use mathlib.Core.Path.{◌≡◌, sym, ap, ◌∙◌}
+use mathlib.Core.Path.{◌≡◌, refl, sym, ap, ◌∙◌}
 use mathlib.Core.List.{List}
 use mathlib.Core.Logic.{⊎_elim}
 use native.Mathlib.Nat.{sub-zero}
@@ -9,6 +9,7 @@ use native.Mathlib.Numerals.{add-one}
 use native.Mathlib.Omega.{arith}
 use lib.ListN.{length, get_or, set}
 use lib.Seq.{get_or-set_same, get_or-set_other}
+use Rattle.std.specs.Prelude.{Option, None, Some, unwrap_or, IsSome}
 use Rattle.sums.proofs.Sum.{lt_or_ge}
 use Rattle.cluster.specs.Terms.{most_nodes}
 use Rattle.sets.specs.ModelBits.{bit, meet_of, least_of}
@@ -23,6 +24,11 @@ pub record Tracing (leads : List ℕ) (b goal k i : ℕ) (arc : ℕ → ℕ → 
   pub ends : bit goal (get_or y 0 0) ≡ 1
   pub nodes : (j : ℕ) → j ≤ i → (get_or y j 0 < most_nodes) × (bit (wave_of leads b (k - j)) (get_or y j 0) ≡ 1)
   pub arcs : (j : ℕ) → j < i → (get_or q j 0 ≡ arc (get_or y (suc j) 0) (get_or y j 0)) × (get_or q j 0 ≤ P)
+
+-- A number below the one that stands for none is that of something.
+pub some_below : (o : Option ℕ) (n : ℕ) → unwrap_or o n < n → IsSome o
+some_below None n h = absurd (omega arith)
+some_below (Some x) n h = refl
 
 module _ {leads : List ℕ} {b goal k : ℕ} (small : b < most_nodes) (kw : k < wave_cells) {waves : List ℕ} (W : Waved leads b goal k waves)
     {arc : ℕ → ℕ → ℕ} {P : ℕ}
@@ -85,16 +91,15 @@ module _ {leads : List ℕ} {b goal k : ℕ} (small : b < most_nodes) (kw : k < 
           arcs-on j h = rw (before (suc j) (omega arith), before j (omega arith)) (T.arcs j h)
 
           -- The trace stops where the arc is nowhere.
-          pub tracing_stops : {p at : ℕ} → at ≡ arc s (get_or y i 0) → P < at → at ≤ suc P → Traced leads b goal k i arc P p longer q
-          tracing_stops {p} {at} e g l =
+          pub tracing_stops : {p : ℕ} → suc P ≡ arc s (get_or y i 0) → Traced leads b goal k i arc P p longer q
+          tracing_stops {p} e =
               let t = tracing_source in
-              let f : arc s (get_or y i 0) ≡ suc P = omega arith in
               record {
                 short = omega arith;
                 ends = ends_on;
                 nodes = nodes-on;
                 arcs = arcs-on;
-                stale = λ h. rw (here, before i (omega arith)) (t.0, t.1, t.2, f);
+                stale = λ h. rw (here, before i (omega arith)) (t.0, t.1, t.2, sym e);
                 closed = λ h. absurd (omega arith);
               }
 

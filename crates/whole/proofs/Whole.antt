@@ -22,21 +22,17 @@ use Rattle.sums.proofs.Tests.{one-if_le, every-all}
 use Rattle.cells.proofs.Cells.{tab_get_or}
 use Rattle.cell_rows.proofs.CellLayouts.{length-cells_of, rows_in-written, holds-cells_of, holds-append}
 use Rattle.masks.proofs.Laws.{holds-formed}
-use Rattle.layouts.specs.TermsCheck.{fault, check_of}
-use Rattle.layouts.specs.declared.check.Checked.{Checked}
+use Rattle.layouts.specs.TermsCheck.{Checked, fault, check_of}
 use Rattle.layouts.proofs.CheckMeaning.{valid_fits, valid_passed}
 use Rattle.sizing.specs.ModelSizing.{size_of}
 use Rattle.planning.specs.Demand.{Answer, Demand3, Rules}
 use Rattle.planning.specs.ModelPlan.{plan_of}
-use Rattle.planner.specs.TermsPlan.{unusable, plan_refusal, plan_in, answered, planned_of, assignment_after}
-use Rattle.planner.specs.declared.Planned.{Planned}
+use Rattle.planner.specs.TermsPlan.{Planned, unusable, plan_refusal, plan_in, answered, planned_of, assignment_after}
 use Rattle.planner.proofs.Refusals.{Usable, usable, lent-former}
 use Rattle.layout_head.specs.declared.Numbers.{Numbers}
-use Rattle.layout_record.specs.declared.ReadLayout.{ReadLayout}
-use Rattle.layout_record.specs.declared.Written.{Written}
 use Rattle.layout_head.specs.RecordHead.{all_hold, in_range}
 use Rattle.layout_rows.specs.RecordLayout.{HasLayout, layout_record, record_length}
-use Rattle.layout_record.specs.RecordLayoutAnswer.{read_layout_of, assignment_read, write_answer, out_after}
+use Rattle.layout_record.specs.RecordLayoutAnswer.{ReadLayout, Written, read_layout_of, assignment_read, write_answer, out_after}
 use Rattle.layout_record.specs.RecordLayoutClaims.{ReadsLayout, WritesLayout}
 use Rattle.layout_record.proofs.RecordLaws.{length_record}
 use Rattle.layout_record.proofs.Exact.{writes-layout, reads_record}

@@ -4,7 +4,7 @@ use Rattle.std.specs.Prelude.{ℕ, ◌≡◌, true, List, ◌++◌, take, drop}
 use Rattle.sums.specs.TermsSums.{one_if}
 use Rattle.cluster.specs.Terms.{layout_cells, topology, partitions, row, rows_in}
 use Rattle.cluster.specs.declared.Cluster.{Cluster}
-use Rattle.planner.specs.declared.Planned.{Planned}
+use Rattle.planner.specs.TermsPlan.{Planned}
 use Rattle.layout_head.specs.declared.Numbers.{Numbers}
 use Rattle.layouts.specs.TermsCheck.{fault}
 use Rattle.moves.specs.TermsMoves.{wide_cells_of, FitsSixteen, sends}

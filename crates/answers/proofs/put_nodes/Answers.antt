@@ -1,5 +1,4 @@
 -- `answers::put_nodes` meets its contract. The loop's invariant: the cells before them are kept, the cells of the first b slots are written.
-use borrow.Author.Rules.{rules}
 use native.Mathlib.Omega.{arith}
 use mathlib.Core.Path.{◌≡◌, ap, ◌∙◌}
 use lib.ListN.{length}
@@ -11,13 +10,12 @@ use Rattle.answers.proofs.put_nodes.Goals as goal
 pub loop-b-init : goal.loop-b-init
 loop-b-init c =
     let long : length c.args.c.nodes ≡ most_nodes = search length_of_map in
-    (search rules, search rules, node-none c.args.at c.args.cells.now c.args.c.nodes c.requires long)
+    node-none c.args.at c.args.cells.now c.args.c.nodes c.requires long
 
 pub loop-b-preserved : goal.loop-b-preserved
 loop-b-preserved c =
     let long : length c.args.c.nodes ≡ most_nodes = search length_of_map in
-    let w = node-next c.args.at c.args.cells.now c.args.c.nodes c.requires long c.loop-b.b c.loop-b.cells (omega arith) c.loop-b.invariant.2 in
-    (search rules, search rules, c.put.ensures ∙ w)
+    c.put.ensures ∙ node-next c.args.at c.args.cells.now c.args.c.nodes c.requires long c.loop-b.b c.loop-b.cells (omega arith) c.loop-b.invariant
 
 pub returns : goal.returns
 returns c =
@@ -26,4 +24,4 @@ returns c =
     let l = c.args.cells.now in
     let n = c.args.c.nodes in
     let e : c.loop-b.b ≡ most_nodes = omega arith in
-    c.loop-b.invariant.2 ∙ (ap (written at l n c.requires long) e ∙ node-all at l n c.requires long)
+    c.loop-b.invariant ∙ (ap (written at l n c.requires long) e ∙ node-all at l n c.requires long)

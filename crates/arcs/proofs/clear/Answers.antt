@@ -1,24 +1,15 @@
--- `arcs::clear` meets its contract. The loop's invariant: the cells passed are 0. Assumes nothing.
+-- `arcs::clear` meets its contract: the 0s of `fill` are those of the table. Assumes nothing.
 use Prim.Native.Nat.{ℕ}
-use mathlib.Core.Path.{◌≡◌, ap, ◌∙◌}
-use mathlib.Core.List.{List}
-use lib.ListN.{set}
-use Rattle.cells.proofs.Cells.{tab-none, tab-more}
-use borrow.Author.Rules.{rules}
-use native.Mathlib.Omega.{arith}
+use mathlib.Core.Path.{ap, ◌∙◌}
+use mathlib.Core.List.{List, ◌++◌}
+use lib.ListN.{drop, replicate}
+use Rattle.std.proofs.lemmas.List.{length-take-le}
+use Rattle.sums.specs.TermsSums.{tab}
 use Rattle.levels.specs.ModelGraph.{arc_cells}
 use Rattle.arcs.proofs.clear.Goals as goal
 
-pub loop-i-init : goal.loop-i-init
-loop-i-init c = (search rules, search rules, tab-none (λ k. 0) c.args.arcs.now)
-
-pub loop-i-preserved : goal.loop-i-preserved
-loop-i-preserved c =
-    let k = c in (
-      search rules,
-      search rules,
-      ap (λ (l : List ℕ). set l k.loop-i.i 0) k.loop-i.invariant.2 ∙ tab-more (λ k. 0) k.loop-i.i k.args.arcs.now (omega arith),
-    )
-
 pub returns : goal.returns
-returns c = let e : c.loop-i.i ≡ arc_cells = omega arith in rw e at c.loop-i.invariant.2
+unfolding tab
+returns c =
+    ap (λ (l : List ℕ). l ++ drop arc_cells c.args.arcs.now)
+    (c.fill.ensures.after (λ y e. e) ∙ ap (λ (n : ℕ). replicate n 0) (length-take-le arc_cells c.args.arcs.now c.requires))

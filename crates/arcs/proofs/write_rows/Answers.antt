@@ -14,5 +14,5 @@ add_rows-requires c =
 pub returns : goal.returns
 returns c =
     let a = c.args in
-    written (moves_to (drop a.first a.rows.now) (drop a.first a.former.now) a.n a.mates.now a.all a.z) a.arcs.now c.clear.new.arcs c.add_rows.new.arcs
+    written (moves_to (drop a.first a.rows.now) (drop a.first a.given.now.former.now) a.n a.given.now.mates.now a.all a.given.now.z) a.arcs.now c.clear.new.arcs c.add_rows.new.arcs
     c.requires.0 c.clear.ensures c.add_rows.ensures

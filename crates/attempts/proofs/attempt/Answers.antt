@@ -6,20 +6,20 @@ use mathlib.Core.Path.{◌≡◌, refl, ap, ◌∙◌}
 use mathlib.Core.Bool.{false≢true}
 use lib.ListN.{length, get_or, set, length-set}
 use Rattle.cluster.specs.Terms.{most_nodes}
+use Rattle.waves.specs.ModelWaves.{wave_cells}
 use Rattle.attempts.proofs.Ends.{walked_long, shut_goes, stale-node, stale_goes, turned_goes}
 use borrow.Author.Rules.{rules}
 use Rattle.attempts.proofs.attempt.Goals as goal
 
-pub returns-then-k-ge-WAVES : goal.returns-then-k-ge-WAVES
-returns-then-k-ge-WAVES c =
+pub returns-in_default : goal.returns-in_default
+returns-in_default c =
     let a = c.args in (
       refl,
       c.requires.4,
       c.requires.7,
-      c.requires.8,
       λ e. absurd (false≢true e),
-      shut_goes a.partitions a.former.now a.mates.now a.caps.now a.all a.z a.even.now a.p a.b a.goal a.rows.now a.leads.now c.requires.1 c.requires.6
-          c.waves-k.result c.waves-k.new.waves c.waves-k.ensures.0 c.if-k-ge-WAVES.true,
+      shut_goes a.given.now.partitions a.given.now.former.now a.given.now.mates.now a.given.now.caps.now a.all a.given.now.z a.even.now a.p a.b a.goal a.rows.now a.leads.now c.requires.1 c.requires.6
+          wave_cells c.waves.new.waves c.in_default.ensures.0 (omega arith),
     )
 
 pub trace-traced-requires : goal.trace-traced-requires
@@ -29,14 +29,13 @@ trace-traced-requires c = (
   search rules,
   search rules,
   omega (arith, c.requires.4),
-  omega (arith, c.waves-k.ensures.1),
+  omega (arith, c.in-Some.ensures.2),
   omega (arith, c.requires.5),
   search rules,
   search rules,
-  c.waves-k.ensures.0,
+  c.in-Some.ensures.0,
   c.requires.7,
   c.requires.8,
-  c.requires.9,
 )
 
 pub overflow_cast-u : goal.overflow_cast-u
@@ -45,8 +44,8 @@ overflow_cast-u c =
     let nodes : (get_or c.trace-traced.new.y (c.trace-traced.result + 1) 0 < most_nodes)
     × (length c.args.leads.now ≡ most_nodes) = (let a = c.args in
     let n =
-    stale-node a.partitions a.former.now a.mates.now a.caps.now a.all a.z a.even.now a.p a.b a.goal a.rows.now a.leads.now c.requires.1 c.requires.6
-    c.waves-k.result c.trace-traced.result c.trace-traced.new.y c.trace-traced.new.q c.trace-traced.ensures.2 c.if-traced-k.true in
+    stale-node a.given.now.partitions a.given.now.former.now a.given.now.mates.now a.given.now.caps.now a.all a.given.now.z a.even.now a.p a.b a.goal a.rows.now a.leads.now c.requires.1 c.requires.6
+    c.in-Some.k c.trace-traced.result c.trace-traced.new.y c.trace-traced.new.q c.trace-traced.ensures.2 c.if-traced-k.true in
     (n.0, c.requires.4)) in
     omega (arith, nodes)
 
@@ -55,8 +54,8 @@ offset_bounds-leads-u c =
     let nodes : (get_or c.trace-traced.new.y (c.trace-traced.result + 1) 0 < most_nodes)
     × (length c.args.leads.now ≡ most_nodes) = (let a = c.args in
     let n =
-    stale-node a.partitions a.former.now a.mates.now a.caps.now a.all a.z a.even.now a.p a.b a.goal a.rows.now a.leads.now c.requires.1 c.requires.6
-    c.waves-k.result c.trace-traced.result c.trace-traced.new.y c.trace-traced.new.q c.trace-traced.ensures.2 c.if-traced-k.true in
+    stale-node a.given.now.partitions a.given.now.former.now a.given.now.mates.now a.given.now.caps.now a.all a.given.now.z a.even.now a.p a.b a.goal a.rows.now a.leads.now c.requires.1 c.requires.6
+    c.in-Some.k c.trace-traced.result c.trace-traced.new.y c.trace-traced.new.q c.trace-traced.ensures.2 c.if-traced-k.true in
     (n.0, c.requires.4)) in
     omega (arith, nodes)
 
@@ -65,8 +64,8 @@ bounds-leads-u c =
     let nodes : (get_or c.trace-traced.new.y (c.trace-traced.result + 1) 0 < most_nodes)
     × (length c.args.leads.now ≡ most_nodes) = (let a = c.args in
     let n =
-    stale-node a.partitions a.former.now a.mates.now a.caps.now a.all a.z a.even.now a.p a.b a.goal a.rows.now a.leads.now c.requires.1 c.requires.6
-    c.waves-k.result c.trace-traced.result c.trace-traced.new.y c.trace-traced.new.q c.trace-traced.ensures.2 c.if-traced-k.true in
+    stale-node a.given.now.partitions a.given.now.former.now a.given.now.mates.now a.given.now.caps.now a.all a.given.now.z a.even.now a.p a.b a.goal a.rows.now a.leads.now c.requires.1 c.requires.6
+    c.in-Some.k c.trace-traced.result c.trace-traced.new.y c.trace-traced.new.q c.trace-traced.ensures.2 c.if-traced-k.true in
     (n.0, c.requires.4)) in
     omega (arith, nodes)
 
@@ -75,8 +74,8 @@ offset_bounds-leads-u-then-traced-k c =
     let nodes : (get_or c.trace-traced.new.y (c.trace-traced.result + 1) 0 < most_nodes)
     × (length c.args.leads.now ≡ most_nodes) = (let a = c.args in
     let n =
-    stale-node a.partitions a.former.now a.mates.now a.caps.now a.all a.z a.even.now a.p a.b a.goal a.rows.now a.leads.now c.requires.1 c.requires.6
-    c.waves-k.result c.trace-traced.result c.trace-traced.new.y c.trace-traced.new.q c.trace-traced.ensures.2 c.if-traced-k.true in
+    stale-node a.given.now.partitions a.given.now.former.now a.given.now.mates.now a.given.now.caps.now a.all a.given.now.z a.even.now a.p a.b a.goal a.rows.now a.leads.now c.requires.1 c.requires.6
+    c.in-Some.k c.trace-traced.result c.trace-traced.new.y c.trace-traced.new.q c.trace-traced.ensures.2 c.if-traced-k.true in
     (n.0, c.requires.4)) in
     omega (arith, nodes)
 
@@ -85,8 +84,8 @@ bounds-leads-u-then-traced-k c =
     let nodes : (get_or c.trace-traced.new.y (c.trace-traced.result + 1) 0 < most_nodes)
     × (length c.args.leads.now ≡ most_nodes) = (let a = c.args in
     let n =
-    stale-node a.partitions a.former.now a.mates.now a.caps.now a.all a.z a.even.now a.p a.b a.goal a.rows.now a.leads.now c.requires.1 c.requires.6
-    c.waves-k.result c.trace-traced.result c.trace-traced.new.y c.trace-traced.new.q c.trace-traced.ensures.2 c.if-traced-k.true in
+    stale-node a.given.now.partitions a.given.now.former.now a.given.now.mates.now a.given.now.caps.now a.all a.given.now.z a.even.now a.p a.b a.goal a.rows.now a.leads.now c.requires.1 c.requires.6
+    c.in-Some.k c.trace-traced.result c.trace-traced.new.y c.trace-traced.new.q c.trace-traced.ensures.2 c.if-traced-k.true in
     (n.0, c.requires.4)) in
     omega (arith, nodes)
 
@@ -98,34 +97,32 @@ returns-then-traced-k c =
     let u = get_or y (c.trace-traced.result + 1) 0 in
     let new = set a.leads.now u c.without.result in
     let g =
-    stale_goes a.partitions a.former.now a.mates.now a.caps.now a.all a.z a.even.now a.p a.b a.goal a.rows.now a.leads.now c.requires.1 c.requires.6
-    c.waves-k.result c.trace-traced.result y q c.trace-traced.ensures.2 c.if-traced-k.true c.requires.4 new (ap (set a.leads.now u) c.without.ensures) in (
+    stale_goes a.given.now.partitions a.given.now.former.now a.given.now.mates.now a.given.now.caps.now a.all a.given.now.z a.even.now a.p a.b a.goal a.rows.now a.leads.now c.requires.1 c.requires.6
+    c.in-Some.k c.trace-traced.result y q c.trace-traced.ensures.2 c.if-traced-k.true c.requires.4 new (ap (set a.leads.now u) c.without.ensures) in (
       refl,
       length-set a.leads.now u c.without.result ∙ c.requires.4,
       c.requires.7,
-      c.requires.8,
       λ e. (refl, g.1),
       g.0,
     )
 
 pub make-requires : goal.make-requires
 make-requires c = (
-  omega (arith, c.trace-traced.ensures.0),
-  omega (arith, c.trace-traced.ensures.1),
+  omega (arith, c.trace-traced.ensures.0, c.in-Some.ensures.1),
+  omega (arith, c.trace-traced.ensures.1, c.in-Some.ensures.1),
   search rules,
   search rules,
   c.requires.7,
-  c.requires.8,
 )
 
 pub refresh-requires : goal.refresh-requires
 refresh-requires c =
-    let met = c.if-k-ge-WAVES.false in (
+    let met = c.in-Some.ensures.1 in (
       c.requires.4,
       c.requires.5,
       omega (arith, c.trace-traced.ensures.0, met),
       omega (arith, c.trace-traced.ensures.1, met),
-      c.make.ensures.2,
+      c.make.ensures.2.tight,
     )
 
 pub returns : goal.returns
@@ -133,12 +130,11 @@ returns c =
     let a = c.args in
     let y = c.trace-traced.new.y in
     let q = c.trace-traced.new.q in (
-      walked_long a.partitions (c.waves-k.result + 1) y q a.rows.now c.make.new.rows c.make.ensures.0,
+      walked_long a.given.now.partitions (c.in-Some.k + 1) y q a.rows.now c.make.new.rows c.make.ensures.0,
       omega (arith, c.refresh.ensures.long, c.requires.4),
       c.make.ensures.2,
-      c.make.ensures.3,
       λ e. absurd (false≢true e),
-      turned_goes a.partitions a.former.now a.mates.now a.caps.now a.all a.z a.even.now a.p a.b a.goal a.rows.now a.leads.now c.requires.1 c.requires.6
-          c.waves-k.result c.trace-traced.result y q c.trace-traced.ensures.2 c.waves-k.new.waves c.waves-k.ensures.0 (omega (arith, c.if-k-ge-WAVES.false)) (omega (arith, c.if-traced-k.false)) c.make.new.rows
+      turned_goes a.given.now.partitions a.given.now.former.now a.given.now.mates.now a.given.now.caps.now a.all a.given.now.z a.even.now a.p a.b a.goal a.rows.now a.leads.now c.requires.1 c.requires.6
+          c.in-Some.k c.trace-traced.result y q c.trace-traced.ensures.2 c.waves.new.waves c.in-Some.ensures.0 c.in-Some.ensures.1 (omega (arith, c.if-traced-k.false)) c.make.new.rows
           c.refresh.new.leads c.make.ensures.0 c.refresh.ensures,
     )

@@ -11,21 +11,23 @@ use Rattle.cell_rows.proofs.count_ids.Goals as goal
 use Rattle.cell_rows.proofs.count_ids.Goals.{then-id-eq0, else-id-eq0+else-id-last}
 
 pub loop-i-init : goal.loop-i-init
-loop-i-init c = (search rules, search rules, search rules, onward_start _)
+loop-i-init c = (search rules, onward_start _)
 
 pub returns-then-id-last : goal.returns-then-id-last
 returns-then-id-last c =
     let a = c.args in
-    let e = c.wide-id.ensures.0 in
-    sym
-    (c.loop-i.invariant.3
-    ∙ onward_falls a.cells.now a.to c.loop-i.i (omega arith) (omega arith) c.loop-i.last c.loop-i.count
-    (λ z. c.if-id-eq0.false (e ∙ z)) (omega arith))
+    let e = c.from-id.ensures in (
+      sym
+          (c.loop-i.invariant.1
+          ∙ onward_falls a.cells.now a.to c.loop-i.i (omega arith) (omega arith) c.loop-i.last c.loop-i.count
+          (λ z. c.if-id-eq0.false (e ∙ z)) (omega arith)),
+      search rules,
+    )
 
 pub loop-i-preserved : goal.loop-i-preserved
 loop-i-preserved c =
     let a = c.args in
-    let e = c.wide-id.ensures.0 in
+    let e = c.from-id.ensures in
     let rest : List ℕ = take (a.to - (c.loop-i.i + 1)) (drop (c.loop-i.i + 1) a.cells.now) in
     let turn : (c.if-id-eq0.count ≤ c.loop-i.count + 1)
     × (onward c.loop-i.last c.loop-i.count (take (a.to - c.loop-i.i) (drop c.loop-i.i a.cells.now)) ≡ onward c.if-id-eq0.last c.if-id-eq0.count rest) =
@@ -42,9 +44,9 @@ loop-i-preserved c =
             ∙ sym (ap₂ (λ (x y : ℕ). onward x y rest) (v.last-is ∙ e) v.count-is),
       )
     ] in
-    (omega arith, omega arith, omega (arith, turn.0), c.loop-i.invariant.3 ∙ turn.1)
+    (omega (arith, turn.0), c.loop-i.invariant.1 ∙ turn.1)
 
 pub returns : goal.returns
 returns c =
     let a = c.args in
-    sym (c.loop-i.invariant.3 ∙ onward_end c.loop-i.last c.loop-i.count _ (rest-none a.cells.now a.to c.loop-i.i (omega arith)))
+    (sym (c.loop-i.invariant.1 ∙ onward_end c.loop-i.last c.loop-i.count _ (rest-none a.cells.now a.to c.loop-i.i (omega arith))), omega arith)

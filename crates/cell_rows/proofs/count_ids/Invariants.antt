@@ -9,8 +9,5 @@ use Rattle.cell_rows.proofs.count_ids.Given as goal
 
 abbrev pub invariant-loop-i : goal.invariant-loop-i
 invariant-loop-i l =
-    (l.from ≤ l.i) × (l.i ≤ l.to) × (l.count ≤ l.i - l.from)
+    (l.count ≤ l.i - l.from)
     × (id_count (take (l.to - l.from) (drop l.from l.cells)) ≡ onward l.last l.count (take (l.to - l.i) (drop l.i l.cells)))
-
-abbrev pub decreases-loop-i : goal.decreases-loop-i
-decreases-loop-i l = l.to - l.i

@@ -1,30 +1,26 @@
--- `cell_rows::zeros` meets its contract. The loop's invariant: the cells are blank exactly where those that are still before the scan are.
-use borrow.Author.Rules.{rules}
-use Prim.Native.Nat.{ℕ}
-use mathlib.Core.Path.{refl, sym, ap, ◌∙◌}
-use mathlib.Core.List.{List}
-use Rattle.cells.proofs.Cells.{rest-none}
+-- `cell_rows::zeros` meets its contract.
+-- Assumes nothing.
+use Rattle.std.proofs.Common.{rules, tests}
+use Prim.Native.Nat.{ℕ, ◌-◌}
+use mathlib.Core.Path.{◌≡◌, refl, ap, ◌∙◌}
+use mathlib.Core.Bool.{◌&&◌}
+use mathlib.Core.List.{List, [], ◌∷◌}
+use lib.Dec.{eqb}
+use lib.ListN.{take, drop}
+use Rattle.std.specs.List.{list_all}
+use Rattle.std.proofs.lemmas.Iterator.{YieldsList-from_slice}
+use Rattle.std.proofs.lemmas.Iterator.Search.{all_from_yields_List}
 use Rattle.cluster.specs.Terms.{blank}
-use Rattle.cell_rows.proofs.RowScans.{id_not_blank, zero_blank}
 use Rattle.cell_rows.proofs.zeros.Goals as goal
 
-pub loop-i-init : goal.loop-i-init
-loop-i-init c = (search rules, search rules, refl)
-
-pub returns-then-cells-i-ne0 : goal.returns-then-cells-i-ne0
-returns-then-cells-i-ne0 c =
-    sym
-    (c.loop-i.invariant.2 ∙ id_not_blank c.args.cells.now c.args.to c.loop-i.i (search rules) (search rules) (search rules))
-
-pub loop-i-preserved : goal.loop-i-preserved
-loop-i-preserved c = (
-  search rules,
-  search rules,
-  c.loop-i.invariant.2 ∙ zero_blank c.args.cells.now c.args.to c.loop-i.i (search rules) (search rules) (search rules),
-)
+-- All of some cells are 0 where they are blank.
+all-zero : (l : List ℕ) → list_all (λ x. eqb x 0) l ≡ blank l
+unfolding blank
+all-zero [] = refl
+all-zero (x ∷ xs) = ap (λ t. eqb x 0 && t) (all-zero xs)
 
 pub returns : goal.returns
-unfolding blank
 returns c =
-    sym
-    (c.loop-i.invariant.2 ∙ ap (λ (r : List ℕ). blank r) (rest-none c.args.cells.now c.args.to c.loop-i.i (search rules)))
+    let a = c.args in
+    let cells : List ℕ = take (a.to - a.from) (drop a.from a.cells.now) in
+    all_from_yields_List (λ x. eqb x 0) _ _ _ c.all.ensures.ran (YieldsList-from_slice cells cc) (λ x b q k. search (rules, tests)) ∙ all-zero cells

@@ -13,12 +13,11 @@ use Rattle.console_changes.proofs.put_made.Goals as goal
 pub returns : goal.returns
 returns c =
     let a = c.args in
-    let o = a.made.answer in
-    let k = a.made.cluster in
+    let k = a.c in
     let lent = a.cells.now in
     let nodes = node_cells k.nodes in
     c.put_nodes.ensures
     ∙ (ap (λ (x : List ℕ). take head_cells x ++ nodes ++ drop change_cells x) c.put_after.ensures
     ∙ (λ i. halves a.byte
-    ++ (c.high.ensures i ∷ c.low.ensures i ∷ o.reverse.len ∷ k.bits ∷ k.replication ∷ k.redundancy ∷ k.count ∷ nodes)
+    ++ (c.high.ensures i ∷ c.low.ensures i ∷ a.len ∷ k.bits ∷ k.replication ∷ k.redundancy ∷ k.count ∷ nodes)
     ++ drop-drop (node_cells_width * most_nodes) head_cells lent i))

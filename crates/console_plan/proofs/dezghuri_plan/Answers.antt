@@ -1,25 +1,42 @@
 -- `console_plan::dezghuri_plan` meets its contract.
 -- Assumes nothing.
 use native.Mathlib.Omega.{arith}
-use mathlib.Core.Path.{◌≡◌, ap, ◌∙◌}
+use mathlib.Core.Path.{◌≡◌, refl, sym, ap, ◌∙◌, subst}
+use mathlib.Core.Bool.{false}
 use mathlib.Core.List.{[], ◌∷◌, ◌++◌}
+use Prim.Native.Nat.{ℕ}
 use lib.ListN.{length, drop}
+use Rattle.std.proofs.Common.{Result, Ok, Err}
+use Rattle.std.specs.Result.{result_unwrap_or}
 use Rattle.sums.specs.TermsSums.{one_if}
-use Rattle.planner.specs.declared.Planned.{Planned}
+use Rattle.planner.specs.declared.settle.Plan.{Plan}
+use Rattle.planner.specs.TermsPlan.{Planned, planned_as}
+use Rattle.answers.specs.declared.stopped.Stopped.{Stopped}
+use Rattle.answers.specs.declared.stopped.Told.{Told}
 use Rattle.answers.specs.TermsAnswers.{halves, reading}
-use Rattle.console_plan.specs.TermsConsolePlan.{former_in, planned, planned_assignment, planned_scratch}
+use Rattle.answers.specs.TermsStopped.{told_of}
+use Rattle.console_plan.specs.TermsConsolePlan.{former_in, refusal_in, planned}
 use Rattle.answers.proofs.Answered.{short, long}
-use Rattle.console_plan.proofs.PlanAnswers.{record_owed}
+use Rattle.console_plan.proofs.PlanAnswers.{Owes, record_owed}
 use Rattle.console_plan.proofs.dezghuri_plan.Goals as goal
 
 pub returns-then-answer-lt-ANSWER : goal.returns-then-answer-lt-ANSWER
 returns-then-answer-lt-ANSWER c =
     let lent = c.args.answer.now in
     let h = c.if-answer-lt-ANSWER.true in
-    (short _ 6 lent h, short _ 6 lent h, short _ 6 lent h, short _ 6 lent h, λ e long ample enough. absurd (omega arith))
+    (c.into.ensures ∙ short _ 6 lent h, short _ 6 lent h, short _ 6 lent h, short _ 6 lent h, λ e long ample enough. absurd (omega arith))
+
+-- What is told and a plan, as an answer.
+abbrev with : Told → Plan → Planned
+with t p = record { refusal = t.refusal; size = p.size; sent = p.sent; finished = p.finished; improvements = p.improvements }
+
+-- What is told is the refusal of the answer, with its numbers.
+told : (x : Result Plan Stopped) → with (told_of x) (result_unwrap_or x (record { size = 0; sent = 0; finished = false; improvements = 0 })) ≡ planned_as (refusal_in x)
+told (Ok _) = refl
+told (Err _) = refl
 
 pub returns : goal.returns
-unfolding reading former_in
+unfolding one_if
 returns c =
     let a = c.args in
     let h = c.if-answer-lt-ANSWER.false in
@@ -27,17 +44,20 @@ returns c =
     let cells = a.assignment.now in
     let rest = a.scratch.now in
     let lent = a.answer.now in
-    let read = c.read_cluster-read.ensures.0 in
-    let former = c.read_cluster-read.ensures.1 in
-    let owed = c.plan_read-made.ensures in
-    let made : c.plan_read-made.result ≡ planned (reading s) (former_in s) a.allowance (length cells) (length rest) =
-    owed.0 ∙ (λ i. planned (read i) (former i) a.allowance (length cells) (length rest)) in
-    let verdict = c.verdict.ensures ∙ ap (λ (x : Planned). one_if x.finished) made in (
+    let t = c.of-told.ensures in
+    let w = told c.plan_of_record-found.result in
+    let e = c.plan_of_record-found.ensures in
+    let answer : with c.of-told.result c.unwrap_or-plan.result ≡ planned_as (refusal_in c.plan_of_record-found.result) =
+    (λ i. with (t i) (c.unwrap_or-plan.ensures i)) ∙ w in
+    let made : with c.of-told.result c.unwrap_or-plan.result ≡ planned (reading s) (former_in s) a.allowance (length cells) (length rest) = answer ∙ e.0 in
+    let byte : c.of-told.result.byte ≡ (reading s).byte = (λ i. (t i).byte) ∙ e.1 in
+    let refusal = ap (λ (x : Planned). x.refusal) (sym answer) in (
       long _ 6 lent h (ap (λ (x : Planned). x.refusal) made),
-      long _ 6 lent h (owed.1 ∙ (λ i. planned_assignment (read i) (former i) a.allowance cells (length rest))),
-      long _ 6 lent h (owed.2 ∙ (λ i. planned_scratch (read i) (former i) (length cells) rest)),
+      long _ 6 lent h e.2,
+      long _ 6 lent h e.3,
       long _ 6 lent h
           (c.put_after.ensures
-          ∙ (λ i. halves (read i).byte ++ ((made i).size ∷ (made i).sent ∷ verdict i ∷ (made i).improvements ∷ []) ++ drop 6 lent)),
-      record_owed s (length cells) (length rest) (length lent) c.plan_read-made.result.refusal c.read_cluster-read.result _ read former owed.3,
+          ∙ (λ i. halves (byte i) ++ ((made i).size ∷ (made i).sent ∷ one_if (made i).finished ∷ (made i).improvements ∷ []) ++ drop 6 lent)),
+      record_owed s (length cells) (length rest) (length lent) c.of-told.result.refusal
+          (subst (λ (n : ℕ). Owes s (length cells) (length rest) n) refusal e.4),
     )

@@ -10,7 +10,7 @@ returns c =
     let a = c.args in
     let G = graph_of a.arcs.now a.n in (
       search rules,
-      λ v l. omega (arith, c.search-searched.ensures.1.0 v l),
-      levelled_potential G (omega arith) c.search-searched.result.levels c.search-searched.ensures.1,
-      c.search-searched.ensures.1.1,
+      λ v l. omega (arith, c.search.ensures.1.0 v l),
+      levelled_potential G (omega arith) c.search.result.levels c.search.ensures.1,
+      c.search.ensures.1.1,
     )

@@ -13,8 +13,7 @@ returns-then-not-member c =
       refl,
       c.requires.4,
       c.requires.7,
-      c.requires.8,
-      unwanted_keeps a.partitions a.former.now a.mates.now a.caps.now a.all a.z a.even.now a.p a.b a.rows.now a.leads.now a.wanted c.requires.1
+      unwanted_keeps a.given.now.partitions a.given.now.former.now a.given.now.mates.now a.given.now.caps.now a.all a.given.now.z a.even.now a.p a.b a.rows.now a.leads.now a.wanted c.requires.1
           c.requires.6 (member-false a.wanted a.b (sym c.member.ensures ∙ c.if-not-member.true)),
       c.requires.6,
     )
@@ -26,8 +25,7 @@ returns-then-new-row c =
       c.decide.ensures.1,
       c.decide.ensures.2,
       c.decide.ensures.3,
-      c.decide.ensures.4,
-      c.requires.6 ∙ ap (λ (r : ℕ). wanted_of a.even.now r (get_or a.former.now a.p 0)) (sym c.if-new-row.true),
+      c.requires.6 ∙ ap (λ (r : ℕ). wanted_of a.even.now r (get_or a.given.now.former.now a.p 0)) (sym c.if-new-row.true),
     )
 
 pub returns : goal.returns
@@ -37,6 +35,5 @@ returns c =
       c.decide.ensures.1,
       c.decide.ensures.2,
       c.decide.ensures.3,
-      c.decide.ensures.4,
       c.wanted.ensures ∙ ap (wanted_of a.even.now (get_or c.decide.new.rows a.p 0)) c.cell.ensures,
     )

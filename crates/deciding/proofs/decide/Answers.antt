@@ -20,14 +20,13 @@ returns-then-member c =
       refl,
       c.requires.4,
       c.requires.6,
-      c.requires.7,
-      in_keeps a.partitions a.former.now a.mates.now a.caps.now a.all a.z a.even.now a.p a.b a.rows.now a.leads.now c.requires.1
+      in_keeps a.given.now.partitions a.given.now.former.now a.given.now.mates.now a.given.now.caps.now a.all a.given.now.z a.even.now a.p a.b a.rows.now a.leads.now c.requires.1
           (member-true (get_or a.rows.now a.p 0) a.b (sym c.member.ensures ∙ c.if-member.true)),
     )
 
 pub givers-goal-requires : goal.givers-goal-requires
 givers-goal-requires c =
-    (search rules, omega (arith, c.requires.5), c.requires.6.here c.args.p c.requires.1)
+    (search rules, omega (arith, c.requires.5), c.requires.6.tight.here c.args.p c.requires.1)
 
 pub loop-again-init : goal.loop-again-init
 loop-again-init c =
@@ -35,24 +34,24 @@ loop-again-init c =
     let out : (let a = c.args in bits_at a.rows.now a.p a.b ≡ 0) = (let a = c.args in
     member-false (get_or a.rows.now a.p 0) a.b (sym c.member.ensures ∙ c.if-member.false)) in
     -- The goal is the set of those that could give way.
-    let is-goal : (let a = c.args in c.givers-goal.result ≡ givers_of a.mates.now a.all a.z a.even.now (get_or a.rows.now a.p 0) (get_or a.former.now a.p 0) a.b) = (let a = c.args in
-    goal_told a.mates.now a.all a.z a.even.now (get_or a.rows.now a.p 0) c.cell.result (get_or a.former.now a.p 0) a.b c.givers-goal.result
+    let is-goal : (let a = c.args in c.givers-goal.result ≡ givers_of a.given.now.mates.now a.all a.given.now.z a.even.now (get_or a.rows.now a.p 0) (get_or a.given.now.former.now a.p 0) a.b) = (let a = c.args in
+    goal_told a.given.now.mates.now a.all a.given.now.z a.even.now (get_or a.rows.now a.p 0) c.cell.result (get_or a.given.now.former.now a.p 0) a.b c.givers-goal.result
     c.givers-goal.ensures c.cell.ensures) in
     let a = c.args in (
       refl,
       refl,
       refl,
       c.requires.4,
-      c.requires.6,
-      c.requires.7,
+      c.requires.6.tight,
+      c.requires.6.held,
       λ e. refl,
-      begin_keeps a.partitions a.former.now a.mates.now a.caps.now a.all a.z a.even.now a.p a.b c.givers-goal.result a.rows.now a.leads.now c.requires.1 is-goal out (not (eqb c.givers-goal.result 0)) (λ e. eqb-true c.givers-goal.result 0 (not-false (eqb c.givers-goal.result 0) e)),
+      begin_keeps a.given.now.partitions a.given.now.former.now a.given.now.mates.now a.given.now.caps.now a.all a.given.now.z a.even.now a.p a.b c.givers-goal.result a.rows.now a.leads.now c.requires.1 is-goal out (not (eqb c.givers-goal.result 0)) (λ e. eqb-true c.givers-goal.result 0 (not-false (eqb c.givers-goal.result 0) e)),
     )
 
 pub attempt-again-requires : goal.attempt-again-requires
 attempt-again-requires c =
-    let is-goal : (let a = c.args in c.givers-goal.result ≡ givers_of a.mates.now a.all a.z a.even.now (get_or a.rows.now a.p 0) (get_or a.former.now a.p 0) a.b) = (let a = c.args in
-    goal_told a.mates.now a.all a.z a.even.now (get_or a.rows.now a.p 0) c.cell.result (get_or a.former.now a.p 0) a.b c.givers-goal.result
+    let is-goal : (let a = c.args in c.givers-goal.result ≡ givers_of a.given.now.mates.now a.all a.given.now.z a.even.now (get_or a.rows.now a.p 0) (get_or a.given.now.former.now a.p 0) a.b) = (let a = c.args in
+    goal_told a.given.now.mates.now a.all a.given.now.z a.even.now (get_or a.rows.now a.p 0) c.cell.result (get_or a.given.now.former.now a.p 0) a.b c.givers-goal.result
     c.givers-goal.ensures c.cell.ensures) in
     let a = c.args in
     let i = c.loop-again.invariant in (
@@ -63,15 +62,14 @@ attempt-again-requires c =
       i.3,
       c.requires.5,
       is-goal
-          ∙ ap (λ (x : List ℕ). givers_of a.mates.now a.all a.z a.even.now (get_or x a.p 0) (get_or a.former.now a.p 0) a.b) (sym (i.6 c.loop-again-test.true)),
-      i.4,
-      i.5,
-      c.requires.8,
+          ∙ ap (λ (x : List ℕ). givers_of a.given.now.mates.now a.all a.given.now.z a.even.now (get_or x a.p 0) (get_or a.given.now.former.now a.p 0) a.b) (sym (i.6 c.loop-again-test.true)),
+      record { tight = i.4; held = i.5 },
+      c.requires.7,
     )
 
 pub loop-again-smaller : goal.loop-again-smaller
 loop-again-smaller c =
-    left_less c.loop-again.again c.attempt-again.result c.loop-again.leads c.attempt-again.new.leads c.loop-again-test.true (λ e. (c.attempt-again.ensures.4 e).1)
+    left_less c.loop-again.again c.attempt-again.result c.loop-again.leads c.attempt-again.new.leads c.loop-again-test.true (λ e. (c.attempt-again.ensures.3 e).1)
 
 pub loop-again-preserved : goal.loop-again-preserved
 loop-again-preserved c =
@@ -85,11 +83,11 @@ loop-again-preserved c =
       omega (arith, c.attempt-again.auto.tight, i.1),
       omega (arith, c.attempt-again.auto.held, i.2),
       c.attempt-again.ensures.1,
-      c.attempt-again.ensures.2,
-      c.attempt-again.ensures.3,
-      λ e. again_same a.rows.now c.loop-again.rows c.attempt-again.new.rows same (c.attempt-again.ensures.4 e).0,
-      again_keeps a.partitions a.former.now a.mates.now a.caps.now a.all a.z a.even.now a.p a.b a.rows.now a.leads.now c.loop-again.rows c.loop-again.leads c.attempt-again.new.rows c.attempt-again.new.leads c.loop-again.again (cond c.attempt-again.result a.b (suc a.b)) on same
-          out i.7 c.attempt-again.ensures.5,
+      c.attempt-again.ensures.2.tight,
+      c.attempt-again.ensures.2.held,
+      λ e. again_same a.rows.now c.loop-again.rows c.attempt-again.new.rows same (c.attempt-again.ensures.3 e).0,
+      again_keeps a.given.now.partitions a.given.now.former.now a.given.now.mates.now a.given.now.caps.now a.all a.given.now.z a.even.now a.p a.b a.rows.now a.leads.now c.loop-again.rows c.loop-again.leads c.attempt-again.new.rows c.attempt-again.new.leads c.loop-again.again (cond c.attempt-again.result a.b (suc a.b)) on same
+          out i.7 c.attempt-again.ensures.4,
     )
 
 pub returns : goal.returns
@@ -98,7 +96,6 @@ returns c =
     let i = c.loop-again.invariant in (
       i.0,
       i.3,
-      i.4,
-      i.5,
-      end_keeps a.partitions a.former.now a.mates.now a.caps.now a.all a.z a.even.now a.p a.b a.rows.now a.leads.now c.loop-again.rows c.loop-again.leads c.loop-again.again c.loop-again-test.false i.7,
+      record { tight = i.4; held = i.5 },
+      end_keeps a.given.now.partitions a.given.now.former.now a.given.now.mates.now a.given.now.caps.now a.all a.given.now.z a.even.now a.p a.b a.rows.now a.leads.now c.loop-again.rows c.loop-again.leads c.loop-again.again c.loop-again-test.false i.7,
     )

@@ -1,47 +1,46 @@
 -- `evens::givers` meets its contract. Of the nodes that are no more left those that may give way are found.
-use Prim.Native.Nat.{ℕ}
-use mathlib.Core.Path.{◌≡◌, sym, ap, ◌∙◌, subst}
-use mathlib.Core.Logic.{◌⊎◌, inl, inr}
-use native.Mathlib.Omega.{arith}
+use mathlib.Core.Path.{◌≡◌, refl, sym, ◌∙◌}
+use mathlib.Core.Logic.{inl, inr}
 use borrow.Author.Rules.{rules}
-use Rattle.sets.specs.ModelBits.{bit, with_of, count_of}
-use Rattle.sets.proofs.Laws.{least-taken, member-true, member-false}
-use Rattle.sets.proofs.Scan.{Left, left_all, left_less}
+use Rattle.sets.specs.ModelBits.{meet_of}
+use Rattle.sets.proofs.Laws.{member-true, member-false}
+use Rattle.sets.proofs.Scan.{left_all, left_less}
 use Rattle.swaps.proofs.Steps.{targets_are}
 use Rattle.evens.proofs.Turns.{found_none, found_turn, found_all}
 use Rattle.evens.proofs.givers.Goals as goal
-use Rattle.evens.proofs.givers.Goals.{then-member, else-member}
 
-pub loop-left-init : goal.loop-left-init
-loop-left-init c =
+pub loop-a-init : goal.loop-a-init
+loop-a-init c =
     let a = c.args in
-    (c.requires.2, left_all c.meet-left.result (search rules), found_none a.mates.now a.all a.z a.row a.b c.meet-left.result)
+    let s = c.into_iter-a-iterator.result.left in
+    record { left = left_all s (search rules); done = found_none a.mates.now a.all a.z a.row a.b s }
 
-pub loop-left-smaller : goal.loop-left-smaller
-loop-left-smaller c =
-    omega (arith, least-taken c.loop-left.left c.loop-left.invariant.1.word c.loop-left-test.true, ap count_of c.rest-left.ensures)
-
-pub loop-left-preserved : goal.loop-left-preserved
-loop-left-preserved c =
+pub loop-a-preserved-then-member : goal.loop-a-preserved-then-member
+loop-a-preserved-then-member c =
     let a = c.args in
-    let some = c.loop-left-test.true in
-    let to =
-    targets_are a.mates.now a.all a.z a.row c.least-a.result a.tight c.cell-mate.result c.targets_in.result c.loop-left.invariant.0 c.cell-mate.ensures
-    c.targets_in.ensures in
-    let came : ((bit c.targets_in.result a.b ≡ 1) × (c.if-member.found ≡ with_of c.loop-left.found c.least-a.result))
-    ⊎ ((bit c.targets_in.result a.b ≡ 0) × (c.if-member.found ≡ c.loop-left.found)) =
-    elim c.if-member.branch [
-      | then-member w ↦ inl (member-true c.targets_in.result a.b (sym c.member.ensures ∙ w.if-member.true), w.found-is ∙ w.with-found.ensures)
-      | else-member w ↦ inr (member-false c.targets_in.result a.b (sym c.member.ensures ∙ w.if-member.false), w.found-is)
-    ] in (
-      c.loop-left.invariant.0,
-      subst (λ (s : ℕ). Left c.meet-left.result s) (sym c.rest-left.ensures) (left_less c.meet-left.result c.loop-left.left c.loop-left.invariant.1 some),
-      found_turn a.mates.now a.all a.z a.row a.b c.meet-left.result c.loop-left.left c.least-a.result c.rest-left.result c.targets_in.result
-          c.loop-left.found c.if-member.found c.loop-left.invariant.1 some c.least-a.ensures c.rest-left.ensures to came c.loop-left.invariant.2,
-    )
+    let L = c.loop-a in
+    let comes = c.in-Some.ensures.steps in
+    let to = targets_are a.mates.now a.all a.z a.row c.in-Some.a a.tight c.cell-mate.result c.targets_in.result c.requires.2 c.cell-mate.ensures c.targets_in.ensures in
+    record {
+      left = rw comes.rest (left_less _ _ L.invariant.left comes.some);
+      done = found_turn _ _ _ _ _ _ _ _ _ _ _ _ L.invariant.left comes to
+          (inl (member-true c.targets_in.result a.b (sym c.member.ensures ∙ c.if-member.true), c.with-found.ensures)) L.invariant.done;
+    }
+
+pub loop-a-preserved : goal.loop-a-preserved
+loop-a-preserved c =
+    let a = c.args in
+    let L = c.loop-a in
+    let comes = c.in-Some.ensures.steps in
+    let to = targets_are a.mates.now a.all a.z a.row c.in-Some.a a.tight c.cell-mate.result c.targets_in.result c.requires.2 c.cell-mate.ensures c.targets_in.ensures in
+    record {
+      left = rw comes.rest (left_less _ _ L.invariant.left comes.some);
+      done = found_turn _ _ _ _ _ _ _ _ _ _ _ _ L.invariant.left comes to
+          (inr (member-false c.targets_in.result a.b (sym c.member.ensures ∙ c.if-member.false), refl)) L.invariant.done;
+    }
 
 pub returns : goal.returns
 returns c =
-    let a = c.args in
-    found_all a.mates.now a.all a.z a.even.now a.row a.former a.b c.even_of-evenly.result c.below.result c.difference-later.result c.meet-left.result
-    c.loop-left.left c.loop-left.found c.below.ensures c.difference-later.ensures c.even_of-evenly.ensures c.meet-left.ensures c.loop-left-test.false c.loop-left.invariant.2
+    let s : c.into_iter-a-iterator.result.left ≡ meet_of c.difference-later.result c.even_of-evenly.result =
+    rw (c.into_iter-a-iterator.ensures.into_iter_gives, c.iter-a-items.ensures) c.meet.ensures in
+    found_all _ _ _ _ _ _ _ _ _ _ _ _ _ c.below.ensures c.difference-later.ensures c.even_of-evenly.ensures s c.in-None.ensures.steps.0 c.loop-a.invariant.done

@@ -14,7 +14,9 @@ returns c =
     let e : c.with-row.result ≡ with_of (without_of (get_or a.rows.now a.p 0) a.u) a.v =
     c.with-row.ensures ∙ ap (λ (y : ℕ). with_of y a.v) c.without.ensures in (
       ap (set a.rows.now a.p) e,
-      tight-set a.mates.now a.z a.rows.now a.partitions a.tight.now a.p c.with-row.result c.tight.result c.requires.3 (omega arith) (omega arith) c.tight.ensures,
-      subst (λ (y : ℕ). Held (set a.rows.now a.p y) a.partitions c.exchange.new.held) (sym e)
-          (c.exchange.ensures a.rows.now a.partitions (omega arith) (omega arith) (omega arith) c.requires.4),
+      record {
+        tight = tight-set a.given.now.mates.now a.given.now.z a.rows.now a.given.now.partitions a.tight.now a.p c.with-row.result c.tight.result c.requires.3.tight (omega arith) (omega arith) c.tight.ensures;
+        held = subst (λ (y : ℕ). Held (set a.rows.now a.p y) a.given.now.partitions c.exchange.new.held) (sym e)
+            (c.exchange.ensures a.rows.now a.given.now.partitions (omega arith) (omega arith) (omega arith) c.requires.3.held);
+      },
     )

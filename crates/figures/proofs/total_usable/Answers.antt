@@ -1,33 +1,36 @@
--- `figures::total_usable` meets its contract. The loop's invariant: the usable capacities of the first b nodes are added up.
+-- `figures::total_usable` meets its contract. The loop's invariant: the usable capacities of the nodes passed are added up.
 use borrow.Author.Rules.{rules}
 use native.Mathlib.Omega.{arith}
-use Prim.Native.Nat.{ℕ}
+use Prim.Native.Nat.{ℕ, ◌<◌}
 use mathlib.Core.Path.{◌≡◌, refl, sym, ap, ◌∙◌}
-use lib.ListN.{length}
+use lib.ListN.{length, length-take}
+use lib.Seq.{get_or-take}
 use Rattle.sums.proofs.Sum.{sum-next}
 use Rattle.sums.specs.TermsSums.{sum_to}
 use Rattle.cells.proofs.Cells.{length_of_map}
-use Rattle.cluster.specs.Terms.{most_nodes, topology, node_at, usable}
+use Rattle.cluster.specs.Terms.{most_nodes, no_node, topology, node_at, usable}
 use Rattle.cluster.proofs.Slots.{node-slot}
 use Rattle.cluster.proofs.Accepting.{few_nodes, nodes-count}
 use Rattle.figures.proofs.total_usable.Goals as goal
 
-pub loop-b-init : goal.loop-b-init
+pub loop-node-init : goal.loop-node-init
 unfolding sum_to
-loop-b-init c = (search rules, few_nodes c.args.c c.requires, search rules, refl)
+loop-node-init c = (search rules, refl)
 
-pub loop-b-preserved : goal.loop-b-preserved
-loop-b-preserved c = let a = c.args.c in (
-  search rules,
-  search rules,
-  search rules,
-  sum-next (λ i. usable (node_at (topology a) i)) c.loop-b.b c.loop-b.total c.usable-usable.result c.loop-b.invariant.3
-      (c.usable-usable.ensures.0 ∙ sym (ap usable (node-slot a c.loop-b.b (search rules)))),
-)
+pub loop-node-preserved : goal.loop-node-preserved
+loop-node-preserved c =
+    let a = c.args.c in
+    let i = c.loop-node.node-index in
+    let here : i < a.count = omega (arith, length-take a.count a.nodes) in
+    let e = node-slot a i here ∙ sym (get_or-take a.count a.nodes i no_node here) in (
+      search rules,
+      sum-next (λ i. usable (node_at (topology a) i)) i c.loop-node.total c.usable-usable.result c.loop-node.invariant.1
+          (c.usable-usable.ensures.0 ∙ sym (ap usable e)),
+    )
 
 pub returns : goal.returns
 returns c =
     let long : length c.args.c.nodes ≡ most_nodes = search length_of_map in
     let a = c.args.c in
-    let e : c.loop-b.b ≡ length (topology a).nodes = omega (arith, nodes-count a long (omega arith)) in
-    c.loop-b.invariant.3 ∙ ap (λ (n : ℕ). sum_to n (λ i. usable (node_at (topology a) i))) e
+    let e : c.loop-node.node-index ≡ length (topology a).nodes = omega (arith, length-take a.count a.nodes, nodes-count a long (few_nodes a c.requires)) in
+    c.loop-node.invariant.1 ∙ ap (λ (n : ℕ). sum_to n (λ i. usable (node_at (topology a) i))) e

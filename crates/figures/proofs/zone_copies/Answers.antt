@@ -20,7 +20,7 @@ returns-then-n-b c =
 
 pub loop-x-init : goal.loop-x-init
 unfolding sum_to
-loop-x-init c = (search rules, search rules, refl)
+loop-x-init c = (search rules, refl)
 
 pub overflow_add-total : goal.overflow_add-total
 overflow_add-total c =
@@ -40,9 +40,8 @@ loop-x-preserved c =
       | else-c-x w ↦ omega (arith, w.more-is)
     ] in
     let a = c.args in (
-      search rules,
       omega (arith, few-more),
-      sum-next (zone_term (topology a.c) a.counts a.b) c.loop-x.x c.loop-x.total c.if-c-x.more c.loop-x.invariant.2
+      sum-next (zone_term (topology a.c) a.counts a.b) c.loop-x.x c.loop-x.total c.if-c-x.more c.loop-x.invariant.1
           (elim c.if-c-x.branch [
             | then-c-x w ↦ w.more-is ∙ term_same a.c a.counts a.b c.loop-x.x (search rules) (search rules) w.if-c-x.true
             | else-c-x w ↦ w.more-is ∙ term_other a.c a.counts a.b c.loop-x.x (search rules) (search rules) w.if-c-x.false
@@ -54,6 +53,6 @@ returns c =
     let long : length c.args.c.nodes ≡ most_nodes = search length_of_map in
     let n = nodes-count c.args.c long c.requires.0 in
     let e : c.loop-x.x ≡ length (topology c.args.c).nodes = omega arith in
-    c.loop-x.invariant.2
+    c.loop-x.invariant.1
     ∙ (ap (λ (n : ℕ). sum_to n (zone_term (topology c.args.c) c.args.counts c.args.b)) e
     ∙ zone_used (topology c.args.c) c.args.counts c.args.b (omega arith))

@@ -37,13 +37,13 @@ pub returns-then-gains : goal.returns-then-gains
 returns-then-gains c = let a = c.args in
     let i = a.i in
     let j = a.j in
-    let g = bits_at a.former.now in (
+    let g = bits_at a.given.now.former.now in (
       omega arith,
       search rules,
       omega arith,
-      split-inner a.partitions a.m i j g a.y.now a.q.now (omega arith) (omega arith) (omega arith) (omega arith)
+      split-inner a.given.now.partitions a.m i j g a.y.now a.q.now (omega arith) (omega arith) (omega arith) (omega arith)
           (sym c.gains.ensures ∙ c.if-gains.true)
-          (inner_in a.partitions a.m i j g a.y.now a.q.now (omega arith) (omega arith) (omega arith) (omega arith)
+          (inner_in a.given.now.partitions a.m i j g a.y.now a.q.now (omega arith) (omega arith) (omega arith) (omega arith)
           c.shift.new.cells c.shift-then-gains.new.cells c.shift.ensures c.shift-then-gains.ensures),
     )
 
@@ -75,12 +75,12 @@ pub returns : goal.returns
 returns c = let a = c.args in
     let i = a.i in
     let j = a.j in
-    let g = bits_at a.former.now in (
+    let g = bits_at a.given.now.former.now in (
       omega arith,
       omega arith,
       omega arith,
-      split-outer a.partitions a.m i j g a.y.now a.q.now (omega arith) (omega arith) (omega arith) (omega arith)
+      split-outer a.given.now.partitions a.m i j g a.y.now a.q.now (omega arith) (omega arith) (omega arith) (omega arith)
           (sym c.gains.ensures ∙ c.if-gains.false)
-          (outer_in a.partitions a.m i j g a.y.now a.q.now (omega arith) (omega arith) (omega arith) (omega arith)
+          (outer_in a.given.now.partitions a.m i j g a.y.now a.q.now (omega arith) (omega arith) (omega arith) (omega arith)
           c.shift-2.new.cells c.shift-3.new.cells c.shift-2.ensures c.shift-3.ensures),
     )

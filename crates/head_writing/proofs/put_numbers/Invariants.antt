@@ -1,6 +1,6 @@
 -- `head_writing::put_numbers` meets its contract. The loop's invariant: with the fields from here on the fields before the rows are written.
 -- Assumes nothing.
-use Prim.Native.Nat.{◌+◌, ◌-◌, ◌≤◌}
+use Prim.Native.Nat.{◌+◌}
 use mathlib.Core.Path.{◌≡◌}
 use lib.ListN.{length, drop}
 use Rattle.fields.specs.RecordField.{written}
@@ -9,8 +9,5 @@ use Rattle.head_writing.proofs.put_numbers.Given as goal
 
 abbrev pub invariant-loop-i : goal.invariant-loop-i
 invariant-loop-i l =
-    (l.i ≤ 6) × (length l.out ≡ length l.initial.out) × (l.at + length (number_fields (drop l.i head_table) (drop l.i l.values)) ≡ 29)
+    (l.at + length (number_fields (drop l.i head_table) (drop l.i l.values)) ≡ 29)
     × (written l.out l.at (number_fields (drop l.i head_table) (drop l.i l.values)) ≡ written l.initial.out 0 (number_fields head_table l.values))
-
-abbrev pub decreases-loop-i : goal.decreases-loop-i
-decreases-loop-i l = 6 - l.i

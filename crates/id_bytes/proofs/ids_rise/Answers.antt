@@ -1,6 +1,6 @@
--- `id_bytes::ids_rise` meets its contract. The loop's invariant: the ids rise exactly where those left rise from the last one.
-use Prim.Native.Nat.{ℕ, ◌+◌, ◌-◌}
-use mathlib.Core.Path.{refl, sym, ap, ◌∙◌}
+-- `id_bytes::ids_rise` meets its contract.
+use Prim.Native.Nat.{ℕ, ◌+◌, ◌-◌, ◌*◌}
+use mathlib.Core.Path.{sym, ap, ◌∙◌}
 use native.Mathlib.Omega.{arith}
 use Rattle.cluster.specs.Terms.{rising_from}
 use Rattle.id_bytes.specs.RecordIds.{ids_at}
@@ -13,24 +13,17 @@ returns-then-ids_in-count c =
     let a = c.args in
     sym (fall-missing a.bytes.now a.from a.count (omega (arith, c.ids_in.ensures)))
 
-pub loop-left-init : goal.loop-left-init
-loop-left-init c = (omega (arith, c.ids_in.ensures), refl)
-
 pub returns-then-id-last : goal.returns-then-id-last
 returns-then-id-last c =
-    sym (c.loop-left.invariant.1
-    ∙ fall-found c.args.bytes.now c.loop-left.at c.loop-left.left (search rules) c.loop-left.last (omega (arith, c.word_in-id.ensures.0)))
+    sym (c.loop-j.invariant ∙ fall-found c.args.bytes.now _ _ c.loop-j.j (search rules) c.loop-j.last (omega (arith, c.word_in-id.ensures.0)))
 
-pub loop-left-preserved : goal.loop-left-preserved
-loop-left-preserved c =
-    let s = c.args.bytes.now in (
-      search rules,
-      c.loop-left.invariant.1
-          ∙ (rise_passed s c.loop-left.at c.loop-left.left (search rules) c.loop-left.last (omega (arith, c.word_in-id.ensures.0))
-          ∙ ap (λ (x : ℕ). rising_from x (ids_at s (c.loop-left.at + 4) (c.loop-left.left - 1))) (sym c.word_in-id.ensures.0)),
-    )
+pub loop-j-preserved : goal.loop-j-preserved
+loop-j-preserved c =
+    let a = c.args in
+    c.loop-j.invariant
+    ∙ (rise_passed a.bytes.now _ _ c.loop-j.j (search rules) c.loop-j.last (omega (arith, c.word_in-id.ensures.0))
+    ∙ ap (λ (x : ℕ). rising_from x (ids_at a.bytes.now (a.from + 4 * (c.loop-j.j + 1)) (a.count - (c.loop-j.j + 1)))) (sym c.word_in-id.ensures.0))
 
 pub returns : goal.returns
 unfolding rising_from
-returns c =
-    sym (c.loop-left.invariant.1 ∙ ap (rising_from c.loop-left.last) (ids-none c.args.bytes.now c.loop-left.at c.loop-left.left (search rules)))
+returns c = sym (c.loop-j.invariant ∙ ap (rising_from c.loop-j.last) (ids-none c.args.bytes.now _ _ (omega arith)))

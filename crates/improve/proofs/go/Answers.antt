@@ -2,7 +2,7 @@
 use native.Mathlib.Omega.{arith}
 use Prim.Native.Nat.{ℕ}
 use mathlib.Core.List.{List}
-use mathlib.Core.Path.{◌≡◌, refl, sym, ap, ◌∙◌, subst}
+use mathlib.Core.Path.{◌≡◌, sym, ap, subst}
 use lib.ListN.{length, replicate}
 use Rattle.cycles.specs.ModelFound.{walk_cells}
 use Rattle.exchange.specs.ModelUncross.{Same}
@@ -20,18 +20,11 @@ loop-done-init c =
     let p = c.requires in (
       omega arith,
       omega arith,
-      refl,
-      refl,
-      refl,
-      refl,
-      λ h. run_begins a.former.now a.partitions a.mates.now a.caps.now a.nodes a.z a.allowance a.rows.now (walk_in 0 a.y.now a.q.now)
+      run_begins a.given.now.former.now a.given.now.partitions a.given.now.mates.now a.given.now.caps.now a.nodes a.given.now.z a.allowance a.rows.now (walk_in 0 a.y.now a.q.now)
           (subst (λ (x : List ℕ). Same (begun a.rows.now).last (walk_in 0 x a.q.now)) (sym p.2)
           (subst (λ (x : List ℕ). Same (begun a.rows.now).last (walk_in 0 (replicate walk_cells 0) x)) (sym p.3) (blank-walk a.rows.now))),
-      λ h. absurd (omega (arith, h)),
-      kept-none a.former.now a.partitions a.mates.now (below_of a.nodes) a.z a.rows.now a.kept.now p.4,
+      kept-none a.given.now.former.now a.given.now.partitions a.given.now.mates.now (below_of a.nodes) a.given.now.z a.rows.now a.kept.now p.4,
       p.5,
-      p.6,
-      omega arith,
     )
 
 pub step-last-requires : goal.step-last-requires
@@ -40,16 +33,10 @@ step-last-requires c =
     let i = c.loop-done.invariant in
     let nodes-long : length c.args.y.now ≡ walk_cells = ap length p.2 in
     let partitions-long : length c.args.q.now ≡ walk_cells = ap length p.3 in
-    (i.1, omega (arith, i.3, nodes-long), omega (arith, i.4, partitions-long), p.0, omega (arith, i.2, p.1), i.8, i.9, i.10, p.7)
-
-pub overflow_cast-done : goal.overflow_cast-done
-overflow_cast-done c = omega (arith, c.loop-done.invariant.11, c.loop-done-test.true)
-
-pub shape_of-tight-then-last-eq0 : goal.shape_of-tight-then-last-eq0
-shape_of-tight-then-last-eq0 c = c.step-last.auto.tight ∙ c.loop-done.invariant.5
+    (i.1, omega (arith, nodes-long), omega (arith, partitions-long), p.0, omega arith, i.3, i.4, p.6)
 
 pub shape_of-held-then-last-eq0 : goal.shape_of-held-then-last-eq0
-shape_of-held-then-last-eq0 c = omega (arith, c.step-last.ensures.7.cells, c.requires.6.cells)
+shape_of-held-then-last-eq0 c = omega (arith, c.step-last.ensures.6.held.cells, c.requires.5.held.cells)
 
 pub shape_of-kept-then-last-eq0 : goal.shape_of-kept-then-last-eq0
 shape_of-kept-then-last-eq0 c = omega (arith, c.step-last.ensures.5.long, c.requires.4)
@@ -57,46 +44,32 @@ shape_of-kept-then-last-eq0 c = omega (arith, c.step-last.ensures.5.long, c.requ
 pub returns-then-last-eq0 : goal.returns-then-last-eq0
 returns-then-last-eq0 c =
     let a = c.args in
-    let l = c.loop-done-test.true in
     let d =
-    run_finished a.former.now a.partitions a.mates.now a.caps.now a.nodes a.z a.allowance a.rows.now c.loop-done.done c.loop-done.rows (walk_in c.loop-done.last.len c.loop-done.y c.loop-done.q) (c.loop-done.invariant.6 l) c.step-last.new.rows (walk_in c.step-last.result.len c.step-last.new.y c.step-last.new.q) l
+    run_finished a.given.now.former.now a.given.now.partitions a.given.now.mates.now a.given.now.caps.now a.nodes a.given.now.z a.allowance a.rows.now c.loop-done.done c.loop-done.rows (walk_in c.loop-done.last.len c.loop-done.y c.loop-done.q) c.loop-done.invariant.2 c.step-last.new.rows (walk_in c.step-last.result.len c.step-last.new.y c.step-last.new.q) c.loop-done.invariant.0
     c.step-last.ensures.3 c.step-last.ensures.4 c.if-last-eq0.true in
-    (d.0, c.verdict.ensures.0 ∙ d.1, c.verdict.ensures.1 ∙ d.2, search rules, c.step-last.ensures.6, c.step-last.ensures.7, rw c.verdict.ensures.2 c.step-last.ensures.5)
-
-pub overflow_add-done : goal.overflow_add-done
-overflow_add-done c = omega (arith, c.loop-done.invariant.11, c.loop-done-test.true)
-
-pub loop-done-smaller : goal.loop-done-smaller
-loop-done-smaller c = omega (arith, c.loop-done-test.true)
+    (d.0, d.1, d.2, search rules, c.step-last.ensures.6, c.step-last.ensures.5)
 
 pub loop-done-preserved : goal.loop-done-preserved
 loop-done-preserved c =
     let a = c.args in
-    let l = c.loop-done-test.true in
     let g =
-    run_goes a.former.now a.partitions a.mates.now a.caps.now a.nodes a.z a.allowance a.rows.now c.loop-done.done c.loop-done.rows (walk_in c.loop-done.last.len c.loop-done.y c.loop-done.q) (c.loop-done.invariant.6 l) c.step-last.new.rows (walk_in c.step-last.result.len c.step-last.new.y c.step-last.new.q) l
+    run_goes a.given.now.former.now a.given.now.partitions a.given.now.mates.now a.given.now.caps.now a.nodes a.given.now.z a.allowance a.rows.now c.loop-done.done c.loop-done.rows (walk_in c.loop-done.last.len c.loop-done.y c.loop-done.q) c.loop-done.invariant.2 c.step-last.new.rows (walk_in c.step-last.result.len c.step-last.new.y c.step-last.new.q) c.loop-done.invariant.0
     c.step-last.ensures.3 c.step-last.ensures.4 c.if-last-eq0.false in (
-      omega (arith, l),
+      omega arith,
       c.step-last.ensures.0,
-      search rules,
-      search rules,
-      search rules,
-      c.step-last.auto.tight ∙ c.loop-done.invariant.5,
-      g.0,
-      g.1,
+      g.0 (omega arith),
       c.step-last.ensures.5,
       c.step-last.ensures.6,
-      c.step-last.ensures.7,
-      c.loop-done.invariant.11,
     )
 
-pub shape_of-held : goal.shape_of-held
-shape_of-held c = omega (arith, c.loop-done.invariant.10.cells, c.requires.6.cells)
-
-pub shape_of-kept : goal.shape_of-kept
-shape_of-kept c = omega (arith, c.loop-done.invariant.8.long, c.requires.4)
+pub returns-else-last-eq0 : goal.returns-else-last-eq0
+returns-else-last-eq0 c =
+    let a = c.args in
+    let g =
+    run_goes a.given.now.former.now a.given.now.partitions a.given.now.mates.now a.given.now.caps.now a.nodes a.given.now.z a.allowance a.rows.now c.loop-done.done c.loop-done.rows (walk_in c.loop-done.last.len c.loop-done.y c.loop-done.q) c.loop-done.invariant.2 c.step-last.new.rows (walk_in c.step-last.result.len c.step-last.new.y c.step-last.new.q) c.loop-done.invariant.0
+    c.step-last.ensures.3 c.step-last.ensures.4 c.if-last-eq0.false in
+    let d = g.1 (omega arith) in
+    (d.0, d.1, d.2, search rules, c.step-last.ensures.6, c.step-last.ensures.5)
 
 pub returns : goal.returns
-returns c =
-    let d = c.loop-done.invariant.7 (omega (arith, c.loop-done-test.false)) in
-    (d.0, c.verdict-2.ensures.0 ∙ d.1, c.verdict-2.ensures.1 ∙ d.2, c.loop-done.invariant.2, c.loop-done.invariant.9, c.loop-done.invariant.10, rw c.verdict-2.ensures.2 c.loop-done.invariant.8)
+returns c = absurd (omega arith)

@@ -1,5 +1,5 @@
 -- `leads::stands` meets its contract. The cells have the first v nodes by their levels. Assumes nothing.
-use Prim.Native.Nat.{◌+◌, ◌-◌, ◌≤◌}
+use Prim.Native.Nat.{◌+◌}
 use mathlib.Core.Path.{◌≡◌}
 use lib.ListN.{length}
 use Rattle.cluster.specs.Terms.{most_nodes}
@@ -7,8 +7,4 @@ use Rattle.leads.proofs.Standing.{Stood}
 use Rattle.leads.proofs.stands.Given as goal
 
 abbrev pub invariant-loop-v : goal.invariant-loop-v
-invariant-loop-v l =
-    (l.v ≤ l.n) × (l.n ≤ most_nodes) × (most_nodes ≤ length l.levels) × (length l.at ≡ most_nodes + 3) × Stood l.levels l.v l.at
-
-abbrev pub decreases-loop-v : goal.decreases-loop-v
-decreases-loop-v l = l.n - l.v
+invariant-loop-v l = (length l.at ≡ most_nodes + 3) × Stood l.levels l.v l.at

@@ -1,10 +1,7 @@
 -- `levels::fall` meets its contract: the members of near that are not left have offered the distance.
 -- Assumes nothing.
 use Prim.Native.Nat.{ℕ}
-use mathlib.Core.Path.{◌≡◌}
 use mathlib.Core.List.{List}
-use lib.ListN.{length}
-use Rattle.sets.specs.ModelBits.{count_of}
 use Rattle.levels.specs.ModelTurns.{Taken, leads_to}
 use Rattle.levels.proofs.Visits.{Passed}
 use Rattle.levels.proofs.fall.Given as goal
@@ -15,9 +12,5 @@ pub record Offering (arcs : List ℕ) (near even up free c : ℕ) (next₀ row�
   pub passed : Passed near left upto
   pub taken : Taken near (leads_to arcs even up) upto free still c next₀ row₀ next row
 
-abbrev pub invariant-loop-left : goal.invariant-loop-left
-invariant-loop-left l =
-    (length l.next ≡ length l.initial.next) × (length l.row ≡ length l.initial.row) × Offering l.arcs l.near l.even l.up l.free l.c l.initial.next l.initial.row l.next l.row l.still l.left
-
-abbrev pub decreases-loop-left : goal.decreases-loop-left
-decreases-loop-left l = count_of l.left
+abbrev pub invariant-loop-u : goal.invariant-loop-u
+invariant-loop-u l = Offering l.arcs l.near l.even l.up l.free l.c l.initial.next l.initial.row l.next l.row l.still l.u-iterator.left

@@ -1,7 +1,9 @@
 -- `line::light` meets its contract. The loop's invariant: the sum so far.
 use borrow.Author.Rules.{rules}
 use native.Mathlib.Omega.{arith}
-use Prim.Native.Nat.{ℕ}
+use Prim.Native.Nat.{ℕ, ◌<◌}
+use lib.ListN.{length-take, get_or, take}
+use lib.Seq.{get_or-take}
 use mathlib.Core.Path.{sym, ◌≡◌, refl, ap, ◌∙◌}
 use Rattle.dealing.proofs.Line.{light_zone, heavy_zone}
 use Rattle.dealing.specs.ModelDeal.{light}
@@ -9,33 +11,39 @@ use Rattle.sums.specs.TermsSums.{sum_to}
 use Rattle.incidence.specs.ModelIncidence.{cell}
 use Rattle.sums.proofs.Sum.{sum-next}
 use Rattle.line.proofs.light.Goals as goal
-use Rattle.line.proofs.light.Goals.{then-sums-z, else-sums-z}
+use Rattle.line.proofs.light.Goals.{then-copies-partitions, else-copies-partitions}
 
-pub loop-z-init : goal.loop-z-init
+pub loop-copies-init : goal.loop-copies-init
 unfolding sum_to
-loop-z-init c = (search rules, search rules, refl)
+loop-copies-init c = (search rules, refl)
 
 pub overflow_add-sum : goal.overflow_add-sum
 overflow_add-sum c =
-    omega (arith, c.requires.2 c.loop-z.z (omega arith))
-
-pub loop-z-preserved : goal.loop-z-preserved
-loop-z-preserved c =
     let a = c.args in
-    let f = cell a.sums.now in (
-      search rules,
-      elim c.if-sums-z.branch [
-        | then-sums-z w ↦ omega (arith, c.requires.2 c.loop-z.z (omega arith))
-        | else-sums-z w ↦ omega arith
+    let i = c.loop-copies.copies-index in
+    let l : i < a.n = omega (arith, length-take a.n a.sums.now) in
+    omega (arith, get_or-take a.n a.sums.now i 0 l, c.requires.1 i (omega arith))
+
+pub loop-copies-preserved : goal.loop-copies-preserved
+loop-copies-preserved c =
+    let a = c.args in
+    let f = cell a.sums.now in
+    let i = c.loop-copies.copies-index in
+    let s = c.loop-copies.sum in
+    let l : i < a.n = omega (arith, length-take a.n a.sums.now) in
+    let e : get_or (take a.n a.sums.now) i 0 ≡ f i = get_or-take a.n a.sums.now i 0 l in (
+      elim c.if-copies-partitions.branch [
+        | then-copies-partitions w ↦ omega (arith, c.requires.1 i (omega arith))
+        | else-copies-partitions w ↦ omega arith
       ],
-      elim c.if-sums-z.branch [
-        | then-sums-z w ↦ w.sum-is ∙ sum-next (light a.partitions f) c.loop-z.z c.loop-z.sum (f c.loop-z.z) c.loop-z.invariant.2 (sym (light_zone a.partitions a.n f c.loop-z.z w.if-sums-z.true).lights)
-        | else-sums-z w ↦ w.sum-is ∙ omega (arith, sum-next (light a.partitions f) c.loop-z.z c.loop-z.sum 0 c.loop-z.invariant.2 (sym (heavy_zone a.partitions a.n f c.loop-z.z w.if-sums-z.false).lights))
+      elim c.if-copies-partitions.branch [
+        | then-copies-partitions w ↦ w.sum-is ∙ sum-next (light a.partitions f) i s _ c.loop-copies.invariant.1 (e ∙ sym (light_zone a.partitions a.n f i (omega arith)).lights)
+        | else-copies-partitions w ↦ w.sum-is ∙ omega (arith, sum-next (light a.partitions f) i s 0 c.loop-copies.invariant.1 (sym (heavy_zone a.partitions a.n f i (omega arith)).lights))
       ],
     )
 
 pub returns : goal.returns
 returns c =
     let a = c.args in
-    let e : c.loop-z.z ≡ a.n = omega arith in
-    c.loop-z.invariant.2 ∙ ap (λ (m : ℕ). sum_to m (light a.partitions (cell a.sums.now))) e
+    let e : c.loop-copies.copies-index ≡ a.n = omega (arith, length-take a.n a.sums.now) in
+    c.loop-copies.invariant.1 ∙ ap (λ (m : ℕ). sum_to m (light a.partitions (cell a.sums.now))) e

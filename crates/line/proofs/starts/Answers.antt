@@ -13,24 +13,23 @@ use Rattle.line.proofs.Lining.{begins_bound, totals-most, start-cells}
 use Rattle.line.proofs.starts.Goals as goal
 
 pub loop-b-init : goal.loop-b-init
-loop-b-init c = (search rules, search rules, column-none _)
+loop-b-init c = column-none _
 
 pub overflow_cast-z : goal.overflow_cast-z
 overflow_cast-z c =
-    omega (arith, c.requires.4 c.loop-b.b (omega arith))
+    omega (arith, c.requires.2 c.loop-b.b (omega arith))
 
 pub zone_begins-begin-requires : goal.zone_begins-begin-requires
 zone_begins-begin-requires c =
     let t = c.zone_totals-sums in (
-      omega (arith, c.requires.4 c.loop-b.b (omega arith)),
+      omega (arith, c.requires.2 c.loop-b.b (omega arith)),
       search rules,
-      search rules,
-      totals-most (cell c.args.zones.now) (cell c.args.copies.now) c.args.n t.result (search rules) c.requires.5 t.ensures,
+      totals-most (cell c.args.zones.now) (cell c.args.copies.now) c.args.n t.result (search rules) c.requires.3 t.ensures,
     )
 
 pub in_zone-requires : goal.in_zone-requires
 in_zone-requires c =
-    (search rules, search rules, search rules, λ i l. c.requires.5 i (omega arith))
+    (search rules, λ i l. c.requires.3 i (omega arith))
 
 pub overflow_add-starts : goal.overflow_add-starts
 overflow_add-starts c =
@@ -41,24 +40,21 @@ overflow_add-starts c =
       arith,
       c.zone_begins-begin.ensures,
       c.in_zone.ensures,
-      begins_bound a.partitions (cell t.result) a.n z most_in_zone (search rules) (omega (arith, c.requires.4 c.loop-b.b (omega arith)))
-          (totals-most (cell a.zones.now) (cell a.copies.now) a.n t.result (search rules) c.requires.5 t.ensures),
-      zone_bound (cell a.zones.now) (cell a.copies.now) c.loop-b.b z buffer_rows (λ i l. c.requires.5 i (omega arith)),
+      begins_bound a.partitions (cell t.result) a.n z most_in_zone (search rules) (omega (arith, c.requires.2 c.loop-b.b (omega arith)))
+          (totals-most (cell a.zones.now) (cell a.copies.now) a.n t.result (search rules) c.requires.3 t.ensures),
+      zone_bound (cell a.zones.now) (cell a.copies.now) c.loop-b.b z buffer_rows (λ i l. c.requires.3 i (omega arith)),
     )
 
 pub loop-b-preserved : goal.loop-b-preserved
 loop-b-preserved c =
     let a = c.args in
-    let t = c.zone_totals-sums in (
-      search rules,
-      search rules,
-      column-next (λ i. start a.partitions a.n (cell a.zones.now) (cell a.copies.now) i % a.partitions) c.loop-b.starts c.loop-b.b _ c.loop-b.invariant.2
-          (ap (λ (x : ℕ). x % a.partitions)
-          (start-cells a.partitions a.n (cell a.zones.now) (cell a.copies.now) t.result c.loop-b.b c.zone_begins-begin.result c.in_zone.result
-          (search rules) (omega (arith, c.requires.4 c.loop-b.b (omega arith))) t.ensures c.zone_begins-begin.ensures c.in_zone.ensures)),
-    )
+    let t = c.zone_totals-sums in
+    column-next (λ i. start a.partitions a.n (cell a.zones.now) (cell a.copies.now) i % a.partitions) c.loop-b.starts c.loop-b.b _ c.loop-b.invariant
+    (ap (λ (x : ℕ). x % a.partitions)
+    (start-cells a.partitions a.n (cell a.zones.now) (cell a.copies.now) t.result c.loop-b.b c.zone_begins-begin.result c.in_zone.result
+    (search rules) (omega (arith, c.requires.2 c.loop-b.b (omega arith))) t.ensures c.zone_begins-begin.ensures c.in_zone.ensures))
 
 pub returns : goal.returns
 returns c =
     let a = c.args in
-    column_end (λ i. start a.partitions a.n (cell a.zones.now) (cell a.copies.now) i % a.partitions) c.loop-b.starts c.loop-b.b a.n c.loop-b.invariant.2 (omega arith)
+    column_end (λ i. start a.partitions a.n (cell a.zones.now) (cell a.copies.now) i % a.partitions) c.loop-b.starts c.loop-b.b a.n c.loop-b.invariant (omega arith)

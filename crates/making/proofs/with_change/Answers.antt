@@ -6,8 +6,9 @@ use mathlib.Core.Path.{◌≡◌, sym, ap, ◌∙◌}
 use mathlib.Core.List.{[], ◌∷◌}
 use lib.ListN.{length}
 use Rattle.cells.proofs.Cells.{length_of_map}
-use Rattle.cluster.specs.Terms.{most_nodes, topology}
+use Rattle.cluster.specs.Terms.{most_nodes, topology, fault_of}
 use Rattle.cluster.specs.TermsReading.{slots_of}
+use Rattle.cluster.specs.declared.Cluster.{Cluster}
 use Rattle.cluster.specs.declared.Node.{Node}
 use Rattle.cluster.proofs.Accepting.{accepted, few_nodes, nodes-count}
 use Rattle.splices.specs.TermsReplaced.{nodes_with, replaced, with_nodes}
@@ -17,56 +18,38 @@ use Rattle.making.specs.TermsMaking.{with_capacity, new_nodes, changed_nodes, ch
 use Rattle.making.proofs.Changing.{changed-room}
 use Rattle.making.proofs.with_change.Goals as goal
 
+-- There is a slot for what the change puts in.
+room : (c : Cluster) (x : Change) → fault_of c ≡ 0 → change_fault (topology c).nodes x ≡ 0 → length c.nodes ≡ most_nodes → (y : Change) → x ≡ y
+    → c.count + length (new_nodes (topology c).nodes y) ≤ most_nodes + length (nodes_with (id_of y) (topology c).nodes)
+room c x sound good long y e =
+    let a = accepted c sound in
+    let l = (topology c).nodes in
+    omega (
+      arith,
+      nodes-count c long (few_nodes c sound),
+      changed-room l y a.ids (sym (ap (change_fault l) e) ∙ good) a.few,
+    )
+
 pub replace-requires : goal.replace-requires
 unfolding new_nodes id_of
 replace-requires c =
-    let long : length c.args.c.nodes ≡ most_nodes = search length_of_map in
-    let few : c.args.c.count ≤ most_nodes = few_nodes c.args.c c.requires.0 in
-    -- There is a slot for what the change puts in.
-    let room : (x : Change) → c.args.x ≡ x
-    → c.args.c.count + length (new_nodes (topology c.args.c).nodes x) ≤ most_nodes + length (nodes_with (id_of x) (topology c.args.c).nodes) = λ x e. (let a = accepted c.args.c c.requires.0 in
-    let l = (topology c.args.c).nodes in
-    omega (
-      arith,
-      nodes-count c.args.c long few,
-      changed-room l x a.ids (sym (ap (change_fault l) e) ∙ c.requires.1) a.few,
-    )) in
-    (few, (accepted c.args.c c.requires.0).ids, omega arith, room _ c.in-Add.is)
+    let r = c.requires in
+    (few_nodes c.args.c r.0, (accepted c.args.c r.0).ids, omega arith, room c.args.c c.args.x r.0 r.1 (search length_of_map) _ c.in-Add.is)
 
 pub replace-requires-in-Remove : goal.replace-requires-in-Remove
 unfolding new_nodes id_of
 replace-requires-in-Remove c =
-    let long : length c.args.c.nodes ≡ most_nodes = search length_of_map in
-    let few : c.args.c.count ≤ most_nodes = few_nodes c.args.c c.requires.0 in
-    let room : (x : Change) → c.args.x ≡ x
-    → c.args.c.count + length (new_nodes (topology c.args.c).nodes x) ≤ most_nodes + length (nodes_with (id_of x) (topology c.args.c).nodes) = λ x e. (let a = accepted c.args.c c.requires.0 in
-    let l = (topology c.args.c).nodes in
-    omega (
-      arith,
-      nodes-count c.args.c long few,
-      changed-room l x a.ids (sym (ap (change_fault l) e) ∙ c.requires.1) a.few,
-    )) in
-    (few, (accepted c.args.c c.requires.0).ids, omega arith, room _ c.in-Remove.is)
+    let r = c.requires in
+    (few_nodes c.args.c r.0, (accepted c.args.c r.0).ids, omega arith, room c.args.c c.args.x r.0 r.1 (search length_of_map) _ c.in-Remove.is)
 
 pub node_with-node-requires : goal.node_with-node-requires
-node_with-node-requires c =
-    let few : c.args.c.count ≤ most_nodes = few_nodes c.args.c c.requires.0 in
-    few
+node_with-node-requires c = few_nodes c.args.c c.requires.0
 
 pub replace-requires-in-Resize : goal.replace-requires-in-Resize
 unfolding new_nodes id_of
 replace-requires-in-Resize c =
-    let long : length c.args.c.nodes ≡ most_nodes = search length_of_map in
-    let few : c.args.c.count ≤ most_nodes = few_nodes c.args.c c.requires.0 in
-    let room : (x : Change) → c.args.x ≡ x
-    → c.args.c.count + length (new_nodes (topology c.args.c).nodes x) ≤ most_nodes + length (nodes_with (id_of x) (topology c.args.c).nodes) = λ x e. (let a = accepted c.args.c c.requires.0 in
-    let l = (topology c.args.c).nodes in
-    omega (
-      arith,
-      nodes-count c.args.c long few,
-      changed-room l x a.ids (sym (ap (change_fault l) e) ∙ c.requires.1) a.few,
-    )) in
-    (few, (accepted c.args.c c.requires.0).ids, omega arith, room _ c.in-Resize.is)
+    let r = c.requires in
+    (few_nodes c.args.c r.0, (accepted c.args.c r.0).ids, omega arith, room c.args.c c.args.x r.0 r.1 (search length_of_map) _ c.in-Resize.is)
 
 pub returns-in-Add : goal.returns-in-Add
 unfolding new_nodes id_of

@@ -1,24 +1,31 @@
--- `mask_cells::blank_row` meets its contract. The loop's invariant: the cells passed are 0.
-use borrow.Author.Rules.{rules}
-use native.Mathlib.Omega.{arith}
-use Prim.Native.Nat.{ℕ, ◌+◌}
-use mathlib.Core.Path.{◌≡◌, ap, ◌∙◌}
+-- `mask_cells::blank_row` meets its contract: the 0s of `fill` are put one by one.
+-- Assumes nothing.
+use Prim.Native.Nat.{ℕ, zero, suc, ◌+◌, ◌-◌, ◌≤◌}
+use mathlib.Core.Path.{◌≡◌, refl, sym, ap, ◌∙◌}
 use mathlib.Core.List.{List}
-use lib.ListN.{set}
-use Rattle.cells.proofs.Cells.{put-none, put-more}
+use native.Mathlib.Numerals.{add-one}
+use native.Mathlib.Omega.{arith}
+use lib.ListN.{length, take, drop, set, replicate, length-drop}
+use lib.Seq.{paste, length-take-le}
+use Rattle.std.proofs.lemmas.List.Edits.{paste_none, fill_from_more}
+use Rattle.std.proofs.lemmas.Slice.{put_mid-paste}
+use Rattle.cells.specs.ModelCells.{put}
 use Rattle.cluster.specs.Terms.{row_cells}
 use Rattle.mask_cells.proofs.blank_row.Goals as goal
 
-pub loop-j-init : goal.loop-j-init
-loop-j-init c = (search rules, search rules, put-none _ _ _)
-
-pub loop-j-preserved : goal.loop-j-preserved
-loop-j-preserved c =
-    let a = c.args in (
-      search rules,
-      search rules,
-      ap (λ (l : List ℕ). set l (a.from + c.loop-j.j) 0) c.loop-j.invariant.2 ∙ put-more a.from (λ _. 0) c.loop-j.j a.cells.now,
-    )
+-- Copies of x over a part of a list are put one by one.
+put-copies : (from n x : ℕ) (l : List ℕ) → from + n ≤ length l → paste l from (replicate n x) n ≡ put from (λ _. x) n l
+unfolding put
+put-copies from zero x l h = sym (paste_none l from (replicate 0 x))
+put-copies from (suc n) x l h =
+    ap (λ (k : ℕ). paste l from (replicate k x) k) (sym (add-one n))
+    ∙ (sym (fill_from_more l from n x (omega arith)) ∙ ap (λ (r : List ℕ). set r (from + n) x) (put-copies from n x l (omega arith)))
 
 pub returns : goal.returns
-returns c = let e : c.loop-j.j ≡ row_cells = omega arith in rw e at c.loop-j.invariant.2
+returns c =
+    let a = c.args in
+    let cells : List ℕ = drop a.from a.cells.now in
+    let long : length (take (a.from + row_cells - a.from) cells) ≡ row_cells =
+    length-take-le (a.from + row_cells - a.from) cells (omega (arith, length-drop a.from a.cells.now)) ∙ omega arith in
+    put_mid-paste a.from _ a.cells.now _ (replicate row_cells 0) row_cells (c.fill.ensures.after (λ y e. e) ∙ ap (λ (n : ℕ). replicate n 0) long) (omega arith) refl
+    ∙ put-copies a.from row_cells 0 a.cells.now c.requires

@@ -10,6 +10,7 @@ use Rattle.sums.specs.TermsSums.{tab}
 use Rattle.cells.proofs.Cells.{tab-none}
 use Rattle.cluster.specs.Terms.{row_cells, buffer_rows, layout_cells, topology, row, cells_of}
 use Rattle.mask_cells.specs.ModelMaskCells.{rows_where, cells_written}
+use Rattle.masks.proofs.Where.{ids_used}
 use Rattle.mask_cells.proofs.Written.{row_written}
 use Rattle.mask_cells.proofs.write_cells.Goals as goal
 
@@ -32,20 +33,14 @@ returns-then-cells-lt-CELLS c =
     simp (le-leb a.partitions buffer_rows (search rules), le-leb a.partitions (length a.masks.now) (search rules), lt-leb layout_cells (length a.cells.now) (search rules))
 
 pub loop-p-init : goal.loop-p-init
-loop-p-init c = (search rules, search rules, search rules, search rules, search rules, λ ns m e. tab-none _ _)
+loop-p-init c = λ ns e. tab-none _ _
 
 pub loop-p-preserved : goal.loop-p-preserved
 loop-p-preserved c =
     let a = c.args in
-    let mask = c.mask_at-mask in (
-      search rules,
-      search rules,
-      search rules,
-      search rules,
-      search rules,
-      λ ns m e. c.write_row.ensures ns m e
-          ∙ row_written ns a.masks.now a.partitions c.loop-p.p mask.result a.cells.now c.loop-p.cells (omega arith) mask.ensures (c.loop-p.invariant.5 ns m e),
-    )
+    let mask = c.mask_at-mask in
+    λ ns e. c.write_row.ensures ns e
+    ∙ row_written ns a.masks.now a.partitions c.loop-p.p mask.result a.cells.now c.loop-p.cells (omega arith) mask.ensures (c.loop-p.invariant ns e)
 
 pub returns : goal.returns
 unfolding cells_written cells_of
@@ -53,5 +48,5 @@ returns c =
     let a = c.args in
     let e : c.loop-p.p ≡ buffer_rows = omega arith in
     simp (le-leb a.partitions buffer_rows (search rules), le-leb a.partitions (length a.masks.now) (search rules), le-leb layout_cells (length a.cells.now) (search rules))
-    (c.loop-p.invariant.5 (topology a.c).nodes c.used-n.ensures.0 c.ids_of-ids.ensures
+    (c.loop-p.invariant (topology a.c).nodes (ids_used (topology a.c).nodes _ _ c.used-n.ensures.1 c.used-n.ensures.0 c.ids_of-all.ensures)
     ∙ ap (λ (n : ℕ). tab (λ i. get_or (row (rows_where (topology a.c).nodes a.masks.now a.partitions) (i / row_cells)) (i % row_cells) 0) (n * row_cells) ++ drop (n * row_cells) a.cells.now) e)

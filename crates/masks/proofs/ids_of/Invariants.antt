@@ -1,13 +1,9 @@
 -- `masks::ids_of` meets its contract. The loop's invariant: the first b ids are written.
 -- Assumes nothing.
-use Prim.Native.Nat.{◌-◌, ◌≤◌}
 use mathlib.Core.Path.{◌≡◌}
-use Rattle.cluster.specs.Terms.{most_nodes, topology, node_at}
+use Rattle.cluster.specs.Terms.{topology, node_at}
 use Rattle.incidence.specs.ModelIncidence.{column}
 use Rattle.masks.proofs.ids_of.Given as goal
 
 abbrev pub invariant-loop-b : goal.invariant-loop-b
-invariant-loop-b l = (l.b ≤ l.n) × (l.n ≤ most_nodes) × (l.n ≤ l.c.count) × (l.ids ≡ column (λ i. (node_at (topology l.c) i).id) l.b)
-
-abbrev pub decreases-loop-b : goal.decreases-loop-b
-decreases-loop-b l = l.n - l.b
+invariant-loop-b l = l.ids ≡ column (λ i. (node_at (topology l.c) i).id) l.b

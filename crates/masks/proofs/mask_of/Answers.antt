@@ -15,7 +15,7 @@ pub returns-then-partition-ge-PARTITIONS : goal.returns-then-partition-ge-PARTIT
 unfolding row_mask
 returns-then-partition-ge-PARTITIONS c =
     let a = c.args in
-    λ ns m e. sym
+    λ ns e. sym
     (ap (λ (t : Bool). cond t (named ns (ids_in (row_at a.cells.now a.partition))) 0)
     (row_out a.cells.now a.partition (search rules)))
 
@@ -23,7 +23,7 @@ pub returns-then-cells-to : goal.returns-then-cells-to
 unfolding row_mask
 returns-then-cells-to c =
     let a = c.args in
-    λ ns m e. sym
+    λ ns e. sym
     (ap (λ (t : Bool). cond t (named ns (ids_in (row_at a.cells.now a.partition))) 0)
     (row_short a.cells.now a.partition (search rules)))
 
@@ -32,6 +32,6 @@ unfolding row_mask
 returns c =
     let a = c.args in
     let d : a.partition * row_cells + row_cells - a.partition * row_cells ≡ row_cells = omega arith in
-    λ ns m e. sym
+    λ ns e. sym
     (ap₂ (λ (t : Bool) (n : ℕ). cond t n 0) (row_whole a.cells.now a.partition (search rules) (search rules))
-    (sym (c.walk_row.ensures ns m e ∙ ap (λ (n : ℕ). named ns (ids_in (take n (drop (a.partition * row_cells) a.cells.now)))) d)))
+    (sym (c.walk_row.ensures ns e ∙ ap (λ (n : ℕ). named ns (ids_in (take n (drop (a.partition * row_cells) a.cells.now)))) d)))

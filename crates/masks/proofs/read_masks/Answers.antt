@@ -10,6 +10,7 @@ use Rattle.sums.specs.TermsSums.{tab}
 use Rattle.cells.proofs.Cells.{tab-none, tab-more}
 use Rattle.cluster.specs.Terms.{buffer_rows, topology}
 use Rattle.masks.specs.ModelMasks.{row_mask, masks_read}
+use Rattle.masks.proofs.Where.{ids_used}
 use Rattle.masks.proofs.read_masks.Goals as goal
 
 pub returns-then-partitions-gt-PARTITIONS : goal.returns-then-partitions-gt-PARTITIONS
@@ -24,20 +25,15 @@ returns-then-masks-partitions c =
     simp (le-leb a.partitions buffer_rows (search rules), lt-leb a.partitions (length a.masks.now) (search rules))
 
 pub loop-p-init : goal.loop-p-init
-loop-p-init c = (search rules, search rules, search rules, search rules, λ ns m e. tab-none _ _)
+loop-p-init c = λ ns e. tab-none _ _
 
 pub loop-p-preserved : goal.loop-p-preserved
 loop-p-preserved c =
-    let a = c.args in (
-      search rules,
-      search rules,
-      search rules,
-      search rules,
-      λ ns m e.
-          let mask : c.mask_of.result ≡ row_mask ns a.cells.now c.loop-p.p = c.mask_of.ensures ns m e in
-          ap₂ (λ (l : List ℕ) (v : ℕ). set l c.loop-p.p v) (c.loop-p.invariant.4 ns m e) mask
-          ∙ tab-more (λ q. row_mask ns a.cells.now q) c.loop-p.p a.masks.now (omega arith),
-    )
+    let a = c.args in
+    λ ns e.
+    let mask : c.mask_of.result ≡ row_mask ns a.cells.now c.loop-p.p = c.mask_of.ensures ns e in
+    ap₂ (λ (l : List ℕ) (v : ℕ). set l c.loop-p.p v) (c.loop-p.invariant ns e) mask
+    ∙ tab-more (λ q. row_mask ns a.cells.now q) c.loop-p.p a.masks.now (omega arith)
 
 pub returns : goal.returns
 unfolding masks_read
@@ -45,5 +41,5 @@ returns c =
     let a = c.args in
     let e : c.loop-p.p ≡ a.partitions = omega arith in
     simp (le-leb a.partitions buffer_rows (search rules), le-leb a.partitions (length a.masks.now) (search rules))
-    (c.loop-p.invariant.4 (topology a.c).nodes c.used-n.ensures.0 c.ids_of-ids.ensures
+    (c.loop-p.invariant (topology a.c).nodes (ids_used (topology a.c).nodes _ _ c.used-n.ensures.1 c.used-n.ensures.0 c.ids_of-all.ensures)
     ∙ ap (λ (n : ℕ). tab (λ q. row_mask (topology a.c).nodes a.cells.now q) n ++ drop n a.masks.now) e)

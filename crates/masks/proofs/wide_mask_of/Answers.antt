@@ -13,4 +13,4 @@ returns c =
     let a = c.args in
     let from = a.partition * wide_row_cells in
     let d : from + wide_row_cells - from ≡ wide_row_cells = omega arith in
-    λ ns m e. c.walk_row.ensures ns m e ∙ ap (λ (n : ℕ). named ns (ids_in (take n (drop from a.cells.now)))) d
+    λ ns e. c.walk_row.ensures ns e ∙ ap (λ (n : ℕ). named ns (ids_in (take n (drop from a.cells.now)))) d

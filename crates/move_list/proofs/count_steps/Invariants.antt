@@ -1,20 +1,15 @@
 -- `move_list::count_steps` meets its contract. The loop's invariant: the steps of the rows passed are counted.
 -- Assumes nothing.
-use Prim.Native.Nat.{◌≤◌, ◌-◌, ◌*◌}
+use Prim.Native.Nat.{◌≤◌, ◌*◌}
 use mathlib.Core.Path.{◌≡◌}
 use mathlib.Core.List.{List}
-use lib.ListN.{length}
 use Rattle.sets.specs.ModelBits.{mask_bits}
-use Rattle.cluster.specs.Terms.{buffer_rows}
+use Rattle.cluster.specs.Terms.{buffer_rows, ids_of}
 use Rattle.cluster.specs.declared.Node.{Node}
-use Rattle.masks.specs.ModelMasks.{id_cells}
 use Rattle.move_list.specs.ModelMoveRows.{steps_to}
 use Rattle.move_list.proofs.count_steps.Given as goal
 
 abbrev pub invariant-loop-p : goal.invariant-loop-p
 invariant-loop-p l =
-    (l.p ≤ l.partitions) × (l.partitions ≤ buffer_rows) × (l.steps ≤ 2 * mask_bits * l.p)
-    × ((ns : List Node) → l.n ≡ length ns → l.ids ≡ id_cells ns → l.steps ≡ steps_to ns l.former l.assignment l.p)
-
-abbrev pub decreases-loop-p : goal.decreases-loop-p
-decreases-loop-p l = l.partitions - l.p
+    (l.partitions ≤ buffer_rows) × (l.steps ≤ 2 * mask_bits * l.p)
+    × ((ns : List Node) → l.ids ≡ ids_of ns → l.steps ≡ steps_to ns l.former l.assignment l.p)

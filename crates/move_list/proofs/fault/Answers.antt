@@ -10,8 +10,10 @@ use Rattle.sums.specs.TermsSums.{every_to}
 use Rattle.cluster.specs.Terms.{most_bits, wide_row_cells, wide_cells, topology, row_of, formed}
 use Rattle.cluster.specs.declared.Cluster.{Cluster}
 use Rattle.cluster.proofs.Accepting.{partitions_in_range, accepted}
-use Rattle.layouts.specs.declared.check.Checked.{Checked}
-use Rattle.layouts.specs.TermsCheck.{fault, check_of}
+use Rattle.std.proofs.lemmas.Result.{err_from_is_err_and}
+use Rattle.layouts.proofs.FaultScan.{number-some}
+use Rattle.cluster.specs.TermsRefusal.{number_of}
+use Rattle.layouts.specs.TermsCheck.{Checked, fault, check_of}
 use Rattle.layouts.proofs.CheckMeaning.{passed_valid}
 use Rattle.move_list.specs.TermsMoveList.{former_fault, moves_fault}
 use Rattle.move_list.proofs.MovesOrder.{former_formed, order_short, order-check, order-former}
@@ -35,22 +37,27 @@ module _ (c : Cluster) (former assignment : List ℕ) (passed : (check_of c assi
 pub returns-then-former-lt-WIDE_CELLS : goal.returns-then-former-lt-WIDE_CELLS
 returns-then-former-lt-WIDE_CELLS c =
     let a = c.args in
-    sym (order_short a.c a.former.now a.assignment.now (search rules))
+    rw c.into.ensures (sym (order_short a.c a.former.now a.assignment.now (search rules)))
 
-pub returns-then-checked-ne0 : goal.returns-then-checked-ne0
-returns-then-checked-ne0 c =
+pub returns-in_err-check : goal.returns-in_err-check
+returns-in_err-check c =
     let a = c.args in
-    let e : c.check-checked.result ≡ check_of a.c a.assignment.now 1 = c.check-checked.ensures in
-    e ∙ sym (order-check a.c a.former.now a.assignment.now (search rules) (λ z. c.if-checked-ne0.true (ap (λ (r : Checked). r.refusal) e ∙ z)))
+    let p = err_from_is_err_and c.from_residual.result c.from_residual.ensures.1 in
+    let r = c.in_err-check.field-0.0 in
+    let e : fault (number_of r.refusal) r.place ≡ check_of a.c a.assignment.now 1 = c.in_err-check.ensures in
+    rw (p.1, p.2) (e ∙ sym (order-check a.c a.former.now a.assignment.now (search rules) (λ z. number-some r.refusal (ap (λ (k : Checked). k.refusal) e ∙ z))))
 
-pub returns-then-formed : goal.returns-then-formed
-returns-then-formed c =
-    let a = c.args in
-    let passed : (check_of a.c a.assignment.now 1).refusal ≡ 0 = sym (ap (λ (r : Checked). r.refusal) c.check-checked.ensures) ∙ c.if-checked-ne0.false in
-    sym (answered a.c a.former.now a.assignment.now passed c.partitions.result c.partitions.ensures.0 c.rows_formed-formed.result c.rows_formed-formed.ensures true (search rules) c.if-formed.true)
+-- Check has passed.
+none : (c : Cluster) (assignment : List ℕ) → fault 0 0 ≡ check_of c assignment 1 → (check_of c assignment 1).refusal ≡ 0
+none c assignment e = ap (λ (r : Checked). r.refusal) (sym e)
 
-pub returns-else-formed : goal.returns-else-formed
-returns-else-formed c =
+pub returns-then-not-rows_formed : goal.returns-then-not-rows_formed
+returns-then-not-rows_formed c =
     let a = c.args in
-    let passed : (check_of a.c a.assignment.now 1).refusal ≡ 0 = sym (ap (λ (r : Checked). r.refusal) c.check-checked.ensures) ∙ c.if-checked-ne0.false in
-    sym (answered a.c a.former.now a.assignment.now passed c.partitions.result c.partitions.ensures.0 c.rows_formed-formed.result c.rows_formed-formed.ensures false (search rules) c.if-formed.false)
+    rw c.into-then-not-rows_formed.ensures
+    (sym (answered a.c a.former.now a.assignment.now (none a.c a.assignment.now c.in_ok-check.ensures) c.partitions.result c.partitions.ensures.0 c.rows_formed.result c.rows_formed.ensures false (search rules) c.if-not-rows_formed.true))
+
+pub returns : goal.returns
+returns c =
+    let a = c.args in
+    sym (answered a.c a.former.now a.assignment.now (none a.c a.assignment.now c.in_ok-check.ensures) c.partitions.result c.partitions.ensures.0 c.rows_formed.result c.rows_formed.ensures true (search rules) c.if-not-rows_formed.false)

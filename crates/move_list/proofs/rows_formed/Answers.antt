@@ -9,7 +9,7 @@ use Rattle.cluster.specs.Terms.{wide_row_cells, row_of, formed}
 use Rattle.move_list.proofs.rows_formed.Goals as goal
 
 pub loop-p-init : goal.loop-p-init
-loop-p-init c = (search rules, every-none _)
+loop-p-init c = every-none _
 
 pub returns-then-not-wide_row_is_formed : goal.returns-then-not-wide_row_is_formed
 returns-then-not-wide_row_is_formed c =
@@ -18,13 +18,11 @@ returns-then-not-wide_row_is_formed c =
 
 pub loop-p-preserved : goal.loop-p-preserved
 loop-p-preserved c =
-    let a = c.args in (
-      search rules,
-      every_more c.loop-p.p (λ q. formed (row_of wide_row_cells a.former.now q)) c.loop-p.invariant.1 (sym c.wide_row_is_formed.ensures ∙ c.if-not-wide_row_is_formed.false),
-    )
+    let a = c.args in
+    every_more c.loop-p.p (λ q. formed (row_of wide_row_cells a.former.now q)) c.loop-p.invariant (sym c.wide_row_is_formed.ensures ∙ c.if-not-wide_row_is_formed.false)
 
 pub returns : goal.returns
 returns c =
     let a = c.args in
     let e : c.loop-p.p ≡ a.partitions = omega arith in
-    sym (ap (λ (n : ℕ). every_to n (λ q. formed (row_of wide_row_cells a.former.now q))) (sym e) ∙ c.loop-p.invariant.1)
+    sym (ap (λ (n : ℕ). every_to n (λ q. formed (row_of wide_row_cells a.former.now q))) (sym e) ∙ c.loop-p.invariant)

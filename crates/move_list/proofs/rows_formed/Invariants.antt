@@ -1,6 +1,5 @@
 -- `move_list::rows_formed` meets its contract. The loop's invariant: the rows passed are formed.
 -- Assumes nothing.
-use Prim.Native.Nat.{◌≤◌, ◌-◌}
 use mathlib.Core.Path.{◌≡◌}
 use mathlib.Core.Bool.{true}
 use Rattle.sums.specs.TermsSums.{every_to}
@@ -8,7 +7,4 @@ use Rattle.cluster.specs.Terms.{wide_row_cells, row_of, formed}
 use Rattle.move_list.proofs.rows_formed.Given as goal
 
 abbrev pub invariant-loop-p : goal.invariant-loop-p
-invariant-loop-p l = (l.p ≤ l.partitions) × (every_to l.p (λ q. formed (row_of wide_row_cells l.former q)) ≡ true)
-
-abbrev pub decreases-loop-p : goal.decreases-loop-p
-decreases-loop-p l = l.partitions - l.p
+invariant-loop-p l = every_to l.p (λ q. formed (row_of wide_row_cells l.former q)) ≡ true

@@ -16,7 +16,7 @@ fill-requires-2 c = (c.requires.0, held_none c.args.former.now)
 
 pub order-requires : goal.order-requires
 order-requires c =
-    (c.requires.0, omega (arith, c.requires.1, c.run-ran.ensures.3), c.run-ran.ensures.6, c.run-ran.ensures.4, c.run-ran.ensures.5, c.fill-2.ensures)
+    (c.requires.0, omega (arith, c.requires.1, c.run-ran.ensures.3), c.run-ran.ensures.5, c.run-ran.ensures.4, c.fill-2.ensures)
 
 pub returns : goal.returns
 returns c =

@@ -18,10 +18,8 @@ second-requires c =
     let a = c.args in
     let f = c.first-first in (
       search rules,
-      search rules,
-      search rules,
-      c.requires.5,
-      first-most a.partitions a.n a.replication (cell a.zones.now) (cell a.caps.now) (search rules) f.result f.ensures buffer_rows c.requires.5,
+      c.requires.3,
+      first-most a.partitions a.n a.replication (cell a.zones.now) (cell a.caps.now) (search rules) f.result f.ensures buffer_rows c.requires.3,
     )
 
 pub returns : goal.returns
@@ -29,6 +27,6 @@ returns c =
     let a = c.args in
     let f = c.first-first in
     let t = c.total-placed in
-    let l = c.less in
+    let l = c.saturating_sub in
     second-given a.partitions a.n a.replication (cell a.zones.now) (cell a.caps.now) (search rules) f.result f.ensures
-    t.result l.result c.second.result c.requires.5 t.ensures l.ensures c.second.ensures
+    t.result l.result c.second.result c.requires.3 t.ensures l.ensures c.second.ensures

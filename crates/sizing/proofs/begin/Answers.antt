@@ -26,7 +26,7 @@ given-copies-requires c =
     let m = caps-most (topology c.args.c) o.0.few c.args.size c.caps-caps.result caps-told b (omega (arith, c.used-n.ensures)) in
     omega (arith, m, o.1, o.3)) in
     let o = ok in
-    (search rules, search rules, search rules, o.3, omega (arith, o.0.replication), few)
+    (search rules, o.3, omega (arith, o.0.replication), few)
 
 pub starts-starts-requires : goal.starts-starts-requires
 starts-starts-requires c =
@@ -41,8 +41,6 @@ starts-starts-requires c =
     let n = c.used-n in
     let z = c.zones-zones in (
       search rules,
-      search rules,
-      search rules,
       o.2,
       λ b l. zones-most (topology c.args.c) o.0.few z.result z.ensures b (omega (arith, n.ensures)),
       copies-most c.partitions-most.result n.result c.args.c.replication (cell z.result) (cell c.caps-caps.result) c.given-copies.result (search rules) c.given-copies.ensures buffer_rows few,
@@ -55,8 +53,6 @@ deal-requires c =
     (a, p.0, p.1, search rules)) in
     let o = ok in
     let n = c.used-n in (
-      search rules,
-      search rules,
       search rules,
       o.3,
       omega (arith, o.1, c.requires.1),

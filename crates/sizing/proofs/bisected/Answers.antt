@@ -13,7 +13,7 @@ use Rattle.sizing.proofs.Bisecting.{passing, size_begins, power_half, next_bit}
 use Rattle.sizing.proofs.bisected.Goals as goal
 
 pub loop-i-init : goal.loop-i-init
-loop-i-init c = (search rules, search rules, size_begins (topology c.args.c))
+loop-i-init c = (search rules, size_begins (topology c.args.c))
 
 pub overflow_add-larger : goal.overflow_add-larger
 overflow_add-larger c =
@@ -28,9 +28,8 @@ loop-i-preserved-then-passes c =
     let k = c.loop-i in
     let t = topology c.args.c in
     let w = word-one (k.i - 1) (omega arith) in (
-      search rules,
       omega (arith, w, power_half k.i (omega arith)),
-      next_bit (passing t) k.i k.size _ (size_of t) c.passes.result true (omega arith) w c.passes.ensures c.if-passes.true k.invariant.2,
+      next_bit (passing t) k.i k.size _ (size_of t) c.passes.result true (omega arith) w c.passes.ensures c.if-passes.true k.invariant.1,
     )
 
 pub loop-i-preserved : goal.loop-i-preserved
@@ -38,9 +37,8 @@ loop-i-preserved c =
     let k = c.loop-i in
     let t = topology c.args.c in
     let w = word-one (k.i - 1) (omega arith) in (
-      search rules,
       omega (arith, power_half k.i (omega arith)),
-      next_bit (passing t) k.i k.size _ (size_of t) c.passes.result false (omega arith) w c.passes.ensures c.if-passes.false k.invariant.2,
+      next_bit (passing t) k.i k.size _ (size_of t) c.passes.result false (omega arith) w c.passes.ensures c.if-passes.false k.invariant.1,
     )
 
 pub returns : goal.returns
@@ -48,4 +46,4 @@ unfolding bisect_from
 returns c =
     let k = c.loop-i in
     let e : k.i ≡ 0 = omega arith in
-    sym (k.invariant.2 ∙ ap (λ (x : ℕ). bisect_from x (passing (topology c.args.c)) k.size) e)
+    sym (k.invariant.1 ∙ ap (λ (x : ℕ). bisect_from x (passing (topology c.args.c)) k.size) e)

@@ -10,7 +10,4 @@ use Rattle.sizing.proofs.Bisecting.{passing}
 use Rattle.sizing.proofs.bisected.Given as goal
 
 abbrev pub invariant-loop-i : goal.invariant-loop-i
-invariant-loop-i l = (l.i ≤ size_bits) × (l.size + 2 ^ l.i ≤ 2 ^ size_bits) × (size_of (topology l.c) ≡ bisect_from l.i (passing (topology l.c)) l.size)
-
-abbrev pub decreases-loop-i : goal.decreases-loop-i
-decreases-loop-i l = l.i
+invariant-loop-i l = (l.size + 2 ^ l.i ≤ 2 ^ size_bits) × (size_of (topology l.c) ≡ bisect_from l.i (passing (topology l.c)) l.size)

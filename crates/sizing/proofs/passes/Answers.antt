@@ -8,7 +8,7 @@ use Rattle.sizing.proofs.Reading.{caps_in_lem}
 use Rattle.cluster.specs.Terms.{topology}
 use Rattle.cluster.specs.TermsReading.{Accepted}
 use Rattle.cluster.proofs.Accepting.{accepted}
-use Rattle.sizing.proofs.Arrays.{partitions_known, zones_long, zones-most, caps_long, caps-most, arrays_fit, none_above}
+use Rattle.sizing.proofs.Arrays.{partitions_known, zones-most, caps-most, arrays_fit, none_above}
 use Rattle.sizing.proofs.passes.Goals as goal
 
 pub returns-then-most-size : goal.returns-then-most-size
@@ -25,8 +25,6 @@ fit-requires c =
     let a : Accepted t = accepted c.args.c c.requires.0 in
     let p = partitions_known t a c.partitions.result c.partitions.ensures.0 in (
       search rules,
-      zones_long t a.few c.args.zones.now c.requires.1,
-      caps_long t a.few c.args.size c.caps-caps.result caps-told,
       search rules,
       omega (arith, a.replication),
       omega (arith, a.redundancy, a.replication),

@@ -1,23 +1,21 @@
 -- `sizing::size` meets its contract.
 -- Assumes nothing.
-use borrow.Author.Rules.{rules}
-use mathlib.Core.Path.{◌≡◌, sym, ap, ◌∙◌}
+use mathlib.Core.Path.{sym, ap, ◌∙◌}
 use mathlib.Core.Bool.{Bool, cond}
 use borrow.Author.Tests.{eq-eqb, ne_eqb}
 use Rattle.cluster.specs.Terms.{topology, fault_of}
 use Rattle.sizing.specs.ModelSizing.{size_of, size_in}
+use Rattle.sizing.proofs.Reading.{number-some}
 use Rattle.sizing.proofs.size.Goals as goal
 
-pub returns-then-fault-eq0 : goal.returns-then-fault-eq0
+pub returns-in-Ok : goal.returns-in-Ok
 unfolding size_in
-returns-then-fault-eq0 c =
+returns-in-Ok c =
     let k = c.args.c in
-    let e : fault_of k ≡ 0 = search rules in
-    c.bisected.ensures ∙ ap (λ (b : Bool). cond b (size_of (topology k)) 0) (sym (eq-eqb (fault_of k) 0 e))
+    c.bisected.ensures ∙ ap (λ (b : Bool). cond b (size_of (topology k)) 0) (sym (eq-eqb (fault_of k) 0 (sym c.in-Ok.ensures)))
 
-pub returns-else-fault-eq0 : goal.returns-else-fault-eq0
+pub returns-in_default : goal.returns-in_default
 unfolding size_in
-returns-else-fault-eq0 c =
+returns-in_default c =
     let k = c.args.c in
-    let e : fault_of k ≡ 0 → ⊥ = λ q. c.if-fault-eq0.false (c.fault.ensures ∙ q) in
-    ap (λ (b : Bool). cond b (size_of (topology k)) 0) (sym (ne_eqb (fault_of k) 0 e))
+    ap (λ (b : Bool). cond b (size_of (topology k)) 0) (sym (ne_eqb (fault_of k) 0 (λ e. number-some c.in_default.field-0 (c.in_default.ensures ∙ e))))

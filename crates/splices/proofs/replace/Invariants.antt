@@ -1,6 +1,6 @@
 -- `splices::replace` meets its contract. The loop's invariant: the first b slots are written.
 -- Assumes nothing.
-use Prim.Native.Nat.{ℕ, ◌-◌, ◌≤◌}
+use Prim.Native.Nat.{ℕ}
 use mathlib.Core.Path.{◌≡◌}
 use mathlib.Core.List.{[], ◌∷◌}
 use lib.ListN.{take, get_or, replicate}
@@ -17,7 +17,4 @@ slot_of c at out node new b = get_or (spliced (topology c).nodes at out (take ne
 
 abbrev pub invariant-loop-b : goal.invariant-loop-b
 invariant-loop-b l =
-    (l.b ≤ most_nodes) × (l.nodes ≡ put 0 (slot_of l.c l.place.below l.place.with l.node l.new) l.b (replicate most_nodes no_node))
-
-abbrev pub decreases-loop-b : goal.decreases-loop-b
-decreases-loop-b l = most_nodes - l.b
+    l.nodes ≡ put 0 (slot_of l.c l.place.below l.place.with l.node l.new) l.b (replicate most_nodes no_node)

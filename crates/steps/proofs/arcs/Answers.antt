@@ -10,14 +10,14 @@ pub build-requires : goal.build-requires
 build-requires c =
     let a = c.args in (
       c.requires.0,
-      c.requires.2,
-      λ u h. room-bit a.rows.now a.partitions a.caps.now c.room-room.result c.room-room.ensures u h,
-      subst (λ (x : ℕ). Kept a.rows.now a.former.now a.partitions a.mates.now x a.z (bit a.stale) a.kept.now) (sym c.below-all.ensures) c.requires.1,
+      c.requires.2.tight,
+      λ u h. room-bit a.rows.now a.given.now.partitions a.given.now.caps.now c.room-room.result c.room-room.ensures u h,
+      subst (λ (x : ℕ). Kept a.rows.now a.given.now.former.now a.given.now.partitions a.given.now.mates.now x a.given.now.z (bit a.stale) a.kept.now) (sym c.below-all.ensures) c.requires.1,
     )
 
 pub returns : goal.returns
 returns c =
     let a = c.args in (
-      the_arcs a.former.now a.partitions a.mates.now a.caps.now a.nodes a.z a.rows.now c.below-all.result c.below-all.ensures c.build.new.arcs c.build.ensures.0,
-      subst (λ (x : ℕ). Kept a.rows.now a.former.now a.partitions a.mates.now x a.z (bit 0) c.build.new.kept) c.below-all.ensures c.build.ensures.1,
+      the_arcs a.given.now.former.now a.given.now.partitions a.given.now.mates.now a.given.now.caps.now a.nodes a.given.now.z a.rows.now c.below-all.result c.below-all.ensures c.build.new.arcs c.build.ensures.0,
+      subst (λ (x : ℕ). Kept a.rows.now a.given.now.former.now a.given.now.partitions a.given.now.mates.now x a.given.now.z (bit 0) c.build.new.kept) c.below-all.ensures c.build.ensures.1,
     )

@@ -10,21 +10,21 @@ use Rattle.totals.proofs.gather.Goals as goal
 
 -- src/lib.rt:104:5
 pub loop-i-init : goal.loop-i-init
-loop-i-init c = (search rules, search rules, search rules, search rules, search rules, search rules, met_none c.args.cells.now c.args.ids.now 1025)
+loop-i-init c = (search rules, search rules, search rules, met_none c.args.cells.now c.args.ids.now 1025)
 
 -- src/lib.rt:104:5
 pub loop-i-preserved-then-met-slot : goal.loop-i-preserved-then-met-slot
 loop-i-preserved-then-met-slot c =
     let l = c.loop-i in
     let a = c.args in
-    (search rules, search rules, search rules, search rules, search rules, search rules, met_before a.cells.now l.i (omega arith) l.invariant.6 c.slot_of-slot.result (omega arith) c.if-met-slot.true)
+    (search rules, search rules, search rules, met_before a.cells.now l.i (omega arith) l.invariant.3 c.slot_of-slot.result (omega arith) c.if-met-slot.true)
 
 -- src/lib.rt:104:5
 pub loop-i-preserved : goal.loop-i-preserved
 loop-i-preserved c =
     let l = c.loop-i in
     let a = c.args in
-    (search rules, search rules, search rules, search rules, search rules, search rules, met_now a.cells.now l.i (omega arith) l.invariant.6 c.slot_of-slot.result (omega arith) c.with_id-count.result c.with_id-count.new.ids c.with_id-count.ensures.2)
+    (search rules, search rules, search rules, met_now a.cells.now l.i (omega arith) l.invariant.3 c.slot_of-slot.result (omega arith) c.with_id-count.result c.with_id-count.new.ids c.with_id-count.ensures.2)
 
 -- src/lib.rt:95:1
 pub returns : goal.returns
@@ -32,4 +32,4 @@ returns c =
     let l = c.loop-i in
     let a = c.args in
     let e : l.i ≡ a.partitions * row_cells = omega arith in
-    (search rules, search rules, subst (λ (k : ℕ). SameIds (take l.count l.ids) (take k a.cells.now)) e l.invariant.6.same)
+    (search rules, search rules, subst (λ (k : ℕ). SameIds (take l.count l.ids) (take k a.cells.now)) e l.invariant.3.same)

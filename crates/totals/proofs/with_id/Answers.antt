@@ -1,15 +1,14 @@
 use borrow.Author.Rules.{rules}
 use mathlib.Core.Path.{sym, ◌∙◌}
-use Rattle.totals.proofs.Meeting.{with_there, with-put}
+use lib.ListN.{take}
+use Rattle.totals.proofs.Meeting.{any_mem, with_there, with-put}
 use Rattle.totals.proofs.with_id.Goals as goal
 
--- src/lib.rt:77:9
-pub returns-then-has : goal.returns-then-has
-returns-then-has c =
+pub returns-then-contains : goal.returns-then-contains
+returns-then-contains c =
     let a = c.args in
-    (search rules, search rules, with_there a.ids.now a.count a.id (sym c.has.ensures ∙ c.if-has.true))
+    (search rules, search rules, with_there a.ids.now a.count a.id (sym (any_mem a.id (take a.count a.ids.now)) ∙ (sym c.contains.ensures.value ∙ c.if-contains.true)))
 
--- src/lib.rt:71:1
 pub returns : goal.returns
 returns c =
     let a = c.args in

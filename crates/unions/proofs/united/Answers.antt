@@ -1,6 +1,6 @@
 -- `unions::united` meets its contract. The loop's invariant: the cells have what the parts passed hold together. Assumes nothing.
-use borrow.Author.Rules.{rules}
 use native.Mathlib.Omega.{arith}
+use borrow.Author.Rules.{rules}
 use Prim.Native.Nat.{ℕ, ◌+◌}
 use mathlib.Core.Path.{◌≡◌, ap, ◌∙◌}
 use lib.ListN.{get_or-replicate}
@@ -11,28 +11,16 @@ use Rattle.unions.proofs.united.Goals as goal
 
 pub loop-b-init : goal.loop-b-init
 loop-b-init c =
-    let a = c.args in (
-      search rules,
-      search rules,
-      search rules,
-      search rules,
-      search rules,
-      λ t h. get_or-replicate {A = ℕ} most_nodes t 0 0 h ∙ union-none a.kept.now a.k (a.j + t),
-    )
+    let a = c.args in
+    record { long = search rules; done = λ t h. get_or-replicate {A = ℕ} most_nodes t 0 0 h ∙ union-none a.kept.now a.k (a.j + t) }
 
 pub loop-b-preserved : goal.loop-b-preserved
 loop-b-preserved c =
-    let a = c.args in (
-      search rules,
-      search rules,
-      search rules,
-      search rules,
-      search rules,
-      unite-turn a.kept.now a.k c.loop-b.b a.j c.loop-b.held c.unite.new.held c.loop-b.invariant.4 c.loop-b.invariant.5 c.unite.ensures,
-    )
+    let a = c.args in
+    record { long = search rules; done = unite-turn a.kept.now a.k c.loop-b.b a.j c.loop-b.held c.unite.new.held c.loop-b.invariant.long c.loop-b.invariant.done c.unite.ensures }
 
 pub returns : goal.returns
 returns c =
     let a = c.args in
     let e : c.loop-b.b ≡ parts = omega arith in
-    (c.loop-b.invariant.4, λ t h. c.loop-b.invariant.5 t h ∙ ap (λ (n : ℕ). union_to a.kept.now a.k n (a.j + t)) e)
+    (c.loop-b.invariant.long, λ t h. c.loop-b.invariant.done t h ∙ ap (λ (n : ℕ). union_to a.kept.now a.k n (a.j + t)) e)

@@ -8,7 +8,7 @@ use Rattle.walks.proofs.first.Given as goal
 
 abbrev pub invariant-loop-p : goal.invariant-loop-p
 invariant-loop-p l =
-    (l.start ≤ l.p) × (length l.held ≡ holder_cells) × (length l.had ≡ holder_cells) × NoneTo l.rows l.former l.mates l.all l.z l.w l.u l.v l.partitions l.start l.p
+    (l.start ≤ l.p) × (length l.held ≡ holder_cells) × (length l.given.had.now ≡ holder_cells) × NoneTo l.rows l.given.former.now l.given.mates.now l.all l.given.z l.w l.u l.v l.given.partitions l.start l.p
 
 abbrev pub decreases-loop-p : goal.decreases-loop-p
-decreases-loop-p l = l.partitions - l.p
+decreases-loop-p l = l.given.partitions - l.p

@@ -1,44 +1,31 @@
 -- `waves::spread` meets its contract. Assumes nothing.
-use Prim.Native.Nat.{ℕ, ◌^◌, ◌<◌}
-use mathlib.Core.Path.{◌≡◌, sym, ap, ◌∙◌, subst}
+use Prim.Native.Nat.{ℕ}
+use mathlib.Core.Path.{◌≡◌, sym, ap, ◌∙◌}
 use native.Mathlib.Omega.{arith}
 use borrow.Author.Rules.{rules}
-use Rattle.sets.specs.ModelBits.{mask_bits, union_of, without_of}
-use Rattle.sets.proofs.Laws.{union_lt, without_lt, least-some}
-use Rattle.sets.proofs.Scan.{fewer}
+use Rattle.sets.specs.ModelBits.{union_of, without_of}
 use Rattle.waves.specs.ModelWaves.{spread_of}
 use Rattle.waves.proofs.Waving.{spread-start, spread-turn, spread_end}
 use Rattle.waves.proofs.spread.Goals as goal
 
-pub loop-left-init : goal.loop-left-init
-loop-left-init c =
-    let a = c.args in (search rules, omega arith, search rules, spread-start a.leads.now a.set)
+pub loop-u-init : goal.loop-u-init
+loop-u-init c =
+    let a = c.args in
+    let e : c.into_iter-u-iterator.result.left ≡ a.set = cc in
+    (omega arith, search rules, rw e (spread-start a.leads.now a.set))
 
 pub bounds-leads-u : goal.bounds-leads-u
-bounds-leads-u c =
-    omega (arith, c.least-u.ensures, least-some c.loop-left.left c.loop-left.invariant.2 c.loop-left-test.true)
+bounds-leads-u c = omega (arith, c.in-Some.ensures.steps.below)
 
-pub loop-left-smaller : goal.loop-left-smaller
-loop-left-smaller c =
-    -- What is left is without the member that was taken.
-    let rest-is : c.rest-left.result ≡ without_of c.loop-left.left c.least-u.result = c.rest-left.ensures ∙ ap (without_of c.loop-left.left) (sym c.least-u.ensures) in
-    fewer c.loop-left.left c.least-u.result c.rest-left.result c.loop-left.invariant.2 c.loop-left-test.true
-    c.least-u.ensures rest-is
-
-pub loop-left-preserved : goal.loop-left-preserved
-loop-left-preserved c =
-    let rest-is : c.rest-left.result ≡ without_of c.loop-left.left c.least-u.result = c.rest-left.ensures ∙ ap (without_of c.loop-left.left) (sym c.least-u.ensures) in
-    let a = c.args in
-    let u = c.least-u.result in (
-      c.loop-left.invariant.0,
-      subst (λ (x : ℕ). x < 2 ^ mask_bits) (sym c.union-to.ensures) (union_lt c.loop-left.to _),
-      subst (λ (x : ℕ). x < 2 ^ mask_bits) (sym rest-is) (without_lt c.loop-left.left u),
-      spread-turn a.leads.now c.loop-left.to c.loop-left.left u c.union-to.result c.rest-left.result c.loop-left.invariant.2
-          c.loop-left-test.true c.least-u.ensures c.union-to.ensures rest-is
-          ∙ c.loop-left.invariant.3,
-    )
+pub loop-u-preserved : goal.loop-u-preserved
+loop-u-preserved c =
+    let i = c.loop-u.invariant in
+    let m = c.in-Some.ensures.steps in
+    let rest-is : c.next.new.self.left ≡ without_of c.loop-u.u-iterator.left c.in-Some.u = m.rest ∙ ap (without_of c.loop-u.u-iterator.left) (sym m.least) in
+    (i.0, c.union-to.type_inv, spread-turn c.args.leads.now c.loop-u.to _ _ _ _ m.word m.some m.least c.union-to.ensures rest-is ∙ i.2)
 
 pub returns : goal.returns
 returns c =
     let a = c.args in
-    sym (spread_end a.leads.now c.loop-left.to c.loop-left.invariant.1) ∙ (ap (λ (x : ℕ). union_of c.loop-left.to (spread_of a.leads.now x)) (sym c.loop-left-test.false) ∙ c.loop-left.invariant.3)
+    let i = c.loop-u.invariant in
+    sym (spread_end a.leads.now c.loop-u.to i.1) ∙ (ap (λ (x : ℕ). union_of c.loop-u.to (spread_of a.leads.now x)) (sym c.in-None.ensures.steps.0) ∙ i.2)

@@ -2,13 +2,11 @@
 use Prim.Native.Nat.{◌^◌, ◌≤◌, ◌<◌}
 use mathlib.Core.Path.{◌≡◌}
 use lib.ListN.{length}
-use Rattle.sets.specs.ModelBits.{mask_bits, union_of, count_of}
+use Rattle.sets.specs.ModelBits.{mask_bits, union_of}
 use Rattle.cluster.specs.Terms.{most_nodes}
 use Rattle.waves.specs.ModelWaves.{spread_of}
 use Rattle.waves.proofs.spread.Given as goal
 
-abbrev pub invariant-loop-left : goal.invariant-loop-left
-invariant-loop-left l = (most_nodes ≤ length l.leads) × (l.to < 2 ^ mask_bits) × (l.left < 2 ^ mask_bits) × (union_of l.to (spread_of l.leads l.left) ≡ spread_of l.leads l.set)
-
-abbrev pub decreases-loop-left : goal.decreases-loop-left
-decreases-loop-left l = count_of l.left
+abbrev pub invariant-loop-u : goal.invariant-loop-u
+invariant-loop-u l =
+    (most_nodes ≤ length l.leads) × (l.to < 2 ^ mask_bits) × (union_of l.to (spread_of l.leads l.u-iterator.left) ≡ spread_of l.leads l.set)

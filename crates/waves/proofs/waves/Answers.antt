@@ -28,6 +28,7 @@ returns-then-wave-eq0 c =
     let a = c.args in (
       going_shut a.leads.now a.b c.loop-wave.invariant.3 a.goal c.loop-wave.k c.loop-wave.wave c.loop-wave.seen c.loop-wave.waves c.loop-wave.invariant.4
           c.difference-wave.result c.spread.result c.spread.ensures c.difference-wave.ensures (sym c.meet.ensures ∙ c.loop-wave-test.true) c.if-wave-eq0.true c.loop-wave.waves,
+      tt,
       c.loop-wave.invariant.1 ∙ simp length-set,
     )
 
@@ -86,5 +87,6 @@ returns c =
     let a = c.args in (
       going_met a.leads.now a.b c.loop-wave.invariant.3 a.goal c.loop-wave.k c.loop-wave.wave c.loop-wave.seen c.loop-wave.waves c.loop-wave.invariant.4
           (λ z. c.loop-wave-test.false (c.meet.ensures ∙ z)),
+      omega (arith, c.loop-wave.invariant.4.many, c.loop-wave.invariant.4.few),
       c.loop-wave.invariant.1 ∙ simp length-set,
     )

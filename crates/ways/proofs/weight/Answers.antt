@@ -18,4 +18,4 @@ returns-then-member-3 c = (rw (sym c.member.ensures ∙ c.if-member.false, sym c
 
 pub returns : goal.returns
 unfolding weight_in
-returns c = (rw (sym c.member.ensures ∙ c.if-member.false, sym c.member-2.ensures ∙ c.if-member-2.false, sym c.member-3.ensures ∙ c.if-member-3.false), omega arith)
+returns c = (rw (sym c.member.ensures ∙ c.if-member.false, sym c.member-2.ensures ∙ c.if-member-2.false, sym c.member-3.ensures ∙ c.if-member-3.false), tt)

@@ -1,26 +1,23 @@
 -- `certificate::pricing::highest` meets its contract. The highest of the levels passed. Assumes nothing.
-use borrow.Author.Rules.{rules}
 use native.Mathlib.Omega.{arith}
 use mathlib.Core.Path.{refl}
-use lib.ListN.{get_or}
+use lib.ListN.{get_or, length-take}
+use lib.Seq.{get_or-take}
 use Rattle.sums.specs.ModelSums.{max_to}
 use Rattle.certificate.proofs.Making.{max_next, max_passed}
 use Rattle.certificate.proofs.pricing.highest.Goals as goal
-use Rattle.certificate.proofs.pricing.highest.Goals.{then-most-level, else-most-level}
 
-pub loop-v-init : goal.loop-v-init
+pub loop-level-init : goal.loop-level-init
 unfolding max_to
-loop-v-init c = (search rules, search rules, refl)
+loop-level-init c = refl
 
-pub loop-v-preserved : goal.loop-v-preserved
-loop-v-preserved c =
-    let a = c.args in (
-      search rules,
-      search rules,
-      max_next (λ i. get_or a.levels.now i 0) c.loop-v.v c.loop-v.most (get_or a.levels.now c.loop-v.v 0) c.if-most-level.most c.loop-v.invariant.2 refl
-          (elim c.if-most-level.branch [ then-most-level w ↦ omega (arith, w.most-is) | else-most-level w ↦ omega (arith, w.most-is) ]),
-    )
+pub loop-level-preserved : goal.loop-level-preserved
+loop-level-preserved c =
+    let a = c.args in
+    let i = c.loop-level.level-index in
+    max_next (λ i. get_or a.levels.now i 0) i c.loop-level.most _ c.max-most.result c.loop-level.invariant
+    (get_or-take a.n a.levels.now i 0 (omega (arith, length-take a.n a.levels.now))) (grind arith)
 
 pub returns : goal.returns
 returns c =
-    max_passed (λ i. get_or c.args.levels.now i 0) c.loop-v.v c.args.n c.loop-v.most c.loop-v.invariant.2 (omega arith)
+    max_passed (λ i. get_or c.args.levels.now i 0) c.loop-level.level-index c.args.n c.loop-level.most c.loop-level.invariant (omega (arith, length-take c.args.n c.args.levels.now))

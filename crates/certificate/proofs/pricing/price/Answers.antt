@@ -1,7 +1,6 @@
 -- `certificate::pricing::price` meets its contract. Assumes nothing.
 use borrow.Author.Rules.{rules}
 use native.Mathlib.Omega.{arith}
-use mathlib.Core.Path.{◌∙◌}
 use Rattle.cluster.specs.Terms.{topology}
 use Rattle.cluster.proofs.Accepting.{accepted}
 use Rattle.certificate.specs.TermsCertify.{former_in, new_in}
@@ -12,9 +11,9 @@ use Rattle.certificate.proofs.pricing.price.Goals as goal
 pub returns-then-length-ne0 : goal.returns-then-length-ne0
 returns-then-length-ne0 c =
     let a = c.args in
-    c.refused.ensures
-    ∙ fewer_answer a.c c.requires.0 a.former.now a.assignment.now c.layout_arcs-arcs.result c.layout_arcs-arcs.ensures c.used-n.result c.used-n.ensures.0
-    c.find-length.result c.find-length.ensures.0 c.if-length-ne0.true
+    rw c.into.ensures
+    (fewer_answer a.c c.requires.0 a.former.now a.assignment.now c.layout_arcs-arcs.result c.layout_arcs-arcs.ensures c.used-n.result c.used-n.ensures.0
+    c.find-length.result c.find-length.ensures.0 c.if-length-ne0.true)
 
 pub levels-levels-requires : goal.levels-levels-requires
 levels-levels-requires c =
@@ -25,4 +24,4 @@ pub returns : goal.returns
 returns c =
     let a = c.args in
     priced-answer a.c c.requires.0 a.former.now a.assignment.now c.layout_arcs-arcs.result c.layout_arcs-arcs.ensures c.used-n.result c.used-n.ensures.0
-    c.requires.4 c.find-length.result c.find-length.ensures.0 c.if-length-ne0.false c.levels-levels.result c.levels-levels.ensures.3 c.lacking-prices.result c.lacking-prices.ensures
+    c.requires.4 c.find-length.result c.find-length.ensures.0 c.if-length-ne0.false c.levels-levels.result c.levels-levels.ensures.3 c.lacking.result c.lacking.ensures

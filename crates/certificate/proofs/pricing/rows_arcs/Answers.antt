@@ -11,4 +11,4 @@ fill-requires c = (search rules, held_none _)
 pub arcs-requires : goal.arcs-requires
 arcs-requires c =
     let a = c.args in
-    (search rules, kept-none a.former.now a.partitions a.mates.now (below_of a.nodes) a.z a.rows.now _ (search rules), search rules, search rules)
+    (search rules, kept-none a.former.now a.partitions a.mates.now (below_of a.nodes) a.z a.rows.now _ (search rules), record { tight = search rules; held = search rules })

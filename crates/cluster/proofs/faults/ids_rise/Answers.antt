@@ -12,27 +12,24 @@ use Rattle.cluster.proofs.Scans.{falls_here, rises_here}
 use Rattle.cluster.proofs.faults.ids_rise.Goals as goal
 
 pub loop-i-init : goal.loop-i-init
-loop-i-init c = (search rules, search rules, ap (λ (r : List Node). rising (ids_of r)) (rest_all c.args.c.nodes c.args.c.count))
+loop-i-init c = ap (λ (r : List Node). rising (ids_of r)) (rest_all c.args.c.nodes c.args.c.count)
 
 pub returns-then-id-last : goal.returns-then-id-last
 returns-then-id-last c =
     let long : length c.args.c.nodes ≡ most_nodes = search length_of_map in
     sym
-    (c.loop-i.invariant.2
+    (c.loop-i.invariant
     ∙ falls_here c.args.c.nodes c.args.c.count c.loop-i.i (search rules) (omega (arith, long)) c.loop-i.last (search rules))
 
 pub loop-i-preserved : goal.loop-i-preserved
 loop-i-preserved c =
-    let long : length c.args.c.nodes ≡ most_nodes = search length_of_map in (
-      search rules,
-      search rules,
-      c.loop-i.invariant.2
-          ∙ rises_here c.args.c.nodes c.args.c.count c.loop-i.i (search rules) (omega (arith, long)) c.loop-i.last (search rules),
-    )
+    let long : length c.args.c.nodes ≡ most_nodes = search length_of_map in
+    c.loop-i.invariant
+    ∙ rises_here c.args.c.nodes c.args.c.count c.loop-i.i (search rules) (omega (arith, long)) c.loop-i.last (search rules)
 
 pub returns : goal.returns
 unfolding rising_from ids_of
 returns c =
     sym
-    (c.loop-i.invariant.2
+    (c.loop-i.invariant
     ∙ ap (λ (r : List Node). rising_from c.loop-i.last (ids_of r)) (rest-none c.args.c.nodes c.args.c.count c.loop-i.i (search rules)))

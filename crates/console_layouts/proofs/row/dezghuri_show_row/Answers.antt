@@ -11,7 +11,8 @@ use Rattle.console_layouts.proofs.row.dezghuri_show_row.Goals as goal
 pub returns-then-row-lt-ROW : goal.returns-then-row-lt-ROW
 returns-then-row-lt-ROW c =
     let a = c.args in
-    row_short a.assignment.now a.partition a.row.now c.if-row-lt-ROW.true
+    let w = row_short a.assignment.now a.partition a.row.now c.if-row-lt-ROW.true in
+    (c.into.ensures ∙ w.0, w.1)
 
 pub put-requires : goal.put-requires
 put-requires c =

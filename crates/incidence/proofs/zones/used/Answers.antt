@@ -8,12 +8,7 @@ use Rattle.cluster.specs.Terms.{most_nodes}
 use Rattle.cells.proofs.Cells.{length_of_map}
 use Rattle.incidence.proofs.zones.used.Goals as goal
 
-pub returns-then-c-lt-NODES : goal.returns-then-c-lt-NODES
-returns-then-c-lt-NODES c =
-    let long : length c.args.c.nodes ≡ most_nodes = search length_of_map in
-    (omega (arith, long, length-take c.args.c.count c.args.c.nodes), search rules, search rules)
-
-pub returns-else-c-lt-NODES : goal.returns-else-c-lt-NODES
-returns-else-c-lt-NODES c =
+pub returns : goal.returns
+returns c =
     let long : length c.args.c.nodes ≡ most_nodes = search length_of_map in
     (omega (arith, long, length-take c.args.c.count c.args.c.nodes), search rules, search rules)

@@ -1,9 +1,6 @@
 -- `layout_head::reading::read_head` meets its contract: before each field, the numbers before it are read (`HeadSteps.antt`).
 -- Assumes nothing.
-use Prim.Native.Nat.{◌-◌}
 use mathlib.Core.Path.{◌≡◌}
-use lib.ListN.{length}
-use Rattle.layout_head.specs.RecordHead.{head_table}
 use Rattle.layout_head.proofs.HeadSteps.{HeadTo}
 use Rattle.layout_head.proofs.reading.read_head.Given as goal
 
@@ -12,7 +9,3 @@ invariant-loop-i l = record {
   source : l.r.src.now ≡ l.bytes;
   read : HeadTo l.r.src.now l.numbers l.i l.r.at;
 }
-
--- Fewer numbers are left.
-abbrev pub decreases-loop-i : goal.decreases-loop-i
-decreases-loop-i l = length head_table - l.i

@@ -1,6 +1,5 @@
 -- `layout_record::rows::read_rows` meets its contract: before each field, the rows before it are read (`RowsTo.antt`).
 -- Assumes nothing.
-use Prim.Native.Nat.{◌-◌}
 use mathlib.Core.Path.{◌≡◌}
 use Rattle.layout_record.proofs.RowsTo.{RowsTo}
 use Rattle.layout_record.proofs.rows.read_rows.Given as goal
@@ -10,7 +9,3 @@ invariant-loop-next l = record {
   source : l.r.src.now ≡ l.bytes;
   read : RowsTo l.r.src.now l.from l.numbers l.partitions l.cells l.next l.r.at;
 }
-
--- Fewer rows are left.
-abbrev pub decreases-loop-next : goal.decreases-loop-next
-decreases-loop-next l = l.partitions - l.next

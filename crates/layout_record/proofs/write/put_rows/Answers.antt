@@ -18,7 +18,7 @@ pub loop-p-init : goal.loop-p-init
 unfolding layout_row_fields rows_in tab
 loop-p-init c =
     let a = c.args in
-    (search rules, search rules, omega (arith, zero-mul (5 + 4 * a.count)), written_none a.out.now 29)
+    (omega (arith, zero-mul (5 + 4 * a.count)), written_none a.out.now 29)
 
 pub put_row-requires : goal.put_row-requires
 put_row-requires c =
@@ -35,15 +35,13 @@ pub loop-p-preserved : goal.loop-p-preserved
 loop-p-preserved c =
     let room : let a = c.args in c.loop-p.at + 5 + 4 * a.count ≤ length a.out.now = let a = c.args in omega (arith, row_ends c.loop-p.p a.partitions (5 + 4 * a.count) (omega arith)) in
     let a = c.args in (
-      search rules,
-      search rules,
       omega (arith, next-at c.loop-p.p (5 + 4 * a.count)),
       put-row-next a.cells.now a.partitions a.count (omega arith) c.requires.4 a.out.now _ _ c.loop-p.at c.loop-p.p (omega arith)
-          c.loop-p.invariant.3 c.loop-p.invariant.2 (omega (arith, room)) c.put_row.ensures,
+          c.loop-p.invariant.1 c.loop-p.invariant.0 (omega (arith, room)) c.put_row.ensures,
     )
 
 pub returns : goal.returns
 returns c =
     let a = c.args in
     let e : c.loop-p.p ≡ a.partitions = omega arith in
-    c.loop-p.invariant.3 ∙ ap (λ (p : ℕ). written a.out.now 29 (layout_row_fields 0 (rows_in p a.cells.now))) e
+    c.loop-p.invariant.1 ∙ ap (λ (p : ℕ). written a.out.now 29 (layout_row_fields 0 (rows_in p a.cells.now))) e

@@ -1,5 +1,4 @@
 -- `layout_rows::range::rows_fit` meets its contract. The loop's invariant: each row passed fits.
-use borrow.Author.Rules.{rules}
 use native.Mathlib.Omega.{arith}
 use Prim.Native.Nat.{ℕ}
 use mathlib.Core.Path.{◌≡◌, refl, sym, ap, ◌∙◌}
@@ -11,7 +10,7 @@ use Rattle.layout_rows.proofs.range.rows_fit.Goals as goal
 
 pub loop-p-init : goal.loop-p-init
 unfolding every_to
-loop-p-init c = (search rules, refl)
+loop-p-init c = refl
 
 pub returns-then-not-row_fits : goal.returns-then-not-row_fits
 unfolding rows_fit
@@ -24,15 +23,13 @@ returns-then-not-row_fits c =
 pub loop-p-preserved : goal.loop-p-preserved
 loop-p-preserved c =
     let a = c.args in
-    let r = c.row_fits in (
-      search rules,
-      every_more c.loop-p.p (row_fits a.cells.now a.partitions a.replication) c.loop-p.invariant.1
-          (sym r.ensures ∙ c.if-not-row_fits.false),
-    )
+    let r = c.row_fits in
+    every_more c.loop-p.p (row_fits a.cells.now a.partitions a.replication) c.loop-p.invariant
+    (sym r.ensures ∙ c.if-not-row_fits.false)
 
 pub returns : goal.returns
 unfolding rows_fit
 returns c =
     let a = c.args in
     let e : buffer_rows ≡ c.loop-p.p = omega arith in
-    sym (ap (λ (m : ℕ). every_to m (row_fits a.cells.now a.partitions a.replication)) e ∙ c.loop-p.invariant.1)
+    sym (ap (λ (m : ℕ). every_to m (row_fits a.cells.now a.partitions a.replication)) e ∙ c.loop-p.invariant)

@@ -1,6 +1,5 @@
 -- `layout_rows::range::rows_fit` meets its contract. The loop's invariant: each row passed fits.
 -- Assumes nothing.
-use Prim.Native.Nat.{◌-◌, ◌≤◌}
 use mathlib.Core.Path.{◌≡◌}
 use mathlib.Core.Bool.{true}
 use Rattle.sums.specs.TermsSums.{every_to}
@@ -8,7 +7,4 @@ use Rattle.layout_rows.specs.RecordLayoutFaults.{row_fits}
 use Rattle.layout_rows.proofs.range.rows_fit.Given as goal
 
 abbrev pub invariant-loop-p : goal.invariant-loop-p
-invariant-loop-p l = (l.p ≤ 256) × (every_to l.p (row_fits l.cells l.partitions l.replication) ≡ true)
-
-abbrev pub decreases-loop-p : goal.decreases-loop-p
-decreases-loop-p l = 256 - l.p
+invariant-loop-p l = every_to l.p (row_fits l.cells l.partitions l.replication) ≡ true

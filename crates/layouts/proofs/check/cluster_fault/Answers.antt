@@ -18,4 +18,4 @@ returns-then-size-eq0 c = let a = c.args in
 pub returns : goal.returns
 unfolding cluster_fault
 returns c = let a = c.args in
-    simp (le-ltb most_nodes a.c.count (search rules), ne_eqb a.size 0 (search rules)) c.fault.ensures
+    simp (le-ltb most_nodes a.c.count (search rules), ne_eqb a.size 0 (search rules)) c.accept.ensures

@@ -26,7 +26,7 @@ loop-b-init c =
     let long : length c.args.c.nodes ≡ most_nodes = search length_of_map in
     let a = c.args in
     let e : length (topology a.c).nodes ≡ a.c.count - 0 = omega (arith, nodes-count a.c long (few_nodes a.c c.requires.0)) in
-    (search rules, few_nodes a.c c.requires.0, ap (λ (n : ℕ). first_fault n 0 (at (topology a.c) a.cells.now a.size)) e)
+    (few_nodes a.c c.requires.0, ap (λ (n : ℕ). first_fault n 0 (at (topology a.c) a.cells.now a.size)) e)
 
 pub returns-then-not-takes : goal.returns-then-not-takes
 returns-then-not-takes c =
@@ -40,7 +40,7 @@ returns-then-not-takes c =
     let a = c.args in
     let h = told ∙ ap (λ (t : Bool). cond t 0 12) c.if-not-takes.true in
     sym
-    (c.loop-b.invariant.2
+    (c.loop-b.invariant.1
     ∙ (scan-fault a.c.count c.loop-b.b (at (topology a.c) a.cells.now a.size) (search rules) (λ z. omega (arith, sym h ∙ z))
     ∙ ap₂ fault h (ap (λ (n : Node). n.id) (node-slot a.c c.loop-b.b (search rules)))))
 
@@ -54,12 +54,11 @@ loop-b-preserved c =
     (ap (λ (l : List ℕ). takes (get_or a.c.nodes c.loop-b.b no_node) (get_or l c.loop-b.b 0) a.size) (sym c.copies-counts.ensures) ∙ sym c.takes.ensures)) in
     let a = c.args in (
       search rules,
-      search rules,
-      c.loop-b.invariant.2
+      c.loop-b.invariant.1
           ∙ scan-on a.c.count c.loop-b.b (at (topology a.c) a.cells.now a.size) (search rules)
           (told ∙ ap (λ (t : Bool). cond t 0 12) c.if-not-takes.false),
     )
 
 pub returns : goal.returns
 returns c = let a = c.args in
-    sym (c.loop-b.invariant.2 ∙ scan_end a.c.count c.loop-b.b (at (topology a.c) a.cells.now a.size) (search rules))
+    sym (c.loop-b.invariant.1 ∙ scan_end a.c.count c.loop-b.b (at (topology a.c) a.cells.now a.size) (search rules))

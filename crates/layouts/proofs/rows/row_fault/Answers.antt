@@ -1,33 +1,43 @@
 -- `layouts::rows::row_fault` meets its contract.
 -- Assumes nothing.
 use native.Mathlib.Omega.{arith}
+use Prim.Native.Nat.{ℕ, ◌^◌, ◌≤◌, ◌<◌, min}
 use mathlib.Core.Path.{◌≡◌, sym, ap, ◌∙◌}
-use mathlib.Core.Bool.{Bool, cond}
-use Rattle.cluster.specs.Terms.{partitions, topology}
+use mathlib.Core.Bool.{Bool, true, false, cond}
+use mathlib.Core.List.{List}
+use lib.ListN.{length}
+use Rattle.cluster.specs.Terms.{most_bits, buffer_rows, layout_cells, partitions, topology, fault_of}
+use Rattle.cluster.specs.declared.Cluster.{Cluster}
 use Rattle.cluster.proofs.Accepting.{partitions_in_range, accepted}
+use Rattle.cell_rows.specs.ModelRows.{row_is_blank}
 use Rattle.layouts.specs.TermsCheck.{row_fault}
 use Rattle.layouts.proofs.RowFaults.{fault_beyond}
 use Rattle.layouts.proofs.rows.row_fault.Goals as goal
 
+module _ (c : Cluster) (n : ℕ) (e : fault_of c ≡ 0) (all : n ≡ 2 ^ min c.bits most_bits) where
+  -- The number of partitions of a cluster without fault.
+  rows : n ≡ partitions (topology c)
+  rows = all ∙ partitions_in_range c.bits (accepted c e).bits
+
+  -- The fault of a row from P on.
+  beyond : (cells : List ℕ) (p : ℕ) (b : Bool) → layout_cells ≤ length cells → p < buffer_rows → n ≤ p → row_is_blank cells p ≡ b
+      → cond b 0 10 ≡ row_fault (topology c) cells p
+  beyond cells p b whole inside h q =
+      sym (fault_beyond (topology c) cells p (accepted c e) whole inside (omega (arith, rows)) ∙ ap (λ (b : Bool). cond b 0 10) q)
+
 pub own_row_fault-requires : goal.own_row_fault-requires
 own_row_fault-requires c =
-    -- The number of partitions of a cluster without fault.
-    let rows : c.partitions.result ≡ partitions (topology c.args.c) = c.partitions.ensures.0 ∙ partitions_in_range c.args.c.bits (accepted c.args.c c.requires.0).bits in
-    (c.requires.0, c.requires.1, omega (arith, rows), c.requires.3)
+    let q = c.requires in
+    (q.0, q.1, omega (arith, rows c.args.c c.partitions.result q.0 c.partitions.ensures.0), q.3)
 
 pub returns-then-row_is_blank : goal.returns-then-row_is_blank
 returns-then-row_is_blank c =
-    let rows : c.partitions.result ≡ partitions (topology c.args.c) = c.partitions.ensures.0 ∙ partitions_in_range c.args.c.bits (accepted c.args.c c.requires.0).bits in
-    -- The fault of a row from P on.
-    let beyond : row_fault (topology c.args.c) c.args.cells.now c.args.p
-    ≡ cond c.row_is_blank.result 0 10 = (fault_beyond (topology c.args.c) c.args.cells.now c.args.p (accepted c.args.c c.requires.0) c.requires.3 c.requires.2 (omega (arith, rows))
-    ∙ ap (λ (b : Bool). cond b 0 10) (sym c.row_is_blank.ensures)) in
-    sym (beyond ∙ ap (λ (b : Bool). cond b 0 10) c.if-row_is_blank.true)
+    let a = c.args in
+    let q = c.requires in
+    beyond a.c c.partitions.result q.0 c.partitions.ensures.0 a.cells.now a.p true q.3 q.2 (omega arith) (sym c.row_is_blank.ensures ∙ c.if-row_is_blank.true)
 
 pub returns-else-row_is_blank : goal.returns-else-row_is_blank
 returns-else-row_is_blank c =
-    let rows : c.partitions.result ≡ partitions (topology c.args.c) = c.partitions.ensures.0 ∙ partitions_in_range c.args.c.bits (accepted c.args.c c.requires.0).bits in
-    let beyond : row_fault (topology c.args.c) c.args.cells.now c.args.p
-    ≡ cond c.row_is_blank.result 0 10 = (fault_beyond (topology c.args.c) c.args.cells.now c.args.p (accepted c.args.c c.requires.0) c.requires.3 c.requires.2 (omega (arith, rows))
-    ∙ ap (λ (b : Bool). cond b 0 10) (sym c.row_is_blank.ensures)) in
-    sym (beyond ∙ ap (λ (b : Bool). cond b 0 10) c.if-row_is_blank.false)
+    let a = c.args in
+    let q = c.requires in
+    beyond a.c c.partitions.result q.0 c.partitions.ensures.0 a.cells.now a.p false q.3 q.2 (omega arith) (sym c.row_is_blank.ensures ∙ c.if-row_is_blank.false)

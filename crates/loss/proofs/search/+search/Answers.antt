@@ -13,23 +13,21 @@ loop-b-preserved t c =
     let l = c.loop-b in
     let a = c.args in
     let taken = c.with-taken.ensures in
-    let some : a.left ≡ 0 → ⊥ = λ z. omega arith in (
-      search rules,
-      l.invariant.1
-          ∙ elim c.if-left-eq1.branch [
-            | then-left-eq1 w ↦ one_more a.rows.now a.n a.left a.set some l.b l.most w.kept-most.result (search rules)
-                (w.kept-most.ensures
-                ∙ (ap (λ (m : ℕ). kept_of a.rows.now m l.most) taken
-                ∙ sym (none_left a.rows.now (a.left - 1) (l.b + 1) (a.n - (l.b + 1)) _ l.most (omega (arith, w.if-left-eq1.true)))))
-                ∙ ap (searched a.rows.now a.left (l.b + 1) (a.n - (l.b + 1)) a.set) (sym w.most-is)
-            | else-left-eq1 w ↦ one_more a.rows.now a.n a.left a.set some l.b l.most w.search-most.result (search rules)
-                (w.search-most.ensures ∙ ap (λ (m : ℕ). searched a.rows.now (a.left - 1) (l.b + 1) (a.n - (l.b + 1)) m l.most) taken)
-                ∙ ap (searched a.rows.now a.left (l.b + 1) (a.n - (l.b + 1)) a.set) (sym w.most-is)
-          ],
-    )
+    let some : a.left ≡ 0 → ⊥ = λ z. omega arith in
+    l.invariant
+    ∙ elim c.if-left-eq1.branch [
+      | then-left-eq1 w ↦ one_more a.rows.now a.n a.left a.set some l.b l.most w.kept-most.result (search rules)
+          (w.kept-most.ensures
+          ∙ (ap (λ (m : ℕ). kept_of a.rows.now m l.most) taken
+          ∙ sym (none_left a.rows.now (a.left - 1) (l.b + 1) (a.n - (l.b + 1)) _ l.most (omega (arith, w.if-left-eq1.true)))))
+          ∙ ap (searched a.rows.now a.left (l.b + 1) (a.n - (l.b + 1)) a.set) (sym w.most-is)
+      | else-left-eq1 w ↦ one_more a.rows.now a.n a.left a.set some l.b l.most w.search-most.result (search rules)
+          (w.search-most.ensures ∙ ap (λ (m : ℕ). searched a.rows.now (a.left - 1) (l.b + 1) (a.n - (l.b + 1)) m l.most) taken)
+          ∙ ap (searched a.rows.now a.left (l.b + 1) (a.n - (l.b + 1)) a.set) (sym w.most-is)
+    ]
 
 pub returns : goal.returns
 returns t c =
     let l = c.loop-b in
     let a = c.args in
-    sym (l.invariant.1 ∙ too_few_lem a.rows.now a.left l.b (a.n - l.b) a.set l.most (search rules))
+    sym (l.invariant ∙ too_few_lem a.rows.now a.left l.b (a.n - l.b) a.set l.most (search rules))

@@ -9,6 +9,7 @@ use Rattle.sets.specs.ModelBits.{bit}
 use Rattle.cells.specs.ModelCells.{put}
 use Rattle.cluster.specs.Terms.{row_cells, topology}
 use Rattle.incidence.specs.ModelIncidence.{ids_where}
+use Rattle.masks.proofs.Where.{ids_used}
 use Rattle.loss.proofs.worst.ids_of_set.Goals as goal
 
 -- The first cells of a row that was written.
@@ -23,4 +24,4 @@ pub returns : goal.returns
 returns c =
     let a = c.args in
     let ns = (topology a.c).nodes in
-    ap first-four (c.write_row.ensures ns c.used-n.ensures.0 c.ids_of-ids.ensures) ∙ written (λ j. get_or (ids_where ns (bit a.set)) j 0) 0 0 0 0 0 0 0 0
+    ap first-four (c.write_row.ensures ns (ids_used ns _ _ c.used-n.ensures.1 c.used-n.ensures.0 c.ids_of-all.ensures)) ∙ written (λ j. get_or (ids_where ns (bit a.set)) j 0) 0 0 0 0 0 0 0 0

@@ -3,6 +3,9 @@ use mathlib.Core.Path.{◌≡◌, sym, ap, ◌∙◌}
 use Rattle.cluster.specs.Terms.{topology, partitions, fault_of}
 use Rattle.cluster.proofs.Accepting.{partitions_in_range, accepted}
 use Rattle.masks.specs.ModelMasks.{rows_formed}
+use Rattle.std.proofs.lemmas.Result.{err_from_is_err_and}
+use Rattle.cluster.specs.TermsRefusal.{number_of}
+use Rattle.sizing.proofs.Reading.{number-some}
 use Rattle.planner.proofs.Refusals.{short_former, short_assignment, short_scratch, faulty, usable, ill_formed_lem}
 use Rattle.planner.proofs.refuse.unusable.Goals as goal
 
@@ -15,15 +18,17 @@ returns-then-assignment-lt-CELLS c = short_assignment _ _ _ _ (omega arith) c.if
 pub returns-then-scratch-lt-SCRATCH : goal.returns-then-scratch-lt-SCRATCH
 returns-then-scratch-lt-SCRATCH c = short_scratch _ _ _ _ (omega arith) (omega arith) c.if-scratch-lt-SCRATCH.true
 
-pub returns-then-fault-ne0 : goal.returns-then-fault-ne0
-returns-then-fault-ne0 c =
-    let e = c.fault-fault.ensures in
-    e ∙ faulty _ _ _ _ (omega arith) (omega arith) (omega arith) (λ q. c.if-fault-ne0.true (e ∙ q))
+pub returns-in_err-accept : goal.returns-in_err-accept
+returns-in_err-accept c =
+    let p = err_from_is_err_and c.from_residual.result c.from_residual.ensures.1 in
+    let r = c.in_err-accept.field-0.0 in
+    let e : number_of r ≡ fault_of c.args.c = c.in_err-accept.ensures in
+    rw (p.1, p.2) (e ∙ faulty _ _ _ _ (omega arith) (omega arith) (omega arith) (λ q. number-some r (e ∙ q)))
 
 pub returns-then-rows_formed : goal.returns-then-rows_formed
 returns-then-rows_formed c =
     -- Past the test the cluster has no fault.
-    let faultless : fault_of c.args.c ≡ 0 = sym c.fault-fault.ensures ∙ c.if-fault-ne0.false in
+    let faultless : fault_of c.args.c ≡ 0 = sym c.in_ok-accept.ensures in
     -- The test of the rows is the one of the definition.
     let rows_told : c.rows_formed.result ≡ rows_formed c.args.former.now (partitions (topology c.args.c)) = (c.rows_formed.ensures
     ∙ ap (rows_formed _) (c.partitions.ensures.0 ∙ partitions_in_range _ (accepted _ faultless).bits)) in
@@ -31,7 +36,7 @@ returns-then-rows_formed c =
 
 pub returns-else-rows_formed : goal.returns-else-rows_formed
 returns-else-rows_formed c =
-    let faultless : fault_of c.args.c ≡ 0 = sym c.fault-fault.ensures ∙ c.if-fault-ne0.false in
+    let faultless : fault_of c.args.c ≡ 0 = sym c.in_ok-accept.ensures in
     let rows_told : c.rows_formed.result ≡ rows_formed c.args.former.now (partitions (topology c.args.c)) = (c.rows_formed.ensures
     ∙ ap (rows_formed _) (c.partitions.ensures.0 ∙ partitions_in_range _ (accepted _ faultless).bits)) in
     ill_formed_lem _ _ _ _ (omega arith) (omega arith) (omega arith) faultless (sym rows_told ∙ c.if-rows_formed.false)

@@ -1,5 +1,4 @@
 -- `tallies::nodes::of_zone` meets its contract. The loop's invariant: the mask of the nodes passed.
-use borrow.Author.Rules.{rules}
 use native.Mathlib.Omega.{arith}
 use mathlib.Core.Path.{◌≡◌, refl, ap, ◌∙◌}
 use Rattle.sums.specs.ModelSums.{is}
@@ -12,20 +11,17 @@ use Rattle.tallies.proofs.nodes.of_zone.Goals.{then-zones-b, else-zones-b}
 
 pub loop-b-init : goal.loop-b-init
 unfolding mask_of
-loop-b-init c = (search rules, refl)
+loop-b-init c = refl
 
 pub loop-b-preserved : goal.loop-b-preserved
 loop-b-preserved c =
-    let a = c.args in (
-      search rules,
-      elim c.if-zones-b.branch [
-        | then-zones-b w ↦ w.mask-is ∙ (w.with-mask.ensures ∙ mask_here (λ i. is (cell a.zones.now i) a.z) c.loop-b.b c.loop-b.mask c.loop-b.invariant.1 (omega arith) (omega (arith, is_eq w.if-zones-b.true)))
-        | else-zones-b w ↦ w.mask-is ∙ mask_not_here (λ i. is (cell a.zones.now i) a.z) c.loop-b.b c.loop-b.mask c.loop-b.invariant.1 (is_ne w.if-zones-b.false)
-      ],
-    )
+    let a = c.args in
+    elim c.if-zones-b.branch [
+      | then-zones-b w ↦ w.mask-is ∙ (w.with-mask.ensures ∙ mask_here (λ i. is (cell a.zones.now i) a.z) c.loop-b.b c.loop-b.mask c.loop-b.invariant (omega arith) (omega (arith, is_eq w.if-zones-b.true)))
+      | else-zones-b w ↦ w.mask-is ∙ mask_not_here (λ i. is (cell a.zones.now i) a.z) c.loop-b.b c.loop-b.mask c.loop-b.invariant (is_ne w.if-zones-b.false)
+    ]
 
 pub returns : goal.returns
 returns c =
-    let a = c.args in
-    let e : c.loop-b.b ≡ a.n = omega arith in
-    c.loop-b.invariant.1 ∙ ap (mask_of (λ i. is (cell a.zones.now i) a.z)) e
+    let e : c.loop-b.b ≡ c.args.n = omega arith in
+    c.loop-b.invariant ∙ ap (mask_of _) e

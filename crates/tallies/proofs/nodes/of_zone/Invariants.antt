@@ -1,6 +1,5 @@
 -- `tallies::nodes::of_zone` meets its contract. The loop's invariant: the mask of the nodes passed.
 -- Assumes nothing.
-use Prim.Native.Nat.{◌-◌, ◌≤◌}
 use mathlib.Core.Path.{◌≡◌}
 use Rattle.sums.specs.ModelSums.{is}
 use Rattle.sets.specs.ModelBits.{mask_of}
@@ -8,7 +7,4 @@ use Rattle.incidence.specs.ModelIncidence.{cell}
 use Rattle.tallies.proofs.nodes.of_zone.Given as goal
 
 abbrev pub invariant-loop-b : goal.invariant-loop-b
-invariant-loop-b l = (l.b ≤ l.n) × (l.mask ≡ mask_of (λ i. is (cell l.zones i) l.z) l.b)
-
-abbrev pub decreases-loop-b : goal.decreases-loop-b
-decreases-loop-b l = l.n - l.b
+invariant-loop-b l = l.mask ≡ mask_of (λ i. is (cell l.zones i) l.z) l.b

@@ -15,12 +15,12 @@ overflow_mul-replication c =
 pub returns-then-total-replication : goal.returns-then-total-replication
 returns-then-total-replication c =
     let a = c.args in
-    fits_not a.partitions a.n a.replication a.redundancy (cell a.zones.now) (cell a.caps.now) (search rules) c.requires.7
+    fits_not a.partitions a.n a.replication a.redundancy (cell a.zones.now) (cell a.caps.now) (search rules) c.requires.5
     c.total.result c.total.ensures (search rules)
 
 pub zone_totals-sums-requires : goal.zone_totals-sums-requires
 zone_totals-sums-requires c =
-    (search rules, search rules, search rules, c.requires.6, λ b l. omega (arith, c.requires.7 b l))
+    (search rules, c.requires.4, λ b l. omega (arith, c.requires.5 b l))
 
 pub overflow_mul-result : goal.overflow_mul-result
 overflow_mul-result c =
@@ -30,5 +30,5 @@ pub returns : goal.returns
 returns c =
     let a = c.args in
     let t = c.total in
-    fits-wide a.partitions a.n a.replication a.redundancy (cell a.zones.now) (cell a.caps.now) (search rules) c.requires.7
+    fits-wide a.partitions a.n a.replication a.redundancy (cell a.zones.now) (cell a.caps.now) (search rules) c.requires.5
     t.result c.total-2.result c.zone_totals-sums.result t.ensures (search rules) c.zone_totals-sums.ensures c.total-2.ensures

@@ -1,6 +1,6 @@
 -- `tallies::totals::in_zone` meets its contract. The loop's invariant: the sum so far.
 -- Assumes nothing.
-use Prim.Native.Nat.{◌*◌, ◌-◌, ◌≤◌}
+use Prim.Native.Nat.{◌*◌, ◌≤◌}
 use mathlib.Core.Path.{◌≡◌}
 use Rattle.cluster.specs.Terms.{buffer_rows}
 use Rattle.dealing.specs.ModelDeal.{in_zone}
@@ -8,7 +8,4 @@ use Rattle.incidence.specs.ModelIncidence.{cell}
 use Rattle.tallies.proofs.totals.in_zone.Given as goal
 
 abbrev pub invariant-loop-b : goal.invariant-loop-b
-invariant-loop-b l = (l.b ≤ l.n) × (l.sum ≤ buffer_rows * l.b) × (l.sum ≡ in_zone (cell l.zones) (cell l.numbers) l.z l.b)
-
-abbrev pub decreases-loop-b : goal.decreases-loop-b
-decreases-loop-b l = l.n - l.b
+invariant-loop-b l = (l.sum ≤ buffer_rows * l.b) × (l.sum ≡ in_zone (cell l.zones) (cell l.numbers) l.z l.b)

@@ -1,6 +1,8 @@
 -- `tallies::totals::total` meets its contract. The loop's invariant: the sum so far.
 use borrow.Author.Rules.{rules}
 use native.Mathlib.Omega.{arith}
+use lib.ListN.{length-take}
+use lib.Seq.{get_or-take}
 use Prim.Native.Nat.{ℕ, min}
 use mathlib.Core.Path.{◌≡◌, refl, ap, ◌∙◌}
 use Rattle.sums.specs.TermsSums.{sum_to}
@@ -8,17 +10,20 @@ use Rattle.incidence.specs.ModelIncidence.{cell}
 use Rattle.sums.proofs.Sum.{sum-next}
 use Rattle.tallies.proofs.totals.total.Goals as goal
 
-pub loop-b-init : goal.loop-b-init
+pub loop-number-init : goal.loop-number-init
 unfolding sum_to
-loop-b-init c = (search rules, search rules, refl)
+loop-number-init c = (search rules, refl)
 
-pub loop-b-preserved : goal.loop-b-preserved
-loop-b-preserved c =
+pub loop-number-preserved : goal.loop-number-preserved
+loop-number-preserved c =
     let a = c.args in
-    (search rules, search rules, sum-next (λ i. min a.most (cell a.numbers.now i)) c.loop-b.b c.loop-b.sum c.least-sum.result c.loop-b.invariant.2 c.least-sum.ensures)
+    let k = c.loop-number in
+    let here = get_or-take a.n a.numbers.now k.number-index 0 (omega (arith, length-take a.n a.numbers.now)) in
+    (search rules, sum-next (λ i. min a.most (cell a.numbers.now i)) k.number-index k.sum _ k.invariant.1 (c.min-sum.ensures ∙ ap (λ (x : ℕ). min a.most x) here))
 
 pub returns : goal.returns
 returns c =
     let a = c.args in
-    let e : c.loop-b.b ≡ a.n = omega arith in
-    c.loop-b.invariant.2 ∙ ap (λ (m : ℕ). sum_to m (λ i. min a.most (cell a.numbers.now i))) e
+    let k = c.loop-number in
+    let e : k.number-index ≡ a.n = omega (arith, length-take a.n a.numbers.now) in
+    k.invariant.1 ∙ ap (λ (m : ℕ). sum_to m (λ i. min a.most (cell a.numbers.now i))) e

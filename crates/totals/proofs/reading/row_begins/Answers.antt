@@ -16,4 +16,4 @@ pub returns-else-reaches : goal.returns-else-reaches
 unfolding row_begins
 returns-else-reaches c =
     let a = c.args in
-    sym (ap (λ (b : Bool). b && eqb (number_at a.bytes.now a.at 1) 10) (sym c.reaches.ensures ∙ c.if-reaches.false))
+    c.if-reaches.false ∙ sym (ap (λ (b : Bool). b && eqb (number_at a.bytes.now a.at 1) 10) (sym c.reaches.ensures ∙ c.if-reaches.false))

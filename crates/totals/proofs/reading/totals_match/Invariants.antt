@@ -12,7 +12,7 @@ use Rattle.totals.proofs.reading.totals_match.Given as goal
 
 abbrev pub invariant-loop-at : goal.invariant-loop-at
 invariant-loop-at l =
-    (l.at ≤ l.end) × (l.end ≤ length l.bytes) × ((l.end - l.at) % total_bytes ≡ 0)
+    (l.at ≤ l.end) × ((l.end - l.at) % total_bytes ≡ 0)
     × ((shape : (p : ℕ) → p < l.partitions → formed (row_at l.cells p) ≡ true)
     → same_totals (from-to l.bytes l.from l.end) (totals_of (rows_in l.partitions l.cells)) ≡ same_totals (from-to l.bytes l.at l.end) (ours l.cells l.partitions shape l.last))
     × (l.count ≤ length l.ids) × SameIds (take l.count l.ids) (take (l.partitions * row_cells) l.cells)
