@@ -50,14 +50,14 @@ onward_end last count l e = ap (λ (r : List ℕ). onward last count r) e ∙ go
 
 module _ (l : List ℕ) (n i : ℕ) (inside : i < n) (long : n ≤ length l) where
   -- A cell that is not 0: the cells are not blank.
-  id_not_blank : (get_or l i 0 ≡ 0 → ⊥) → blank (take (n - i) (drop i l)) ≡ false
+  pub id_not_blank : (get_or l i 0 ≡ 0 → ⊥) → blank (take (n - i) (drop i l)) ≡ false
   unfolding blank
   id_not_blank h =
       ap (λ (r : List ℕ). blank r) (rest_cons l n i 0 inside long)
       ∙ ap (λ (t : Bool). t && blank (take (n - (i + 1)) (drop (i + 1) l))) (ne_eqb (get_or l i 0) 0 h)
 
   -- A cell that is 0: the cells are blank where the others are.
-  zero_blank : get_or l i 0 ≡ 0 → blank (take (n - i) (drop i l)) ≡ blank (take (n - (i + 1)) (drop (i + 1) l))
+  pub zero_blank : get_or l i 0 ≡ 0 → blank (take (n - i) (drop i l)) ≡ blank (take (n - (i + 1)) (drop (i + 1) l))
   unfolding blank
   zero_blank e =
       ap (λ (r : List ℕ). blank r) (rest_cons l n i 0 inside long)

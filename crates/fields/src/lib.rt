@@ -89,3 +89,27 @@ pub fn field_in(s: &[u8], at: usize, allowed: u32, exact: usize) -> Field
         len,
     }
 }
+
+// The number of the refusal of a field that cannot be taken whole; 0 for a whole field.
+pub fn refusal_of(f: Field) -> u32
+    ensures { result ≡ refusal_of f }
+{
+    match f {
+        Field::Body {
+            tag: _,
+            start: _,
+            len: _,
+        } => 0,
+        Field::Refused { refusal, at: _ } => refusal.into(),
+    }
+}
+
+// The byte given with a refusal; 0 for a whole field.
+pub fn place_of(f: Field) -> usize
+    ensures { result ≡ place_of f }
+{
+    let Field::Refused { refusal: _, at } = f else {
+        return 0;
+    };
+    at
+}

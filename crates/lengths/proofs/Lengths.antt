@@ -6,7 +6,7 @@ use mathlib.Core.Bool.{Bool, true, ◌&&◌, ◌||◌, and-true, or-true}
 use mathlib.Core.List.{List, [], ◌∷◌}
 use native.Mathlib.Omega.{arith}
 use lib.Dec.{leb, ltb, eqb}
-use lib.ListN.{length, get_or}
+use lib.ListN.{length, get_or, get_or-eq_default}
 use borrow.Author.Tests.{leb-true, le-leb, ltb-true, eqb-true, ne_eqb, eq-eqb}
 use Rattle.sums.proofs.Tests.{both}
 use Rattle.cluster.specs.Terms.{most_copies}
@@ -55,6 +55,11 @@ rule_there tag d h = any rules tag h
     any [] i h = absurd (omega arith)
     any (r ∷ l) zero h = refl
     any (r ∷ l) (suc i) h = any l i (omega arith)
+
+-- A tag that the table does not have.
+pub rule-none : (tag : ℕ) → length rules ≤ tag → rule_of tag ≡ no_length
+unfolding rule_of
+rule-none tag h = get_or-eq_default rules no_length h
 
 -- A legal length is at least the least, at most the greatest, and some steps above the least.
 pub legal-least : (tag len : ℕ) → legal tag len ≡ true → (rule_of tag).least ≤ len

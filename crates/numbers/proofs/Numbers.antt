@@ -5,7 +5,7 @@ use mathlib.Core.Path.{◌≡◌, refl, sym, ap, ap₂, ◌∙◌, subst}
 use mathlib.Core.Bool.{Bool, true, false, cond}
 use mathlib.Core.List.{List, [], ◌∷◌, ◌++◌}
 use mathlib.Core.Logic.{⊎_elim}
-use native.Mathlib.Nat.{add-zero, add-mul, zero-mul, mul-one, mul_assoc, mul_comm, mul-le-mul_right, mod-lt, mod-eq_of_lt, div-add-mod', div-lt_iff_lt-mul, mul-add-div_right, mul-add-mod_self_right, div-eq_of_lt, pow-suc, div-one}
+use native.Mathlib.Nat.{add-zero, add_comm, suc-add, add-mul, zero-mul, zero-add, mul-one, mul_assoc, mul_comm, mul-le-mul_right, mod-lt, mod-eq_of_lt, div-add-mod', div-lt_iff_lt-mul, div-div-eq-div-mul, mul-add-div_right, mul-add-mod_self_right, div-eq_of_lt, pow-suc, div-one}
 use native.Mathlib.Omega.{arith}
 use lib.ListN.{length, take, drop, get_or, length-append, length-drop, get_or-eq_default}
 use lib.Seq.{get_or-drop, take-add, drop-drop, drop-cons, take_at, length-take-le, drop-append_seam}
@@ -37,6 +37,14 @@ bytes_low (suc w) a n =
     ∙ ap₂ (λ (b : ℕ) (l : List ℕ). b ∷ l)
     (ap (λ (k : ℕ). k % 256) (mul-add-div_right (bytes_pos w) (a * 256) n) ∙ mul-add-mod_self_right a 256 (n / 256 ^ w))
     (bytes_low w (a * 256) n)
+
+-- Bytes in two parts.
+pub bytes-append : (v w n : ℕ) → bytes_of v (n / 256 ^ w) ++ bytes_of w n ≡ bytes_of (v + w) n
+unfolding bytes_of
+bytes-append zero w n = sym (ap (λ (k : ℕ). bytes_of k n) (zero-add w))
+bytes-append (suc v) w n =
+    let e : n / 256 ^ w / 256 ^ v ≡ n / 256 ^ (v + w) = div-div-eq-div-mul n (256 ^ w) (256 ^ v) ∙ ap (λ (k : ℕ). n / k) (sym (pow-add 256 w v) ∙ ap (λ (k : ℕ). 256 ^ k) (add_comm w v)) in
+    ap₂ (λ (x : ℕ) (l : List ℕ). x % 256 ∷ l) e (bytes-append v w n) ∙ ap (λ (k : ℕ). bytes_of k n) (sym (suc-add v w))
 
 -- w bytes are below 256.
 pub bytes_byte : (w n : ℕ) → Bytes (bytes_of w n)
@@ -147,6 +155,16 @@ pub number-none : (s : List ℕ) (at w : ℕ) → length s < at + w → number_a
 unfolding number_at
 number-none s at w h = ap (λ (t : Bool). cond t (number_of (part s at w)) 0) (has-false (length s) at w h)
 
+-- A number of v + w bytes from those of v and of w bytes.
+pub number-split : (s : List ℕ) (at v w : ℕ) → at + (v + w) ≤ length s → number_at s at (v + w) ≡ number_at s at v * 256 ^ w + number_at s (at + v) w
+number-split s at v w h =
+    let m = part s (at + v) w in
+    number_there s at (v + w) h
+    ∙ (ap number_of (part-append s at v w)
+    ∙ (number_append (part s at v) m
+    ∙ (ap (λ (k : ℕ). number_of (part s at v) * 256 ^ k + number_of m) (length_part s (at + v) w (omega arith))
+    ∙ ap₂ (λ (x y : ℕ). x * 256 ^ w + y) (sym (number_there s at v (omega arith))) (sym (number_there s (at + v) w (omega arith))))))
+
 -- The number in one byte.
 pub number_byte : (s : List ℕ) (at : ℕ) → number_at s at 1 ≡ get_or s at 0
 unfolding number_of
@@ -154,6 +172,24 @@ number_byte s at =
     ⊎_elim (λ l. number_there s at 1 (omega arith) ∙ (ap (λ (r : List ℕ). number_of (take 1 r)) (drop-cons s at 0 l) ∙ (add-zero (get_or s at 0 * 1) ∙ mul-one (get_or s at 0))))
     (λ g. number-none s at 1 (omega arith) ∙ sym (get_or-eq_default s 0 g))
     (lt_or_ge at (length s))
+
+-- The number in four bytes, byte by byte.
+pub number_word : (s : List ℕ) (at : ℕ) → at + 4 ≤ length s
+    → number_at s at 4 ≡ get_or s at 0 * 16777216 + get_or s (at + 1) 0 * 65536 + get_or s (at + 2) 0 * 256 + get_or s (at + 3) 0
+number_word s at h =
+    let e : at + 2 + 1 ≡ at + 3 = omega arith in
+    let d = ap (λ (k : ℕ). number_at s k 1) e in
+    omega (
+      arith,
+      number-split s at 2 2 h,
+      number-split s at 1 1 (omega arith),
+      number-split s (at + 2) 1 1 (omega arith),
+      number_byte s at,
+      number_byte s (at + 1),
+      number_byte s (at + 2),
+      number_byte s (at + 3),
+      d,
+    )
 
 -- Up to four bytes behind zeros: the library's word of them is their number,
 pub word_padded : (l : List ℕ) → length l ≤ 4 → from_be_bytes w32 (put_mid (4 - length l) (4 - (4 - length l)) (0 ∷ 0 ∷ 0 ∷ 0 ∷ []) l) ≡ number_of l

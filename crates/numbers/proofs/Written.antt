@@ -1,18 +1,18 @@
 -- The laws of writing: bytes written one after the other, and a record that is written from front to back.
 -- Assumes nothing.
-use Prim.Native.Nat.{ℕ, ◌+◌, ◌≤◌, ◌<◌}
+use Prim.Native.Nat.{ℕ, ◌+◌, ◌/◌, ◌%◌, ◌^◌, ◌≤◌, ◌<◌}
 use mathlib.Core.Path.{◌≡◌, sym, ap, ap₂, ◌∙◌}
 use mathlib.Core.Bool.{Bool, cond}
-use mathlib.Core.List.{List, [], ◌++◌, append_assoc, append-nil}
+use mathlib.Core.List.{List, [], ◌∷◌, ◌++◌, append_assoc, append-nil}
 use mathlib.Core.Logic.{⊎_elim}
-use native.Mathlib.Nat.{add-zero}
+use native.Mathlib.Nat.{add-zero, div-one}
 use native.Mathlib.Omega.{arith}
-use lib.ListN.{length, take, drop, length-append, length-drop, take-append-drop}
-use lib.Seq.{take_at, drop-append-add, drop-drop, length-take-le}
+use lib.ListN.{length, take, drop, set, length-append, length-drop, take-append-drop}
+use lib.Seq.{take_at, drop-append-add, drop-drop, length-take-le, sets-eq}
 use borrow.Rule.Slice.PartMut.{put_mid}
 use Rattle.sums.proofs.Sum.{lt_or_ge}
 use Rattle.numbers.specs.RecordNumber.{bytes_of, written, over}
-use Rattle.numbers.proofs.Numbers.{has-true, has-false, length-bytes}
+use Rattle.numbers.proofs.Numbers.{has-true, has-false, length-bytes, bytes-append}
 
 -- What fits is written.
 pub written-fits : (s : List ℕ) (at : ℕ) (l : List ℕ) → at + length l ≤ length s → written s at l ≡ take at s ++ l ++ drop (at + length l) s
@@ -62,6 +62,15 @@ written-append s at l m h =
     ∙ (ap (λ (r : List ℕ). over r s) (append_assoc (take at s) l m)
     ∙ sym (written_over s at (l ++ m) (omega (arith, length-append l m)))))
 
+-- One byte is written by one store.
+pub written_byte : (s : List ℕ) (at b : ℕ) → at < length s → set s at b ≡ written s at (b ∷ [])
+written_byte s at b h = sets-eq (b ∷ []) s at (omega arith) ∙ sym (written-fits s at (b ∷ []) (omega arith))
+
+-- One store writes the lowest byte of a number.
+pub written_one : (s : List ℕ) (at n : ℕ) → at < length s → set s at (n % 256) ≡ written s at (bytes_of 1 n)
+unfolding bytes_of
+written_one s at n h = written_byte s at (n % 256) h ∙ ap (λ (k : ℕ). written s at (k % 256 ∷ [])) (sym (div-one n))
+
 -- What is copied over a part of a buffer is written.
 pub written_part : (s : List ℕ) (at : ℕ) (l : List ℕ) → at + length l ≤ length s → put_mid at (length l) s l ≡ written s at l
 written_part s at l h = sym (append_assoc (take at s) l _) ∙ (ap (λ (r : List ℕ). take at s ++ l ++ r) (drop-drop (length l) at s) ∙ sym (written-fits s at l h))
@@ -69,6 +78,15 @@ written_part s at l h = sym (append_assoc (take at s) l _) ∙ (ap (λ (r : List
 -- A number is not written where its bytes do not fit.
 pub written_short : (s : List ℕ) (at w n : ℕ) → length s < at + w → written s at (bytes_of w n) ≡ s
 written_short s at w n h = written_not s at (bytes_of w n) (omega (arith, length-bytes w n))
+
+-- A number of v + w bytes is written as its high v bytes and then its low w bytes.
+pub written-split : (s : List ℕ) (at v w n : ℕ) → at + (v + w) ≤ length s
+    → written (written s at (bytes_of v (n / 256 ^ w))) (at + v) (bytes_of w n) ≡ written s at (bytes_of (v + w) n)
+written-split s at v w n h =
+    let high = bytes_of v (n / 256 ^ w) in
+    ap (λ (k : ℕ). written (written s at high) (at + k) (bytes_of w n)) (sym (length-bytes v (n / 256 ^ w)))
+    ∙ (written-append s at high (bytes_of w n) (omega (arith, length-bytes v (n / 256 ^ w), length-bytes w n))
+    ∙ ap (written s at) (bytes-append v w n))
 
 -- Nothing that is written changes nothing.
 pub written_none : (s : List ℕ) (at : ℕ) → s ≡ written s at []
