@@ -7,7 +7,7 @@ cd "$(dirname "$0")/.." || exit 2
 
 fail() { printf 'test: %s\n' "$*" >&2; exit 1; }
 
-for tool in rt cargo rustc cc ar python3; do
+for tool in rt cargo rustc cc ar nm python3; do
     command -v "$tool" >/dev/null 2>&1 || fail "$tool is missing"
 done
 
@@ -41,6 +41,10 @@ last=$(cat "$work/last") || exit 2
 ! grep -q ', [0-9][0-9]* bad' "$work/ok" || fail "an edit that must fail is bad: $(cat "$work/ok")"
 
 sh tools/library.sh || fail "the static library of the C functions was not built"
+# The library asks for these two names and no other, so a program with no C library can lend them.
+nm -u build/libconsole.a >"$work/asked" 2>/dev/null || fail "the names that the static library asks for cannot be read"
+asked=$(sed -n 's/^ *U //p' "$work/asked" | grep -v -x -e memcpy -e memset | sort -u | tr '\n' ' ')
+[ -z "$asked" ] || fail "the static library of the C functions asks for $asked"
 for manifest in console/reference/Cargo.toml console/Cargo.toml; do
     cargo test --release --offline --manifest-path "$manifest" || fail "a Rust test failed"
 done

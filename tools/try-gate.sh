@@ -77,7 +77,7 @@ cat >bin/rt <<'END'
 #!/bin/sh
 case $1 in
     ci) ;;
-    lib) mkdir -p out; : >out/one.o; ar rc "out/lib$(basename "$PWD").a" out/one.o; exit ;;
+    lib) mkdir -p out; printf '%s\n' "${CODE-}" | cc -x c -c -o out/one.o - && ar rc "out/lib$(basename "$PWD").a" out/one.o; exit ;;
     *) exit ;;
 esac
 : >called
@@ -93,6 +93,7 @@ PATH=$copy/bin:$PATH; export PATH
 try 'a stand-in for rt' pass
 STATUS=1; export STATUS; try 'rt ends with status 1 and a line that reads as a pass' fail; unset STATUS
 LAST='2 passed, 1 failed'; export LAST; try 'rt has another last line, and status 0' fail; unset LAST
+CODE='void other(void); void one(void) { other(); }'; export CODE; try 'the library asks for another name' fail; unset CODE
 
 OK='rt: ok; handles allowed: none; must-fail edits: 9 refused, 2 of them only by a limit; every proof and must-fail edit was done in this run'
 export OK; try 'rt refuses two edits by a limit' pass

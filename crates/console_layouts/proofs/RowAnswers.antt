@@ -41,3 +41,27 @@ module _ (cells : List ℕ) (p : ℕ) (row : List ℕ) where
       → (show_code cells p ≡ row_refusal cells p row) × (shown cells p ++ drop (0 + length (shown cells p)) row ≡ row_after cells p row)
   unfolding row_refusal row_after
   row_long h = let t = le-ltb (length row) row_cells h in (simp t, simp t row_copied.1)
+
+  -- Where it is refused, nothing is shown,
+  pub none_shown : (show_code cells p ≡ 0 → ⊥) → shown cells p ≡ []
+  unfolding shown show_code
+  none_shown = pick (ltb (length cells) layout_cells) (leb buffer_rows p)
+    where
+      pick : (a b : Bool) → (◌≡◌ {A = ℕ} (cond a 8 (cond b 4 0)) 0 → ⊥) → cond a [] (cond b [] (row_at cells p)) ≡ []
+      pick true b h = refl
+      pick false true h = refl
+      pick false false h = absurd (h refl)
+
+  -- and else the cells of a row.
+  pub all_shown : show_code cells p ≡ 0 → length (shown cells p) ≡ row_cells
+  unfolding shown show_code
+  all_shown = pick (ltb (length cells) layout_cells) refl (leb buffer_rows p) refl
+    where
+      pick : (a : Bool) → ltb (length cells) layout_cells ≡ a → (b : Bool) → leb buffer_rows p ≡ b → ◌≡◌ {A = ℕ} (cond a 8 (cond b 4 0)) 0
+          → length (cond a [] (cond b [] (row_at cells p))) ≡ row_cells
+      pick true e b f z = absurd (omega (arith, z))
+      pick false e true f z = absurd (omega (arith, z))
+      pick false e false f z =
+          let w : layout_cells ≤ length cells = ltb-false (length cells) layout_cells e in
+          let q : p < buffer_rows = leb-false buffer_rows p f in
+          length-take-le row_cells (drop (p * row_cells) cells) (omega (arith, length-drop (p * row_cells) cells))

@@ -24,9 +24,14 @@ fn figures_of_record(
         × ((told_of result).byte ≡ read.byte)
         × (figures.new ≡ figures_left read assignment.now size figures.old) }
 {
-    let c = entering::read(bytes)?;
-    let hope = figures::figures(c, assignment, size, figures)?;
-    Ok(hope)
+    // A `match`: at `?` the cluster would be copied once more, onto the stack of whoever calls through C.
+    match entering::read(bytes) {
+        Ok(c) => match figures::figures(c, assignment, size, figures) {
+            Ok(hope) => Ok(hope),
+            Err(fault) => Err(fault.into()),
+        },
+        Err(refused) => Err(refused.into()),
+    }
 }
 
 // The figures of an assignment that check passes for the cluster of a record.

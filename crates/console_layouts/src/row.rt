@@ -16,6 +16,10 @@ pub extern "C" fn dezghuri_show_row(assignment: &[u32], partition: u32, row: &mu
     }
     let mut refusal = 0;
     let shown = show::show_row(assignment, partition, &mut refusal);
-    cells::put(shown, 0, row);
-    refusal
+    if refusal != 0 {
+        return refusal;
+    }
+    // A length that the compiler knows becomes moves; of one that it does not know it makes a call of `memmove`, which no other C function needs.
+    row[..Cluster::ROW].copy_from_slice(shown);
+    0
 }
